@@ -1,0 +1,5 @@
+pub mod Bytes
+pub mod Places
+pub mod Tokens
+pub mod Lexing
+pub mod Laws

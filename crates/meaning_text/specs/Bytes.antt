@@ -1,5 +1,5 @@
 -- The bytes of which a file in the first form is made.
-use Rattle.std.specs.Prelude.{ℕ, Bool, List, ◌==◌, ◌||◌, codes}
+use Rattle.std.specs.Prelude.{ℕ, Bool, ◌==◌, ◌||◌, codes}
 use Rattle.std.specs.List.{list_any}
 use Rattle.std.specs.Char.{is_ascii_alphabetic, is_ascii_digit}
 

@@ -1,8 +1,8 @@
 -- What holds of the tokens of each text.
-use Rattle.std.specs.Prelude.{◌≡◌, ◌↔◌, ℕ, List, true}
+use Rattle.std.specs.Prelude.{◌≡◌, ℕ, List, true}
 use Rattle.std.specs.List.{list_all}
 use Rattle.meaning_text.specs.Bytes.{is_plain}
-use Rattle.meaning_text.specs.Places.{At, start}
+use Rattle.meaning_text.specs.Places.{start}
 use Rattle.meaning_text.specs.Tokens.{Tok, Lexes}
 use Rattle.meaning_text.specs.Lexing.{tokens_of}
 

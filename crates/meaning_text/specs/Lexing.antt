@@ -1,5 +1,5 @@
 -- The plain program beside the relation `Lexes`: it takes a text byte by byte and computes its tokens.
-use Rattle.std.specs.Prelude.{ℕ, Bool, true, false, ◌&&◌, List, [], ◌∷◌, if◌then◌else◌}
+use Rattle.std.specs.Prelude.{ℕ, Bool, false, ◌&&◌, List, [], ◌∷◌, if◌then◌else◌}
 use Rattle.meaning_text.specs.Bytes.{is_blank, is_word_byte}
 use Rattle.meaning_text.specs.Places.{At, behind_byte}
 use Rattle.meaning_text.specs.Tokens.{Tok}

@@ -1,0 +1,12 @@
+use Rattle.meaning_answer.proofs.Texts.{answers_exist, answers_are_unique}
+use Rattle.meaning_answer.proofs.Shapes.{answers_are_shaped}
+use Rattle.meaning_answer.proofs.answers.each_command_has_one_answer.Goals as goal
+
+pub returns-clause-exist : goal.returns-clause-exist
+returns-clause-exist c = answers_exist
+
+pub returns-clause-unique : goal.returns-clause-unique
+returns-clause-unique c = answers_are_unique
+
+pub returns-clause-shaped : goal.returns-clause-shaped
+returns-clause-shaped c = answers_are_shaped

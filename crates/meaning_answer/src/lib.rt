@@ -1,0 +1,10 @@
+//! The answer of a command: what stands on `out` and `err`, and how it ends.
+//!
+//! A relation between the command's words, a map of files, and what is written. Definitions over pure
+//! shapes; [`answers`] has the law that there is exactly one answer. Start reading at
+//! `specs/Answer.antt`.
+#![tactic(auto)]
+
+mod answers;
+
+pub use answers::each_command_has_one_answer;

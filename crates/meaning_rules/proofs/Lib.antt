@@ -1,0 +1,5 @@
+pub mod Order
+pub mod MixedSpaces
+pub mod Statements
+pub mod Units
+pub mod Examples

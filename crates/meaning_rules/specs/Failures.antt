@@ -1,0 +1,61 @@
+-- The failing rules of a unit, and their order.
+use Rattle.std.specs.Prelude.{◌≡◌, ℕ, ◌<◌, true, List, [], ◌∷◌, All, Contains, ◌⊎◌}
+use Rattle.meaning_types.specs.Types.{TypeTree, flags_of, has_flag}
+use Rattle.meaning_types.specs.Spaces.{MixSpaces}
+use Rattle.meaning_syntax.specs.Items.{Item}
+use Rattle.meaning_rules.specs.Evaluation.{Access, Conversion, Position, accesses_in, conversions_in}
+
+-- a rule that fails, with what its text names
+pub data Cause : Type 0 where
+  -- a conversion between pointers mixes address spaces
+  SpacesMixed : (position : Position) (expected got : TypeTree) → Cause
+  -- a load from or a store to a place whose type has a flag
+  FlaggedAccess : (place : TypeTree) → Cause
+
+-- A failure stands at a token. Where several conversions stand at one token, the part tells them apart.
+pub record Failure : Type 0 where
+  pub token : ℕ
+  pub part : ℕ
+  pub cause : Cause
+
+abbrev pub rule_of : Cause → ℕ
+rule_of (SpacesMixed position expected got) = 1
+rule_of (FlaggedAccess place) = 4
+
+abbrev pub access_failure : Access → Failure
+access_failure access = record { token = access.token; part = 0; cause = FlaggedAccess access.place }
+
+abbrev pub conversion_failure : Conversion → Failure
+conversion_failure conversion =
+    record { token = conversion.token; part = 0; cause = SpacesMixed conversion.position conversion.to conversion.from }
+
+-- an access of the unit fails so
+abbrev pub FailsByAccess : List Item → Failure → Type 0
+FailsByAccess unit failure =
+    (access : Access) × Contains (accesses_in unit) access × (has_flag (flags_of access.place) ≡ true) × (failure ≡ access_failure access)
+
+-- a conversion of the unit fails so
+abbrev pub FailsByConversion : List Item → Failure → Type 0
+FailsByConversion unit failure =
+    (conversion : Conversion) × Contains (conversions_in unit) conversion × MixSpaces conversion.to conversion.from × (failure ≡ conversion_failure conversion)
+
+-- a rule fails so in the unit
+abbrev pub Fails : List Item → Failure → Type 0
+Fails unit failure = FailsByAccess unit failure ⊎ FailsByConversion unit failure
+
+-- by token, then by rule, then by part
+abbrev pub IsBefore : Failure → Failure → Type 0
+IsBefore f g =
+    (f.token < g.token)
+    ⊎ ((f.token ≡ g.token) × ((rule_of f.cause < rule_of g.cause) ⊎ ((rule_of f.cause ≡ rule_of g.cause) × (f.part < g.part))))
+
+-- each stands before all that follow
+abbrev pub AreOrdered : List Failure → Type 0
+AreOrdered [] = Unit {0}
+AreOrdered (failure ∷ failures) = All (IsBefore failure) failures × AreOrdered failures
+
+-- These are the unit's failures, each once, in order.
+pub record IsListing (unit : List Item) (failures : List Failure) : Type 0 where
+  pub sound : All (Fails unit) failures
+  pub complete : (failure : Failure) → Fails unit failure → Contains failures failure
+  pub ordered : AreOrdered failures

@@ -1,0 +1,59 @@
+-- The plain program beside the listing: it judges statement by statement, by how objects are declared.
+use Rattle.std.specs.Prelude.{ℕ, Bool, true, false, ◌+◌, ◌&&◌, List, [], ◌∷◌, ◌++◌, Option, Some, None, not, nat_eq, nat_lt, if◌then◌else◌}
+use Rattle.std.specs.List.{flat_map}
+use Rattle.std.specs.Str.{bytes_eq}
+use Rattle.meaning_types.specs.Types.{Space, NoSpace, NumberedSpace, NamedSpace, Flags, no_flags, has_flag, value_type}
+use Rattle.meaning_syntax.specs.Items.{Statement, Assign, Item}
+use Rattle.meaning_syntax.specs.Binding.{Declared, object_of}
+use Rattle.meaning_rules.specs.Typing.{flagged, declared_type}
+use Rattle.meaning_rules.specs.Evaluation.{InAssignment, Placed, placed_in}
+use Rattle.meaning_rules.specs.Failures.{Failure, SpacesMixed, FlaggedAccess}
+
+abbrev pub are_equal_spaces : Space → Space → Bool
+are_equal_spaces NoSpace NoSpace = true
+are_equal_spaces (NumberedSpace m) (NumberedSpace n) = nat_eq m n
+are_equal_spaces (NamedSpace x) (NamedSpace y) = bytes_eq x y
+are_equal_spaces _ _ = false
+
+abbrev pub are_equal_bools : Bool → Bool → Bool
+are_equal_bools true b = b
+are_equal_bools false b = not b
+
+abbrev pub are_equal_flags : Flags → Flags → Bool
+are_equal_flags f g = are_equal_bools f.noderef g.noderef && are_equal_spaces f.space g.space
+
+-- the flags of the int that is declared, or behind the stars
+abbrev pub int_flags : Declared → Flags
+int_flags declared = flagged no_flags declared.words
+
+-- the object itself is an int with a flag
+abbrev pub is_flagged_int : Declared → Bool
+is_flagged_int declared = nat_eq declared.stars 0 && has_flag (int_flags declared)
+
+abbrev pub judged_access : ℕ → Declared → List Failure
+judged_access token declared =
+    if is_flagged_int declared then record { token = token; part = 0; cause = FlaggedAccess (declared_type declared) } ∷ []
+    else []
+
+-- of two objects with equally many stars
+abbrev pub judged_assignment : ℕ → Declared → Declared → List Failure
+judged_assignment token target source =
+    if nat_lt 0 target.stars && not (are_equal_flags (int_flags target) (int_flags source))
+    then record { token = token; part = 0; cause = SpacesMixed InAssignment (declared_type target) (value_type (declared_type source)) } ∷ []
+    else []
+
+abbrev pub judged_objects : ℕ → Option Declared → Option Declared → List Failure
+judged_objects first (Some target) (Some source) =
+    judged_access first target ++ judged_assignment (first + 1) target source ++ judged_access (first + 2) source
+judged_objects first (Some target) None = []
+judged_objects first None source = []
+
+abbrev pub judged_statement : List Item → ℕ → Statement → List Failure
+judged_statement before first (Assign target source) = judged_objects first (object_of before target) (object_of before source)
+
+abbrev pub judged_placed : Placed → List Failure
+judged_placed placed = judged_statement placed.before placed.first placed.statement
+
+-- the failures of a unit in which each name is declared once, before it is used
+abbrev pub failures_of : List Item → List Failure
+failures_of unit = flat_map judged_placed (placed_in unit)

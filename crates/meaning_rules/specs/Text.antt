@@ -1,0 +1,47 @@
+-- The text of warnings.
+use Rattle.std.specs.Prelude.{ℕ, List, ◌++◌, codes, slice_get, unwrap_or, option_map, if◌then◌else◌}
+use Rattle.std.specs.List.{flat_map}
+use Rattle.std.specs.Fmt.{decimal}
+use Rattle.meaning_text.specs.Places.{At, start}
+use Rattle.meaning_text.specs.Tokens.{Tok}
+use Rattle.meaning_types.specs.Types.{Flags, TypeTree, flags_of}
+use Rattle.meaning_types.specs.Spelling.{spelling, space_spelling}
+use Rattle.meaning_rules.specs.Evaluation.{Position, InAssignment}
+use Rattle.meaning_rules.specs.Failures.{Cause, SpacesMixed, FlaggedAccess, Failure}
+
+-- `FILE:LINE:COLUMN:`
+abbrev pub place_text : List ℕ → At → List ℕ
+place_text path at = path ++ codes ":" ++ decimal at.line ++ codes ":" ++ decimal at.column ++ codes ":"
+
+abbrev pub warning_line : List ℕ → At → List ℕ → List ℕ
+warning_line path at text = place_text path at ++ codes " warning: " ++ text ++ codes "\n"
+
+-- a line that names a type, below the line of its warning
+abbrev pub type_line : List ℕ → At → List ℕ → TypeTree → List ℕ
+type_line path at word type_ = place_text path at ++ codes "    " ++ word ++ codes " " ++ spelling type_ ++ codes "\n"
+
+abbrev pub position_text : Position → List ℕ
+position_text InAssignment = codes "assignment"
+
+-- what is wrong about an access to a place with these flags
+abbrev pub access_text : Flags → List ℕ
+access_text flags =
+    if flags.noderef then codes "dereference of noderef expression"
+    else codes "dereference in address space " ++ space_spelling flags.space
+
+abbrev pub cause_text : List ℕ → At → Cause → List ℕ
+cause_text path at (SpacesMixed position expected got) =
+    warning_line path at (codes "incorrect type in " ++ position_text position ++ codes " (different address spaces)")
+    ++ type_line path at (codes "expected") expected
+    ++ type_line path at (codes "got") got
+cause_text path at (FlaggedAccess place) = warning_line path at (access_text (flags_of place))
+
+-- where the token with this index begins
+abbrev pub place_of : List Tok → ℕ → At
+place_of tokens index = unwrap_or (option_map (λ token. token.at) (slice_get tokens index)) start
+
+abbrev pub failure_text : List ℕ → List Tok → Failure → List ℕ
+failure_text path tokens failure = cause_text path (place_of tokens failure.token) failure.cause
+
+abbrev pub warnings_text : List ℕ → List Tok → List Failure → List ℕ
+warnings_text path tokens failures = flat_map (failure_text path tokens) failures

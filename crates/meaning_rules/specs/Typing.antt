@@ -1,0 +1,33 @@
+-- The types that declarations give to names (C11 6.7.6).
+use Rattle.std.specs.Prelude.{ℕ, suc, zero, true, List, [], ◌∷◌, Option, option_map, if◌then◌else◌}
+use Rattle.std.specs.Str.Parse.{digits_value}
+use Rattle.meaning_types.specs.Types.{Space, NumberedSpace, NamedSpace, IntKind, Flags, no_flags, no_qualifiers, TypeTree, Typed, IntegerTree, PointerTree}
+use Rattle.meaning_syntax.specs.Words.{is_identifier}
+use Rattle.meaning_syntax.specs.Items.{Word, Noderef, AddressSpace, Item}
+use Rattle.meaning_syntax.specs.Binding.{Declared, object_of}
+
+-- the space that an attribute names by an identifier or a number
+abbrev pub space_of : List ℕ → Space
+space_of id = if is_identifier id then NamedSpace id else NumberedSpace (digits_value 10 id)
+
+-- the flags behind some more words of an attribute; a later space replaces an earlier one
+abbrev pub flagged : Flags → List Word → Flags
+flagged flags [] = flags
+flagged flags (Noderef ∷ words) = flagged (record flags { noderef = true }) words
+flagged flags (AddressSpace id ∷ words) = flagged (record flags { space = space_of id }) words
+
+-- a pointer to a pointer .. to the type, with so many stars (6.7.6.1 p1)
+abbrev pub behind_stars : ℕ → TypeTree → TypeTree
+behind_stars zero type_ = type_
+behind_stars (suc stars) type_ = Typed (PointerTree (behind_stars stars type_)) no_qualifiers no_flags
+
+abbrev pub int_with : Flags → TypeTree
+int_with flags = Typed (IntegerTree IntKind) no_qualifiers flags
+
+-- attributes among the specifiers belong to the specified type, `int` here
+abbrev pub declared_type : Declared → TypeTree
+declared_type declared = behind_stars declared.stars (int_with (flagged no_flags declared.words))
+
+-- the type of an object that is declared before
+abbrev pub type_of : List Item → List ℕ → Option TypeTree
+type_of before name = option_map declared_type (object_of before name)

@@ -1,0 +1,4 @@
+pub mod Readers
+pub mod WordReading
+pub mod ItemReading
+pub mod UnitReading

@@ -1,0 +1,79 @@
+-- Which words can be names, and which can name an address space.
+use Rattle.std.specs.Prelude.{ℕ, Bool, false, ◌&&◌, ◌||◌, ◌==◌, List, [], ◌∷◌, codes, not, nat_le}
+use Rattle.std.specs.List.{list_any, list_all}
+use Rattle.std.specs.Str.{bytes_eq}
+use Rattle.std.specs.Str.Parse.{digits_value}
+use Rattle.std.specs.Char.{is_ascii_digit}
+use Rattle.meaning_text.specs.Bytes.{is_nondigit, underscore}
+
+-- the text is one of these
+abbrev pub is_among : List ℕ → List (List ℕ) → Bool
+is_among text texts = list_any (bytes_eq text) texts
+
+-- the keywords of types and declarations (C11 6.4.1)
+abbrev pub declaration_keywords : List (List ℕ)
+declaration_keywords =
+    codes "auto" ∷ codes "char" ∷ codes "const" ∷ codes "double" ∷ codes "enum" ∷ codes "extern" ∷ codes "float"
+    ∷ codes "inline" ∷ codes "int" ∷ codes "long" ∷ codes "register" ∷ codes "restrict" ∷ codes "short"
+    ∷ codes "signed" ∷ codes "static" ∷ codes "struct" ∷ codes "typedef" ∷ codes "union" ∷ codes "unsigned"
+    ∷ codes "void" ∷ codes "volatile" ∷ []
+
+-- the keywords of statements and expressions (6.4.1)
+abbrev pub statement_keywords : List (List ℕ)
+statement_keywords =
+    codes "break" ∷ codes "case" ∷ codes "continue" ∷ codes "default" ∷ codes "do" ∷ codes "else" ∷ codes "for"
+    ∷ codes "goto" ∷ codes "if" ∷ codes "return" ∷ codes "sizeof" ∷ codes "switch" ∷ codes "while" ∷ []
+
+-- the keywords with an underscore (6.4.1)
+abbrev pub underscore_keywords : List (List ℕ)
+underscore_keywords =
+    codes "_Alignas" ∷ codes "_Alignof" ∷ codes "_Atomic" ∷ codes "_Bool" ∷ codes "_Complex" ∷ codes "_Generic"
+    ∷ codes "_Imaginary" ∷ codes "_Noreturn" ∷ codes "_Static_assert" ∷ codes "_Thread_local" ∷ []
+
+unfoldable pub is_keyword : List ℕ → Bool
+is_keyword text =
+    is_among text declaration_keywords || is_among text statement_keywords || is_among text underscore_keywords
+
+-- words that no keyword of C11 is and that can't be names all the same
+unfoldable pub is_reserved : List ℕ → Bool
+is_reserved text = is_among text (codes "asm" ∷ codes "typeof" ∷ codes "_Pragma" ∷ [])
+
+-- the macros that are defined before the first line
+unfoldable pub is_predefined_macro : List ℕ → Bool
+is_predefined_macro text =
+    is_among text
+    (codes "__CHECKER__" ∷ codes "__STDC__" ∷ codes "__STDC_VERSION__" ∷ codes "__LP64__" ∷ codes "__FILE__" ∷ codes "__LINE__" ∷ codes "__COUNTER__" ∷ [])
+
+-- of a token: it is an identifier (6.4.2.1), a keyword too
+abbrev pub is_identifier : List ℕ → Bool
+is_identifier [] = false
+is_identifier (b ∷ text) = is_nondigit b
+
+abbrev pub begins_with_two_underscores : List ℕ → Bool
+begins_with_two_underscores (a ∷ b ∷ text) = a == underscore && b == underscore
+begins_with_two_underscores text = false
+
+-- a token that can name an object or a function
+unfoldable pub is_name : List ℕ → Bool
+is_name text =
+    is_identifier text && not (is_keyword text) && not (is_reserved text) && not (begins_with_two_underscores text)
+
+-- the value of decimal digits
+abbrev pub number_of : List ℕ → ℕ
+number_of digits = digits_value 10 digits
+
+-- decimal digits without a leading zero
+abbrev pub is_plain_decimal : List ℕ → Bool
+is_plain_decimal [] = false
+is_plain_decimal (digit ∷ digits) = list_all is_ascii_digit (digit ∷ digits) && not (digit == 48)
+
+-- a number from 1 to 4294967295
+unfoldable pub is_space_number : List ℕ → Bool
+is_space_number text = is_plain_decimal text && nat_le (number_of text) 4294967295
+
+unfoldable pub is_space_name : List ℕ → Bool
+is_space_name text = is_identifier text && not (is_keyword text) && not (is_predefined_macro text)
+
+-- a token that can stand for an address space
+unfoldable pub is_space_id : List ℕ → Bool
+is_space_id text = is_space_name text || is_space_number text

@@ -1,0 +1,9 @@
+//! The first form of C: declarations of `int` objects, and functions that assign one to another.
+//!
+//! Definitions over the spellings of tokens, without memory, pointers or ids. [`form`] has the laws
+//! that hold of them. Start reading at `specs/Items.antt`.
+#![tactic(auto)]
+
+mod form;
+
+pub use form::each_token_list_is_at_most_one_unit;

@@ -1,0 +1,47 @@
+-- How a type is spelled in a warning: from the inside out, parts parted by one space.
+use Rattle.std.specs.Prelude.{ℕ, Bool, List, [], ◌++◌, codes, if◌then◌else◌}
+use Rattle.std.specs.Fmt.{decimal}
+use Rattle.meaning_types.specs.Types.{Kind, BoolKind, CharKind, SignedCharKind, UnsignedCharKind, ShortKind, UnsignedShortKind, IntKind, UnsignedIntKind, LongKind, UnsignedLongKind, LongLongKind, UnsignedLongLongKind, Space, NoSpace, NumberedSpace, NamedSpace, Qualifiers, Flags, TypeTree, Typed, BaseTree, IntegerTree, PointerTree}
+
+abbrev pub kind_spelling : Kind → List ℕ
+kind_spelling BoolKind = codes "_Bool"
+kind_spelling CharKind = codes "char"
+kind_spelling SignedCharKind = codes "signed char"
+kind_spelling UnsignedCharKind = codes "unsigned char"
+kind_spelling ShortKind = codes "short"
+kind_spelling UnsignedShortKind = codes "unsigned short"
+kind_spelling IntKind = codes "int"
+kind_spelling UnsignedIntKind = codes "unsigned int"
+kind_spelling LongKind = codes "long"
+kind_spelling UnsignedLongKind = codes "unsigned long"
+kind_spelling LongLongKind = codes "long long"
+kind_spelling UnsignedLongLongKind = codes "unsigned long long"
+
+-- a space between the parentheses of `address_space()`
+abbrev pub space_spelling : Space → List ℕ
+space_spelling NoSpace = []
+space_spelling (NumberedSpace number) = decimal number
+space_spelling (NamedSpace name) = name
+
+abbrev pub space_mark : Space → List ℕ
+space_mark NoSpace = []
+space_mark (NumberedSpace number) = codes " address_space(" ++ decimal number ++ codes ")"
+space_mark (NamedSpace name) = codes " address_space(" ++ name ++ codes ")"
+
+abbrev pub flag_marks : Flags → List ℕ
+flag_marks flags = (if flags.noderef then codes " noderef" else []) ++ space_mark flags.space
+
+-- what follows a type, in the order const, volatile, noderef, address space
+abbrev pub marks : Qualifiers → Flags → List ℕ
+marks qualifiers flags =
+    (if qualifiers.is_const then codes " const" else [])
+    ++ (if qualifiers.is_volatile then codes " volatile" else [])
+    ++ flag_marks flags
+
+abbrev mutual
+  pub spelling : TypeTree → List ℕ
+  spelling (Typed base qualifiers flags) = base_spelling base ++ marks qualifiers flags
+
+  pub base_spelling : BaseTree → List ℕ
+  base_spelling (IntegerTree kind) = kind_spelling kind
+  base_spelling (PointerTree target) = spelling target ++ codes " *"

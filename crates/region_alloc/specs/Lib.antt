@@ -1,0 +1,4 @@
+pub mod Chunks
+pub mod LentFront
+pub mod LentValue
+pub mod Region

@@ -1,0 +1,89 @@
+// The walk over a list of tagged handles, from both ends.
+use crate::tagged::{Handle, Tagged};
+use std::collections::linked_list;
+use std::marker::Model;
+
+/// What is left of a list of tagged handles.
+#[derive(Drop)]
+pub struct TagIter<'a> {
+    // What is left of the vector that the walk from the front has begun, and of the one from the back.
+    front: &'a [Tagged],
+    middle: linked_list::Iter<'a, Vec<Tagged>>,
+    back: &'a [Tagged],
+}
+
+impl<'a> Model for TagIter<'a> {
+    ghost use Rattle.std.specs.Prelude.{List, ℕ, ◌++◌};
+    ghost use Rattle.tag_list.specs.Chunks.{AllFilled, contents};
+
+    ghost Value = { List (ℕ × ℕ) };
+
+    ghost view = { λ rest. rest.front.now ++ (contents rest.middle ++ rest.back.now) };
+
+    ghost invariant = { λ rest. AllFilled rest.middle };
+}
+
+impl<'a> TagIter<'a> {
+    ghost use Rattle.std.specs.Prelude.{◌≡◌};
+    ghost use Rattle.tag_list.specs.Chunks.{AllFilled, contents};
+
+    pub(crate) fn new(chunks: linked_list::Iter<'a, Vec<Tagged>>) -> TagIter<'a>
+        requires { AllFilled chunks }
+        ensures { result ≡ contents chunks.entry }
+    {
+        TagIter {
+            front: &[],
+            middle: chunks,
+            back: &[],
+        }
+    }
+}
+
+impl<'a> Iterator for TagIter<'a> {
+    ghost use Rattle.std.specs.Iterator.{YieldsFirst, item_count};
+
+    type Item = (Handle, u8);
+
+    ghost next_gives = { YieldsFirst (λ rest. rest) };
+
+    ghost remaining = { item_count (λ rest. rest) };
+
+    fn next(&mut self) -> Option<(Handle, u8)> {
+        if let Some((first, others)) = self.front.split_first() {
+            self.front = others;
+            return Some(first.unpack());
+        }
+        if let Some(chunk) = self.middle.next() {
+            // No vector of the chain is empty.
+            let (first, others) = chunk.split_first().unwrap();
+            self.front = others;
+            return Some(first.unpack());
+        }
+        let (first, others) = self.back.split_first()?;
+        self.back = others;
+        Some(first.unpack())
+    }
+}
+
+impl<'a> DoubleEndedIterator for TagIter<'a> {
+    ghost use Rattle.std.specs.Iterator.{YieldsLast};
+
+    ghost next_back_gives = { YieldsLast (λ rest. rest) };
+
+    #[tactic(auto, using(crate::proofs::ChunkLemmas::last_of))]
+    fn next_back(&mut self) -> Option<(Handle, u8)> {
+        if let Some((last, others)) = self.back.split_last() {
+            self.back = others;
+            return Some(last.unpack());
+        }
+        if let Some(chunk) = self.middle.next_back() {
+            // No vector of the chain is empty.
+            let (last, others) = chunk.split_last().unwrap();
+            self.back = others;
+            return Some(last.unpack());
+        }
+        let (last, others) = self.front.split_last()?;
+        self.front = others;
+        Some(last.unpack())
+    }
+}

@@ -9,7 +9,7 @@ use Rattle.meaning_rules.specs.Failures.{Cause, SpacesMixed, FlaggedAccess, Fail
 use Rattle.meaning_rules.specs.Text.{place_text, place_of, cause_text, failure_text, warnings_text, access_text}
 use Rattle.meaning_answer.specs.Reply.{Reply, line, IsLine, IsShaped}
 use Rattle.meaning_answer.specs.Command.{Request, BadWord, MissingFile, Check, request_of}
-use Rattle.meaning_answer.specs.Answer.{bad_word_text, missing_file_text, no_such_file_text, file_size_text, warned, not_built_text, IsFileReply, IsTextReply, IsRequestReply}
+use Rattle.meaning_answer.specs.Answer.{bad_word_text, missing_file_text, no_such_file_text, file_size_text, unit_tokens_text, warned, not_built_text, IsFileReply, IsTextReply, IsRequestReply}
 use Rattle.meaning_answer.specs.Laws.{AnswersAreShaped}
 
 -- a text before a line ends as the line does
@@ -35,12 +35,13 @@ IsShaped-warned path tokens [] = (refl, refl)
 IsShaped-warned path tokens (failure ∷ failures) = (refl, IsLine-warnings_text path tokens failure failures)
 
 -- the same of what equals a shaped reply
-shaped_as : (reply other : Reply) → reply ≡ other → IsShaped other → IsShaped reply
+pub shaped_as : (reply other : Reply) → reply ≡ other → IsShaped other → IsShaped reply
 shaped_as reply other same shaped = subst IsShaped (sym same) shaped
 
-IsShaped-text : (path text : List ℕ) (reply : Reply) → IsTextReply path text reply → IsShaped reply
-IsShaped-text path text reply (inl tells) = shaped_as _ _ tells.4 (IsShaped-warned path tells.0 tells.2)
-IsShaped-text path text reply (inr tells) = shaped_as _ _ tells.1 (refl, (not_built_text path, refl))
+pub IsShaped-text : (path text : List ℕ) (reply : Reply) → IsTextReply path text reply → IsShaped reply
+IsShaped-text path text reply (inl tells) = shaped_as _ _ tells.5 (IsShaped-warned path tells.0 tells.2)
+IsShaped-text path text reply (inr (inl tells)) = shaped_as _ _ tells.5 (refl, (unit_tokens_text, refl))
+IsShaped-text path text reply (inr (inr tells)) = shaped_as _ _ tells.1 (refl, (not_built_text path, refl))
 
 IsShaped-file : (path : List ℕ) (found : Option (List ℕ)) (reply : Reply) → IsFileReply path found reply → IsShaped reply
 IsShaped-file path None reply is = shaped_as _ _ is (refl, (no_such_file_text path, refl))
@@ -48,7 +49,7 @@ IsShaped-file path (Some text) reply (inl large) = shaped_as _ _ large.1 (refl, 
 IsShaped-file path (Some text) reply (inr told) = IsShaped-text path text reply told.1
 
 IsShaped-request : (request : Request) (files : FileMap) (reply : Reply) → IsRequestReply request files reply → IsShaped reply
-IsShaped-request (BadWord word) files reply is = shaped_as _ _ is (refl, (bad_word_text word, refl))
+IsShaped-request (BadWord position word) files reply is = shaped_as _ _ is (refl, (bad_word_text word, refl))
 IsShaped-request MissingFile files reply is = shaped_as _ _ is (refl, (missing_file_text, refl))
 IsShaped-request (Check path) files reply is = IsShaped-file path (file_at files path) reply is
 

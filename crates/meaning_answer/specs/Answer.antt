@@ -15,6 +15,10 @@ use Rattle.meaning_answer.specs.Command.{Request, BadWord, MissingFile, Check, r
 abbrev pub most_bytes : ℕ
 most_bytes = 8388608
 
+-- the most tokens that a unit may have
+abbrev pub most_tokens : ℕ
+most_tokens = 2000000
+
 -- the texts of refusals
 abbrev pub bad_word_text : List ℕ → List ℕ
 bad_word_text word = codes "ksparse: bad word: " ++ word
@@ -27,6 +31,9 @@ no_such_file_text path = codes "ksparse: error[1]: no such file: " ++ path
 
 abbrev pub file_size_text : List ℕ
 file_size_text = codes "ksparse: limit: file size"
+
+abbrev pub unit_tokens_text : List ℕ
+unit_tokens_text = codes "ksparse: limit: unit tokens"
 
 abbrev pub not_built_text : List ℕ → List ℕ
 not_built_text path = path ++ codes ":1:1: error[29]: form not built"
@@ -53,14 +60,19 @@ IsInForm text = (tokens : List Tok) × (unit : List Item) × Lexes start text to
 -- the reply tells the failures of the unit that the text is
 abbrev pub TellsFailures : List ℕ → List ℕ → Reply → Type 0
 TellsFailures path text reply =
-    (tokens : List Tok) × (unit : List Item) × (failures : List Failure) × IsChecked text tokens unit failures × (reply ≡ warned path tokens failures)
+    (tokens : List Tok) × (unit : List Item) × (failures : List Failure) × IsChecked text tokens unit failures × (length tokens ≤ most_tokens) × (reply ≡ warned path tokens failures)
+
+-- or says that the unit has too many tokens
+abbrev pub TellsTooManyTokens : List ℕ → Reply → Type 0
+TellsTooManyTokens text reply =
+    (tokens : List Tok) × (unit : List Item) × Lexes start text tokens × IsUnit (texts_of tokens) unit × (most_tokens < length tokens) × (reply ≡ line Limit unit_tokens_text)
 
 -- or says that the text isn't in the form
 abbrev pub TellsNotBuilt : List ℕ → List ℕ → Reply → Type 0
 TellsNotBuilt path text reply = (IsInForm text → ⊥) × (reply ≡ line Refused (not_built_text path))
 
 abbrev pub IsTextReply : List ℕ → List ℕ → Reply → Type 0
-IsTextReply path text reply = TellsFailures path text reply ⊎ TellsNotBuilt path text reply
+IsTextReply path text reply = TellsFailures path text reply ⊎ (TellsTooManyTokens text reply ⊎ TellsNotBuilt path text reply)
 
 abbrev pub IsFileReply : List ℕ → Option (List ℕ) → Reply → Type 0
 IsFileReply path None reply = reply ≡ line Refused (no_such_file_text path)
@@ -68,7 +80,7 @@ IsFileReply path (Some text) reply =
     ((most_bytes < length text) × (reply ≡ line Limit file_size_text)) ⊎ ((length text ≤ most_bytes) × IsTextReply path text reply)
 
 abbrev pub IsRequestReply : Request → FileMap → Reply → Type 0
-IsRequestReply (BadWord word) files reply = reply ≡ line Usage (bad_word_text word)
+IsRequestReply (BadWord position word) files reply = reply ≡ line Usage (bad_word_text word)
 IsRequestReply MissingFile files reply = reply ≡ line Usage missing_file_text
 IsRequestReply (Check path) files reply = IsFileReply path (file_at files path) reply
 

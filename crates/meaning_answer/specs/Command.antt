@@ -3,8 +3,8 @@ use Rattle.std.specs.Prelude.{ℕ, Bool, false, ◌||◌, ◌==◌, List, [], �
 use Rattle.meaning_syntax.specs.Words.{is_among}
 
 pub data Request : Type 0 where
-  -- the first word that no rule allows
-  BadWord : List ℕ → Request
+  -- the first word that no rule allows, and where it stands among the words, from 0
+  BadWord : (position : ℕ) (word : List ℕ) → Request
   -- an operand is wanting
   MissingFile : Request
   -- a file is to be checked
@@ -30,5 +30,5 @@ is_bad_first word = is_command word || is_option word
 -- one operand, and nothing else
 abbrev pub request_of : List (List ℕ) → Request
 request_of [] = MissingFile
-request_of (word ∷ []) = if is_bad_first word then BadWord word else Check word
-request_of (word ∷ other ∷ words) = if is_bad_first word then BadWord word else BadWord other
+request_of (word ∷ []) = if is_bad_first word then BadWord 0 word else Check word
+request_of (word ∷ other ∷ words) = if is_bad_first word then BadWord 0 word else BadWord 1 other

@@ -8,7 +8,7 @@ use Rattle.meaning_answer.specs.Answer.{IsAnswer, bad_word_text, missing_file_te
 
 -- the reply is a usage line exactly where the words are at fault, and then that of their fault
 abbrev pub TellsUsage : Request → Reply → Type 0
-TellsUsage (BadWord word) reply = reply ≡ line Usage (bad_word_text word)
+TellsUsage (BadWord position word) reply = reply ≡ line Usage (bad_word_text word)
 TellsUsage MissingFile reply = reply ≡ line Usage missing_file_text
 TellsUsage (Check path) reply = reply.ending ≢ Usage
 

@@ -4,5 +4,6 @@ pub mod Answer
 pub mod Answering
 pub mod Delivery
 pub mod Laws
+pub mod Examples
 pub use Rattle.meaning_outside.specs.Faults
 pub use Rattle.meaning_outside.specs.Files

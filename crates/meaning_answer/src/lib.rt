@@ -7,4 +7,4 @@
 
 mod answers;
 
-pub use answers::each_command_has_one_answer;
+pub use answers::{each_command_has_one_answer, worked_examples};

@@ -1,5 +1,7 @@
+pub mod Elements
 pub mod Order
 pub mod MixedSpaces
+pub mod Pointers
+pub mod Failing
 pub mod Statements
 pub mod Units
-pub mod Examples

@@ -11,12 +11,14 @@ use Rattle.meaning_rules.specs.Judging.{are_equal_spaces, are_equal_bools, are_e
 
 -- Equal flags
 
+-- two tests are equal
 are_equal_bools-Decides : (a b : Bool) → Decides (are_equal_bools a b) (a ≡ b)
 are_equal_bools-Decides true true = (λ h. refl, λ h. refl)
 are_equal_bools-Decides true false = grind arith
 are_equal_bools-Decides false true = grind arith
 are_equal_bools-Decides false false = (λ h. refl, λ h. refl)
 
+-- two spaces are equal
 are_equal_spaces-Decides : (a b : Space) → Decides (are_equal_spaces a b) (a ≡ b)
 are_equal_spaces-Decides NoSpace NoSpace = (λ h. refl, λ h. refl)
 are_equal_spaces-Decides NoSpace (NumberedSpace n) = grind arith
@@ -40,10 +42,12 @@ are_equal_flags-Decides f g = (
 
 -- Pointers to ints
 
+-- a pointer to an int has no qualifiers
 bare-behind_stars : (stars : ℕ) (flags : Flags) → bare (behind_stars stars (int_with flags)) ≡ behind_stars stars (int_with flags)
 bare-behind_stars zero flags = refl
 bare-behind_stars (suc stars) flags = ap (λ target. Typed (PointerTree target) no_qualifiers no_flags) (bare-behind_stars stars flags)
 
+-- and only the int has flags
 without_flags-behind_stars : (stars : ℕ) (flags : Flags) → without_flags (behind_stars stars (int_with flags)) ≡ behind_stars stars (int_with no_flags)
 without_flags-behind_stars zero flags = refl
 without_flags-behind_stars (suc stars) flags = ap (λ target. Typed (PointerTree target) no_qualifiers no_flags) (without_flags-behind_stars stars flags)
@@ -64,12 +68,15 @@ behind_stars-injective (suc stars) f g h = behind_stars-injective stars f g (ap 
 bare_targets_differ : (stars : ℕ) (f g : Flags) → f ≢ g → bare (behind_stars stars (int_with f)) ≢ bare (behind_stars stars (int_with g))
 bare_targets_differ stars f g differ h = differ (behind_stars-injective stars f g (sym (bare-behind_stars stars f) ∙ h ∙ bare-behind_stars stars g))
 
-same_without_flags : (stars : ℕ) (f g : Flags) → without_flags (bare (behind_stars stars (int_with f))) ≡ without_flags (bare (behind_stars stars (int_with g)))
+-- and are the same without flags
+same_without_flags :
+    (stars : ℕ) (f g : Flags) →
+    without_flags (bare (behind_stars stars (int_with f))) ≡ without_flags (bare (behind_stars stars (int_with g)))
 same_without_flags stars f g =
     ap without_flags (bare-behind_stars stars f) ∙ without_flags-behind_stars stars f ∙ sym (without_flags-behind_stars stars g) ∙ sym (ap without_flags (bare-behind_stars stars g))
 
 -- under equally many stars, at least one, types with different flags mix spaces
-stars_mix : (stars : ℕ) (f g : Flags) → f ≢ g → TargetsMixSpaces (behind_stars stars (int_with f)) (behind_stars stars (int_with g))
+pub stars_mix : (stars : ℕ) (f g : Flags) → f ≢ g → TargetsMixSpaces (behind_stars stars (int_with f)) (behind_stars stars (int_with g))
 stars_mix stars f g differ = inr (bare_targets_differ stars f g differ, same_without_flags stars f g)
 
 -- and types with equal flags do not
@@ -81,14 +88,20 @@ stars_do_not_mix stars f g same (inr h) = h.0 (ap (λ flags. bare (behind_stars 
 abbrev tested : ℕ → Flags → Flags → Bool
 tested stars f g = nat_lt 0 stars && not (are_equal_flags f g)
 
+-- flags that do not pass the test differ
 differ_from_test : (f g : Flags) → not (are_equal_flags f g) ≡ true → f ≢ g
 differ_from_test f g h e = both_ways (are_equal_flags f g) (not-true (are_equal_flags f g) h) ((are_equal_flags-Decides f g).1 e)
 
-test_from_mixed : (stars : ℕ) (f g : Flags) → TargetsMixSpaces (behind_stars stars (int_with f)) (behind_stars stars (int_with g)) → not (are_equal_flags f g) ≡ true
+-- flags of types that mix spaces do not pass the test
+test_from_mixed :
+    (stars : ℕ) (f g : Flags) → TargetsMixSpaces (behind_stars stars (int_with f)) (behind_stars stars (int_with g)) →
+    not (are_equal_flags f g) ≡ true
 test_from_mixed stars f g h = not_from_false (are_equal_flags f g) (false_from_ne_true (are_equal_flags f g) (λ e. stars_do_not_mix stars f g ((are_equal_flags-Decides f g).0 e) h))
 
 -- the test passes exactly where types under equally many stars mix spaces
-stars_mix-Decides : (stars : ℕ) (f g : Flags) → Decides (tested stars f g) (MixSpaces (behind_stars stars (int_with f)) (value_type (behind_stars stars (int_with g))))
+stars_mix-Decides :
+    (stars : ℕ) (f g : Flags) →
+    Decides (tested stars f g) (MixSpaces (behind_stars stars (int_with f)) (value_type (behind_stars stars (int_with g))))
 stars_mix-Decides zero f g = (λ h. grind arith, λ h. absurd h)
 stars_mix-Decides (suc stars) f g = (
   λ h. stars_mix stars f g (differ_from_test f g (and_parts _ _ h).1),
@@ -96,14 +109,17 @@ stars_mix-Decides (suc stars) f g = (
 )
 
 -- of two objects with equally many stars: the test passes exactly where their types mix spaces
-pub declared-MixSpaces-Decides : (target source : Declared) → nat_eq target.stars source.stars ≡ true → Decides (nat_lt 0 target.stars && not (are_equal_flags (int_flags target) (int_flags source))) (MixSpaces (declared_type target) (value_type (declared_type source)))
+pub declared-MixSpaces-Decides :
+    (target source : Declared) → nat_eq target.stars source.stars ≡ true →
+    Decides (nat_lt 0 target.stars && not (are_equal_flags (int_flags target) (int_flags source))) (MixSpaces (declared_type target) (value_type (declared_type source)))
 declared-MixSpaces-Decides target source equal =
     rw (← eqb-true target.stars source.stars equal) (stars_mix-Decides target.stars (int_flags target) (int_flags source))
 
--- a place has a flag exactly where it is an int that is declared with one
+-- pointers have no flag, an int has those that it is declared with
 stars-has_flag : (stars : ℕ) (flags : Flags) → has_flag (flags_of (behind_stars stars (int_with flags))) ≡ (nat_eq stars 0 && has_flag flags)
 stars-has_flag zero flags = refl
 stars-has_flag (suc stars) flags = grind arith
 
+-- a place has a flag exactly where it is an int that is declared with one
 pub has_flag-declared_type : (declared : Declared) → has_flag (flags_of (declared_type declared)) ≡ is_flagged_int declared
 has_flag-declared_type declared = stars-has_flag declared.stars (int_flags declared)

@@ -2,10 +2,11 @@
 use Rattle.std.specs.Prelude.{◌≡◌, ℕ, true, false, List, [], ◌∷◌, ◌++◌, codes, map}
 use Rattle.meaning_text.specs.Places.{start}
 use Rattle.meaning_text.specs.Lexing.{tokens_of}
-use Rattle.meaning_types.specs.Types.{IntKind, NoSpace, NumberedSpace, NamedSpace, Flags, no_flags, no_qualifiers, TypeTree, Typed, IntegerTree, PointerTree}
-use Rattle.meaning_syntax.specs.Items.{Word, Noderef, AddressSpace, Statement, Assign, Item, Object, Function}
+use Rattle.meaning_types.specs.Types.{NoSpace, NumberedSpace, NamedSpace, Flags, no_flags}
+use Rattle.meaning_types.specs.Spaces.{MixSpaces}
+use Rattle.meaning_syntax.specs.Items.{Word, Noderef, AddressSpace, Statement, Assign, AssignThrough, AssignAddress, Item, Object, Function}
 use Rattle.meaning_syntax.specs.Form.{IsUnit}
-use Rattle.meaning_rules.specs.Typing.{flagged}
+use Rattle.meaning_rules.specs.Typing.{int_with, flagged, pointer_to}
 use Rattle.meaning_rules.specs.Evaluation.{InAssignment}
 use Rattle.meaning_rules.specs.Failures.{Failure, SpacesMixed, FlaggedAccess}
 use Rattle.meaning_rules.specs.Judging.{failures_of}
@@ -19,18 +20,17 @@ pub record Warns (text : List ℕ) (unit : List Item) (failures : List Failure) 
 
 -- What the examples are made of
 
--- the flags of `__attribute__((noderef, address_space(__user)))`
+-- the flags that `__attribute__((noderef, address_space(__user)))` gives
 abbrev pub user_flags : Flags
 user_flags = record { noderef = true; space = NamedSpace (codes "__user") }
 
+-- the words of that attribute
 abbrev pub user_words : List Word
 user_words = Noderef ∷ AddressSpace (codes "__user") ∷ []
 
-abbrev pub int_of : Flags → TypeTree
-int_of flags = Typed (IntegerTree IntKind) no_qualifiers flags
-
-abbrev pub pointer_to : TypeTree → TypeTree
-pointer_to target = Typed (PointerTree target) no_qualifiers no_flags
+-- the flags that `__attribute__((noderef))` gives
+abbrev pub noderef_flags : Flags
+noderef_flags = record { noderef = true; space = NoSpace }
 
 -- `void f(void) {` these statements `}`
 abbrev pub function_of : List Statement → Item
@@ -44,7 +44,7 @@ SpaceIsLost =
     ++ codes "extern int __attribute__((noderef, address_space(__user))) *u;\n"
     ++ codes "void f(void) { p = u; }\n")
     (Object [] 1 (codes "p") ∷ Object user_words 1 (codes "u") ∷ function_of (Assign (codes "p") (codes "u") ∷ []) ∷ [])
-    (record { token = 28; part = 0; cause = SpacesMixed InAssignment (pointer_to (int_of no_flags)) (pointer_to (int_of user_flags)) } ∷ [])
+    (record { token = 28; part = 0; cause = SpacesMixed InAssignment (pointer_to (int_with no_flags)) (pointer_to (int_with user_flags)) } ∷ [])
     (codes "t.c:3:18: warning: incorrect type in assignment (different address spaces)\n"
     ++ codes "t.c:3:18:    expected int *\n"
     ++ codes "t.c:3:18:    got int noderef address_space(__user) *\n")
@@ -57,24 +57,30 @@ SpaceBehindTwoStarsIsLost =
     ++ codes "extern int __attribute__((noderef, address_space(__user))) **u;\n"
     ++ codes "void f(void) { p = u; }\n")
     (Object [] 2 (codes "p") ∷ Object user_words 2 (codes "u") ∷ function_of (Assign (codes "p") (codes "u") ∷ []) ∷ [])
-    (record { token = 30; part = 0; cause = SpacesMixed InAssignment (pointer_to (pointer_to (int_of no_flags))) (pointer_to (pointer_to (int_of user_flags))) } ∷ [])
+    (record { token = 30; part = 0; cause = SpacesMixed InAssignment (pointer_to (pointer_to (int_with no_flags))) (pointer_to (pointer_to (int_with user_flags))) } ∷ [])
     (codes "t.c:3:18: warning: incorrect type in assignment (different address spaces)\n"
     ++ codes "t.c:3:18:    expected int * *\n"
     ++ codes "t.c:3:18:    got int noderef address_space(__user) * *\n")
 
--- the place of `x` has a flag: a store to it fails at token 20, a load from it at token 26
+-- and by the rule itself these types mix spaces
+abbrev pub TwoStarsMixSpaces : Type 0
+TwoStarsMixSpaces = MixSpaces (pointer_to (pointer_to (int_with no_flags))) (pointer_to (pointer_to (int_with user_flags)))
+
+-- pointers that differ in their number of stars alone do not mix spaces
+abbrev pub StarsAloneDoNotMix : Type 0
+StarsAloneDoNotMix = MixSpaces (pointer_to (int_with no_flags)) (pointer_to (pointer_to (int_with no_flags))) → ⊥
+
+-- the place of `x` has a flag: a store to it fails at token 20, a load from it at token 26, all in one line
 abbrev pub NoderefIsAccessed : Type 0
 NoderefIsAccessed =
     Warns
-    (codes "extern int __attribute__((noderef)) x;\n"
-    ++ codes "extern int y;\n"
-    ++ codes "void f(void) { x = y; y = x; }\n")
+    (codes "extern int __attribute__((noderef)) x; extern int y; void f(void) { x = y; y = x; }\n")
     (Object (Noderef ∷ []) 0 (codes "x") ∷ Object [] 0 (codes "y")
     ∷ function_of (Assign (codes "x") (codes "y") ∷ Assign (codes "y") (codes "x") ∷ []) ∷ [])
-    (record { token = 20; part = 0; cause = FlaggedAccess (int_of (record { noderef = true; space = NoSpace })) }
-    ∷ record { token = 26; part = 0; cause = FlaggedAccess (int_of (record { noderef = true; space = NoSpace })) } ∷ [])
-    (codes "t.c:3:16: warning: dereference of noderef expression\n"
-    ++ codes "t.c:3:27: warning: dereference of noderef expression\n")
+    (record { token = 20; part = 0; cause = FlaggedAccess (int_with noderef_flags) }
+    ∷ record { token = 26; part = 0; cause = FlaggedAccess (int_with noderef_flags) } ∷ [])
+    (codes "t.c:1:69: warning: dereference of noderef expression\n"
+    ++ codes "t.c:1:80: warning: dereference of noderef expression\n")
 
 -- the load is token 25, in line 3 at column 20
 abbrev pub SpaceIsAccessed : Type 0
@@ -84,8 +90,19 @@ SpaceIsAccessed =
     ++ codes "extern int y;\n"
     ++ codes "void f(void) { y = x; }\n")
     (Object (AddressSpace (codes "2") ∷ []) 0 (codes "x") ∷ Object [] 0 (codes "y") ∷ function_of (Assign (codes "y") (codes "x") ∷ []) ∷ [])
-    (record { token = 25; part = 0; cause = FlaggedAccess (int_of (record { noderef = false; space = NumberedSpace 2 })) } ∷ [])
+    (record { token = 25; part = 0; cause = FlaggedAccess (int_with (record { noderef = false; space = NumberedSpace 2 })) } ∷ [])
     (codes "t.c:3:20: warning: dereference in address space 2\n")
+
+-- of a place with both flags noderef is told; the load is token 27
+abbrev pub NoderefIsToldBeforeSpace : Type 0
+NoderefIsToldBeforeSpace =
+    Warns
+    (codes "extern int __attribute__((noderef, address_space(__user))) x;\n"
+    ++ codes "extern int y;\n"
+    ++ codes "void f(void) { y = x; }\n")
+    (Object user_words 0 (codes "x") ∷ Object [] 0 (codes "y") ∷ function_of (Assign (codes "y") (codes "x") ∷ []) ∷ [])
+    (record { token = 27; part = 0; cause = FlaggedAccess (int_with user_flags) } ∷ [])
+    (codes "t.c:3:20: warning: dereference of noderef expression\n")
 
 -- of two spaces in one list the later one counts
 abbrev pub LaterSpaceCounts : Type 0
@@ -109,4 +126,56 @@ PlainIntsPass =
     Warns
     (codes "extern int x;\n" ++ codes "extern int y;\n" ++ codes "void f(void) { x = y; }\n")
     (Object [] 0 (codes "x") ∷ Object [] 0 (codes "y") ∷ function_of (Assign (codes "x") (codes "y") ∷ []) ∷ [])
+    [] []
+
+-- Through pointers, and with addresses
+
+-- the store stands at the `*`, token 21; the `=` behind which an address gets flags is token 27
+abbrev pub NoderefIsStoredThrough : Type 0
+NoderefIsStoredThrough =
+    Warns
+    (codes "extern int __attribute__((noderef)) *u;\n"
+    ++ codes "extern int x;\n"
+    ++ codes "void f(void) { *u = x; u = &x; }\n")
+    (Object (Noderef ∷ []) 1 (codes "u") ∷ Object [] 0 (codes "x")
+    ∷ function_of (AssignThrough (codes "u") (codes "x") ∷ AssignAddress (codes "u") (codes "x") ∷ []) ∷ [])
+    (record { token = 21; part = 0; cause = FlaggedAccess (int_with noderef_flags) }
+    ∷ record { token = 27; part = 0; cause = SpacesMixed InAssignment (pointer_to (int_with noderef_flags)) (pointer_to (int_with no_flags)) } ∷ [])
+    (codes "t.c:3:16: warning: dereference of noderef expression\n"
+    ++ codes "t.c:3:26: warning: incorrect type in assignment (different address spaces)\n"
+    ++ codes "t.c:3:26:    expected int noderef *\n"
+    ++ codes "t.c:3:26:    got int *\n")
+
+-- a pointer loses its flags at the place behind another pointer; the `=` is token 25
+abbrev pub NoderefIsLostBehindPointer : Type 0
+NoderefIsLostBehindPointer =
+    Warns
+    (codes "extern int **p;\n"
+    ++ codes "extern int __attribute__((noderef)) *u;\n"
+    ++ codes "void f(void) { *p = u; }\n")
+    (Object [] 2 (codes "p") ∷ Object (Noderef ∷ []) 1 (codes "u") ∷ function_of (AssignThrough (codes "p") (codes "u") ∷ []) ∷ [])
+    (record { token = 25; part = 0; cause = SpacesMixed InAssignment (pointer_to (int_with no_flags)) (pointer_to (int_with noderef_flags)) } ∷ [])
+    (codes "t.c:3:19: warning: incorrect type in assignment (different address spaces)\n"
+    ++ codes "t.c:3:19:    expected int *\n"
+    ++ codes "t.c:3:19:    got int noderef *\n")
+
+-- the place behind `p` is plain, so the load at token 24 alone warns
+abbrev pub LoadAloneWarns : Type 0
+LoadAloneWarns =
+    Warns
+    (codes "extern int *p;\n"
+    ++ codes "extern int __attribute__((noderef)) x;\n"
+    ++ codes "void f(void) { *p = x; }\n")
+    (Object [] 1 (codes "p") ∷ Object (Noderef ∷ []) 0 (codes "x") ∷ function_of (AssignThrough (codes "p") (codes "x") ∷ []) ∷ [])
+    (record { token = 24; part = 0; cause = FlaggedAccess (int_with noderef_flags) } ∷ [])
+    (codes "t.c:3:21: warning: dereference of noderef expression\n")
+
+-- nothing is loaded from an object whose address is taken, and the flags are equal
+abbrev pub AddressPasses : Type 0
+AddressPasses =
+    Warns
+    (codes "extern int __attribute__((noderef)) x;\n"
+    ++ codes "extern int __attribute__((noderef)) *u;\n"
+    ++ codes "void f(void) { u = &x; }\n")
+    (Object (Noderef ∷ []) 0 (codes "x") ∷ Object (Noderef ∷ []) 1 (codes "u") ∷ function_of (AssignAddress (codes "u") (codes "x") ∷ []) ∷ [])
     [] []

@@ -1,9 +1,9 @@
 -- The plain program beside the listing: it judges statement by statement, by how objects are declared.
-use Rattle.std.specs.Prelude.{ℕ, Bool, true, false, ◌+◌, ◌&&◌, List, [], ◌∷◌, ◌++◌, Option, Some, None, not, nat_eq, nat_lt, if◌then◌else◌}
+use Rattle.std.specs.Prelude.{ℕ, suc, ◌-◌, Bool, true, false, ◌+◌, ◌&&◌, List, [], ◌∷◌, ◌++◌, Option, Some, None, not, nat_eq, nat_lt, if◌then◌else◌}
 use Rattle.std.specs.List.{flat_map}
 use Rattle.std.specs.Str.{bytes_eq}
 use Rattle.meaning_types.specs.Types.{Space, NoSpace, NumberedSpace, NamedSpace, Flags, no_flags, has_flag, value_type}
-use Rattle.meaning_syntax.specs.Items.{Statement, Assign, Item}
+use Rattle.meaning_syntax.specs.Items.{Statement, Assign, AssignThrough, AssignAddress, Item}
 use Rattle.meaning_syntax.specs.Binding.{Declared, object_of}
 use Rattle.meaning_rules.specs.Typing.{flagged, declared_type}
 use Rattle.meaning_rules.specs.Evaluation.{InAssignment, Placed, placed_in}
@@ -42,14 +42,43 @@ judged_assignment token target source =
     then record { token = token; part = 0; cause = SpacesMixed InAssignment (declared_type target) (value_type (declared_type source)) } ∷ []
     else []
 
-abbrev pub judged_objects : ℕ → Option Declared → Option Declared → List Failure
-judged_objects first (Some target) (Some source) =
+-- what a pointer points to, as if it were declared
+abbrev pub behind_pointer : Declared → Declared
+behind_pointer pointer = record pointer { stars = pointer.stars - 1 }
+
+-- an object's address, as if it were declared
+abbrev pub address_of : Declared → Declared
+address_of object = record object { stars = suc object.stars }
+
+-- of `target = source ;`
+abbrev pub judged_assign : ℕ → Declared → Declared → List Failure
+judged_assign first target source =
     judged_access first target ++ judged_assignment (first + 1) target source ++ judged_access (first + 2) source
-judged_objects first (Some target) None = []
-judged_objects first None source = []
+
+-- of `* pointer = source ;`, where the pointer itself has no flag
+abbrev pub judged_assign_through : ℕ → Declared → Declared → List Failure
+judged_assign_through first pointer source =
+    judged_access first (behind_pointer pointer)
+    ++ judged_assignment (first + 2) (behind_pointer pointer) source
+    ++ judged_access (first + 3) source
+
+-- of `target = & object ;`, where the target is a pointer and has no flag itself
+abbrev pub judged_assign_address : ℕ → Declared → Declared → List Failure
+judged_assign_address first target object = judged_assignment (first + 1) target (address_of object)
+
+-- where both are objects
+abbrev pub judged_objects : (Declared → Declared → List Failure) → Option Declared → Option Declared → List Failure
+judged_objects judged (Some left) (Some right) = judged left right
+judged_objects judged (Some left) None = []
+judged_objects judged None right = []
 
 abbrev pub judged_statement : List Item → ℕ → Statement → List Failure
-judged_statement before first (Assign target source) = judged_objects first (object_of before target) (object_of before source)
+judged_statement before first (Assign target source) =
+    judged_objects (judged_assign first) (object_of before target) (object_of before source)
+judged_statement before first (AssignThrough pointer source) =
+    judged_objects (judged_assign_through first) (object_of before pointer) (object_of before source)
+judged_statement before first (AssignAddress target object) =
+    judged_objects (judged_assign_address first) (object_of before target) (object_of before object)
 
 abbrev pub judged_placed : Placed → List Failure
 judged_placed placed = judged_statement placed.before placed.first placed.statement

@@ -1,7 +1,8 @@
 -- The types that declarations give to names (C11 6.7.6).
-use Rattle.std.specs.Prelude.{ℕ, suc, zero, true, List, [], ◌∷◌, Option, option_map, if◌then◌else◌}
+use Rattle.std.specs.Prelude.{ℕ, suc, zero, true, List, [], ◌∷◌, Option, Some, None, option_map, if◌then◌else◌}
+use Rattle.std.specs.Option.{option_and_then}
 use Rattle.std.specs.Str.Parse.{digits_value}
-use Rattle.meaning_types.specs.Types.{Space, NumberedSpace, NamedSpace, IntKind, Flags, no_flags, no_qualifiers, TypeTree, Typed, IntegerTree, PointerTree}
+use Rattle.meaning_types.specs.Types.{Space, NumberedSpace, NamedSpace, IntKind, Flags, no_flags, no_qualifiers, TypeTree, Typed, IntegerTree, PointerTree, value_type}
 use Rattle.meaning_syntax.specs.Words.{is_identifier}
 use Rattle.meaning_syntax.specs.Items.{Word, Noderef, AddressSpace, Item}
 use Rattle.meaning_syntax.specs.Binding.{Declared, object_of}
@@ -28,6 +29,27 @@ int_with flags = Typed (IntegerTree IntKind) no_qualifiers flags
 abbrev pub declared_type : Declared → TypeTree
 declared_type declared = behind_stars declared.stars (int_with (flagged no_flags declared.words))
 
+-- the type of the place to which a pointer of this type points (6.5.3.2 p4)
+abbrev pub target_of : TypeTree → Option TypeTree
+target_of (Typed (PointerTree target) qualifiers flags) = Some target
+target_of (Typed (IntegerTree kind) qualifiers flags) = None
+
+-- the type of the address of a place of this type (6.5.3.2 p3)
+abbrev pub pointer_to : TypeTree → TypeTree
+pointer_to target = Typed (PointerTree target) no_qualifiers no_flags
+
 -- the type of an object that is declared before
 abbrev pub type_of : List Item → List ℕ → Option TypeTree
 type_of before name = option_map declared_type (object_of before name)
+
+-- of its value
+abbrev pub value_type_of : List Item → List ℕ → Option TypeTree
+value_type_of before name = option_map value_type (type_of before name)
+
+-- of what it points to
+abbrev pub target_type_of : List Item → List ℕ → Option TypeTree
+target_type_of before name = option_and_then target_of (value_type_of before name)
+
+-- of its address
+abbrev pub address_type_of : List Item → List ℕ → Option TypeTree
+address_type_of before name = option_map pointer_to (type_of before name)

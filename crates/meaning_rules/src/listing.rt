@@ -1,4 +1,4 @@
-ghost use Rattle.meaning_rules.specs.Examples.{SpaceIsLost, SpaceBehindTwoStarsIsLost, NoderefIsAccessed, SpaceIsAccessed, LaterSpaceCounts, EqualFlagsPass, PlainIntsPass};
+ghost use Rattle.meaning_rules.specs.Examples.{SpaceIsLost, SpaceBehindTwoStarsIsLost, TwoStarsMixSpaces, StarsAloneDoNotMix, NoderefIsAccessed, SpaceIsAccessed, NoderefIsToldBeforeSpace, LaterSpaceCounts, EqualFlagsPass, PlainIntsPass, NoderefIsStoredThrough, NoderefIsLostBehindPointer, LoadAloneWarns, AddressPasses};
 ghost use Rattle.meaning_rules.specs.Laws.{ListingsExist, ListingsAreUnique};
 
 /// The failures of a unit can be listed in order in exactly one way.
@@ -11,9 +11,16 @@ pub fn each_unit_has_one_listing()
 pub fn worked_examples()
     ensures space_lost { SpaceIsLost }
     ensures deeper_space_lost { SpaceBehindTwoStarsIsLost }
+    ensures two_stars { TwoStarsMixSpaces }
+    ensures stars_alone { StarsAloneDoNotMix }
     ensures noderef_accessed { NoderefIsAccessed }
     ensures space_accessed { SpaceIsAccessed }
+    ensures noderef_told { NoderefIsToldBeforeSpace }
     ensures later_space { LaterSpaceCounts }
     ensures equal_flags { EqualFlagsPass }
     ensures plain_ints { PlainIntsPass }
+    ensures stored_through { NoderefIsStoredThrough }
+    ensures lost_behind_pointer { NoderefIsLostBehindPointer }
+    ensures load_alone { LoadAloneWarns }
+    ensures address { AddressPasses }
 {}

@@ -13,7 +13,7 @@ use Rattle.meaning_syntax.proofs.WordReading.{IsSpelledAt, read_word_spelled, re
 append_three : (a b c d : Texts) → ((a ++ b) ++ c) ++ d ≡ a ++ (b ++ (c ++ d))
 append_three a b c d = simp append_assoc
 
--- what stands behind the keyword of an attribute
+-- what is read behind the keyword of an attribute is spelled so
 read_word_list_spelled : (texts : Texts) (words : List Word) (rest : Texts) → read_word_list texts ≡ Some (words, rest) → IsSpelledAt attribute_spelled (list_all word_fits) (codes "__attribute__" ∷ texts) (words, rest)
 unfolding read_word_list
 read_word_list_spelled texts words rest h =
@@ -26,6 +26,7 @@ read_word_list_spelled texts words rest h =
     let grouped = append_three (word_spelled word) (flat_map further_word_spelled (read_many read_further_word behind_word).0) (codes ")" ∷ codes ")" ∷ []) behind in
     subst (IsSpelledAt attribute_spelled (list_all word_fits) (codes "__attribute__" ∷ texts)) (same_Some _ _ found) (cc, and_from _ _ fits further.1))))))
 
+-- the words that are spelled behind the keyword are read
 read_word_list_here : (word : Word) (words : List Word) (rest : Texts) → word_fits word ≡ true → list_all word_fits words ≡ true → read_word_list (codes "(" ∷ codes "(" ∷ word_spelled word ++ (flat_map further_word_spelled words ++ codes ")" ∷ codes ")" ∷ rest)) ≡ Some (word ∷ words, rest)
 unfolding read_word_list
 read_word_list_here word words rest fits fit =
@@ -33,17 +34,20 @@ read_word_list_here word words rest fits fit =
     let further = read_many_here read_further_word further_word_spelled word_fits read_further_word-Shrinks read_further_word_here words (codes ")" ∷ codes ")" ∷ rest) fit (read_further_word_none (codes ")" ∷ rest)) in
     rw (first, further)
 
+-- an attribute that is read, or none, is spelled so
 words_behind_spelled : (o : Option Texts) (texts : Texts) → ((inside : Texts) → o ≡ Some inside → texts ≡ codes "__attribute__" ∷ inside) → (words : List Word) (rest : Texts) → words_behind o texts ≡ Some (words, rest) → IsSpelledAt attribute_spelled (list_all word_fits) texts (words, rest)
 words_behind_spelled None texts at words rest h = subst (IsSpelledAt attribute_spelled (list_all word_fits) texts) (same_Some _ _ h) (refl, refl)
 words_behind_spelled (Some inside) texts at words rest h =
     let list = read_word_list_spelled inside words rest h in
     (at inside refl ∙ list.0, list.1)
 
+-- what is read as an attribute is spelled so
 read_attribute_spelled : ReadsSpelled read_attribute attribute_spelled (list_all word_fits)
 unfolding read_attribute
 read_attribute_spelled texts words rest h =
     words_behind_spelled (read_text (codes "__attribute__") texts) texts (read_text_parts (codes "__attribute__") texts) words rest h
 
+-- what is spelled as an attribute is read, also none where none begins
 read_attribute_here : (words : List Word) (rest : Texts) → list_all word_fits words ≡ true → read_text (codes "__attribute__") rest ≡ None → read_attribute (attribute_spelled words ++ rest) ≡ Some (words, rest)
 unfolding read_attribute
 read_attribute_here [] rest fit none = ap (λ o. words_behind o rest) none
@@ -62,6 +66,7 @@ read_text-stars_name : (stars : ℕ) (name : List ℕ) (rest : Texts) → is_nam
 read_text-stars_name zero name rest named = read_text_elsewhere (codes "__attribute__") name rest (bytes_eq-name_attribute name named)
 read_text-stars_name (suc stars) name rest named = refl
 
+-- what is read as an object is spelled so
 read_object_spelled : ReadsSpelled read_object item_spelled item_fits
 unfolding read_object
 read_object_spelled texts item rest h =
@@ -75,6 +80,7 @@ read_object_spelled texts item rest h =
     let grouped = append_three (attribute_spelled words) (replicate (read_stars behind_words).0 (codes "*")) (name ∷ codes ";" ∷ []) behind in
     subst (IsSpelledAt item_spelled item_fits texts) (same_Some _ _ found) (cc, and_from _ _ (and_from _ _ fit few) named)))))))
 
+-- what is spelled as an object is read
 read_object_here : (words : List Word) (stars : ℕ) (name : List ℕ) (rest : Texts) → item_fits (Object words stars name) ≡ true → read_object (item_spelled (Object words stars name) ++ rest) ≡ Some (Object words stars name, rest)
 unfolding read_object
 read_object_here words stars name rest fits =
@@ -90,6 +96,7 @@ read_object_none : (rest : Texts) → read_object (codes "void" ∷ rest) ≡ No
 unfolding read_object
 read_object_none rest = refl
 
+-- what `read_opening` leaves stands behind `( void ) {`
 read_opening_parts : (texts body : Texts) → read_opening texts ≡ Some body → texts ≡ codes "(" ∷ codes "void" ∷ codes ")" ∷ codes "{" ∷ body
 unfolding read_opening
 read_opening_parts texts body h =
@@ -99,15 +106,18 @@ read_opening_parts texts body h =
     let at_brace = read_text_parts (codes "{") behind_list body found in
     cc)))
 
+-- `read_opening` finds `( void ) {`
 read_opening_here : (body : Texts) → read_opening (codes "(" ∷ codes "void" ∷ codes ")" ∷ codes "{" ∷ body) ≡ Some body
 unfolding read_opening
 read_opening_here body = refl
 
+-- what follows where `( void ) {` was read, and then something
 read_opening_then : {B P : Type 0} (texts : Texts) (next : Texts → Option B) (y : B) → after (read_opening texts) next ≡ Some y → ((body : Texts) → texts ≡ codes "(" ∷ codes "void" ∷ codes ")" ∷ codes "{" ∷ body → next body ≡ Some y → P) → P
 read_opening_then texts next y h follows =
     let parts = after_parts (read_opening texts) next y h in
     follows parts.0 (read_opening_parts texts parts.0 parts.1) parts.2
 
+-- what is read as a function is spelled so
 read_function_spelled : ReadsSpelled read_function item_spelled item_fits
 unfolding read_function
 read_function_spelled texts item rest h =
@@ -119,6 +129,7 @@ read_function_spelled texts item rest h =
     let grouped = append_assoc (flat_map statement_spelled (read_many read_statement body).0) (codes "}" ∷ []) behind in
     subst (IsSpelledAt item_spelled item_fits texts) (same_Some _ _ found) (cc, and_from _ _ named statements.1)))))
 
+-- what is spelled as a function is read
 read_function_here : (name : List ℕ) (statements : List Statement) (rest : Texts) → item_fits (Function name statements) ≡ true → read_function (item_spelled (Function name statements) ++ rest) ≡ Some (Function name statements, rest)
 unfolding read_function
 read_function_here name statements rest fits =
@@ -139,6 +150,7 @@ unfolding read_item
 read_item_here (Object words stars name) rest fits = rw (read_object_here words stars name rest fits)
 read_item_here (Function name statements) rest fits = rw (read_object_none _, read_function_here name statements rest fits)
 
+-- an item is spelled by a text at least
 length-item_spelled : (item : Item) → 0 < length (item_spelled item)
 length-item_spelled (Object words stars name) = omega arith
 length-item_spelled (Function name statements) = omega arith

@@ -1,5 +1,5 @@
 -- What readers find, whatever they read: one after another, and many of them.
-use Rattle.std.proofs.Common.{◌≡◌, ℕ, zero, suc, ◌<◌, ◌≤◌, Bool, true, false, if◌then◌else◌, ◌⊎◌, inl, inr, List, [], ◌∷◌, ◌++◌, length, Option, Some, None, bytes_eq, flat_map, refl, sym, ap, ap₂, ◌∙◌, append_assoc, length-append, arith}
+use Rattle.std.proofs.Common.{◌≡◌, ℕ, zero, suc, ◌<◌, ◌≤◌, Bool, true, false, if◌then◌else◌, ◌⊎◌, inl, inr, List, [], ◌∷◌, ◌++◌, length, Option, Some, None, bytes_eq, flat_map, refl, sym, ap, ap₂, ◌∙◌, append_assoc, append-nil, length-append, arith}
 use Rattle.std.specs.List.{list_all}
 use Rattle.std.proofs.lemmas.Bool.{and_from, and_parts, cond-true, cond-false, false_from_ne_true, both_ways}
 use Rattle.std.proofs.lemmas.Option.{none-some, same_Some, cond_some}
@@ -76,16 +76,18 @@ if_whole_parts (read, text ∷ rest) x h = absurd (none-some x h)
 abbrev pub Shrinks : {A : Type 0} → (Texts → Option (A × Texts)) → Type 0
 Shrinks {A} read = (texts : Texts) (x : A) (rest : Texts) → read texts ≡ Some (x, rest) → length rest < length texts
 
+-- what is found behind the first is all that counts
 before_others_same : {A : Type 0} (o : Option (A × Texts)) (texts : Texts) (f g : Texts → List A × Texts) → ((x : A) (rest : Texts) → o ≡ Some (x, rest) → f rest ≡ g rest) → before_others o texts f ≡ before_others o texts g
 before_others_same None texts f g h = refl
 before_others_same (Some (x, rest)) texts f g h = ap (λ others. (x ∷ others.0, others.1)) (h x rest refl)
 
+-- where there is no first, nothing is found
 before_others_none : {A : Type 0} (o : Option (A × Texts)) (texts : Texts) (f : Texts → List A × Texts) → ((x : A) (rest : Texts) → o ≡ Some (x, rest) → ⊥) → before_others o texts f ≡ ([], texts)
 before_others_none None texts f h = refl
 before_others_none (Some (x, rest)) texts f h = absurd (h x rest refl)
 
--- a reader that shrinks the list reads no more often than there are texts
-pub read_up_to_enough : {A : Type 0} (read : Texts → Option (A × Texts)) → Shrinks read → (n m : ℕ) (texts : Texts) → length texts ≤ n → length texts ≤ m → read_up_to read n texts ≡ read_up_to read m texts
+-- two numbers that are no smaller than the list read the same
+read_up_to_enough : {A : Type 0} (read : Texts → Option (A × Texts)) → Shrinks read → (n m : ℕ) (texts : Texts) → length texts ≤ n → length texts ≤ m → read_up_to read n texts ≡ read_up_to read m texts
 unfolding read_up_to
 read_up_to_enough read shrinks zero zero texts a b = refl
 read_up_to_enough read shrinks zero (suc m) texts a b = sym (before_others_none (read texts) texts _ (λ x rest e. let less = shrinks texts x rest e in omega arith))
@@ -94,6 +96,11 @@ read_up_to_enough read shrinks (suc n) (suc m) texts a b =
     before_others_same (read texts) texts _ _
     (λ x rest e. let less = shrinks texts x rest e in read_up_to_enough read shrinks n m rest (omega arith) (omega arith))
 
+-- a number that is no smaller than the list is enough
+pub read_up_to-read_many : {A : Type 0} (read : Texts → Option (A × Texts)) → Shrinks read → (n : ℕ) (texts : Texts) → length texts ≤ n → read_up_to read n texts ≡ read_many read texts
+unfolding read_many
+read_up_to-read_many read shrinks n texts h = read_up_to_enough read shrinks n (length texts) texts h (omega arith)
+
 -- where the reader finds something, it and what is found behind it
 pub read_many_some : {A : Type 0} (read : Texts → Option (A × Texts)) → Shrinks read → (texts : Texts) (x : A) (rest : Texts) → read texts ≡ Some (x, rest) → read_many read texts ≡ (x ∷ (read_many read rest).0, (read_many read rest).1)
 unfolding read_many read_up_to
@@ -101,13 +108,33 @@ read_many_some read shrinks [] x rest e = let less = shrinks [] x rest e in absu
 read_many_some read shrinks (text ∷ texts) x rest e =
     let less = shrinks (text ∷ texts) x rest e in
     ap (λ o. before_others o (text ∷ texts) (λ behind. read_up_to read (length texts) behind)) e
-    ∙ ap (λ others. (x ∷ others.0, others.1)) (read_up_to_enough read shrinks (length texts) (length rest) rest (omega arith) (omega arith))
+    ∙ ap (λ others. (x ∷ others.0, others.1)) (read_up_to-read_many read shrinks (length texts) rest (omega arith))
 
 -- where the reader finds nothing, nothing
 pub read_many_none : {A : Type 0} (read : Texts → Option (A × Texts)) (texts : Texts) → read texts ≡ None → read_many read texts ≡ ([], texts)
 unfolding read_many read_up_to
 read_many_none read [] e = refl
 read_many_none read (text ∷ texts) e = ap (λ o. before_others o (text ∷ texts) (λ behind. read_up_to read (length texts) behind)) e
+
+-- what a loop has found, before this rest
+abbrev pub IsFoundBefore : {A : Type 0} → (Texts → Option (A × Texts)) → Texts → List A → Texts → Type 0
+IsFoundBefore read texts found rest = read_many read texts ≡ (found ++ (read_many read rest).0, (read_many read rest).1)
+
+-- where the loop begins
+pub IsFoundBefore-none : {A : Type 0} (read : Texts → Option (A × Texts)) (texts : Texts) → IsFoundBefore read texts [] texts
+IsFoundBefore-none read texts = refl
+
+-- a turn of the loop
+pub IsFoundBefore-more : {A : Type 0} (read : Texts → Option (A × Texts)) → Shrinks read → (texts : Texts) (found : List A) (rest : Texts) (x : A) (behind : Texts) → IsFoundBefore read texts found rest → read rest ≡ Some (x, behind) → IsFoundBefore read texts (found ++ (x ∷ [])) behind
+IsFoundBefore-more read shrinks texts found rest x behind before e =
+    before
+    ∙ ap (λ others. (found ++ others.0, others.1)) (read_many_some read shrinks rest x behind e)
+    ∙ ap (λ all. (all, (read_many read behind).1)) (sym (append_assoc found (x ∷ []) (read_many read behind).0))
+
+-- where the loop ends
+pub IsFoundBefore-all : {A : Type 0} (read : Texts → Option (A × Texts)) (texts : Texts) (found : List A) (rest : Texts) → IsFoundBefore read texts found rest → read rest ≡ None → read_many read texts ≡ (found, rest)
+IsFoundBefore-all read texts found rest before e =
+    before ∙ ap (λ others. (found ++ others.0, others.1)) (read_many_none read rest e) ∙ ap (λ all. (all, rest)) (append-nil found)
 
 -- what this reader finds is spelled so, and fits
 abbrev pub ReadsSpelled : {A : Type 0} → (Texts → Option (A × Texts)) → (A → Texts) → (A → Bool) → Type 0
@@ -131,6 +158,7 @@ reads_then read spelled fits reads texts next y h follows =
     let found = reads texts parts.0.0 parts.0.1 parts.1 in
     follows parts.0.0 parts.0.1 found.0 found.1 parts.2
 
+-- the first and the others are spelled one by one, and each fits
 before_others_spelled : {A : Type 0} (spelled : A → Texts) (fits : A → Bool) (o : Option (A × Texts)) (texts : Texts) (others : Texts → List A × Texts) → ((x : A) (rest : Texts) → o ≡ Some (x, rest) → (texts ≡ spelled x ++ rest) × (fits x ≡ true)) → ((rest : Texts) → (rest ≡ flat_map spelled (others rest).0 ++ (others rest).1) × (list_all fits (others rest).0 ≡ true)) → (texts ≡ flat_map spelled (before_others o texts others).0 ++ (before_others o texts others).1) × (list_all fits (before_others o texts others).0 ≡ true)
 before_others_spelled spelled fits None texts others first further = (refl, refl)
 before_others_spelled spelled fits (Some (x, rest)) texts others first further =
@@ -138,6 +166,7 @@ before_others_spelled spelled fits (Some (x, rest)) texts others first further =
     let behind = further rest in
     (here.0 ∙ ap (λ t. spelled x ++ t) behind.0 ∙ sym (append_assoc (spelled x) _ _), and_from _ _ here.1 behind.1)
 
+-- what is read up to a number is spelled one by one, and each fits
 read_up_to_spelled : {A : Type 0} (read : Texts → Option (A × Texts)) (spelled : A → Texts) (fits : A → Bool) → ReadsSpelled read spelled fits → (n : ℕ) (texts : Texts) → (texts ≡ flat_map spelled (read_up_to read n texts).0 ++ (read_up_to read n texts).1) × (list_all fits (read_up_to read n texts).0 ≡ true)
 unfolding read_up_to
 read_up_to_spelled read spelled fits reads zero texts = (refl, refl)

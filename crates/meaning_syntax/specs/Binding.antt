@@ -1,8 +1,8 @@
 -- What a name in a statement stands for: an object that is declared before (C11 6.2.1).
-use Rattle.std.specs.Prelude.{ℕ, Bool, true, false, ◌&&◌, List, [], ◌∷◌, ◌++◌, Option, Some, None, not, nat_eq, if◌then◌else◌}
+use Rattle.std.specs.Prelude.{ℕ, Bool, true, false, ◌&&◌, ◌+◌, List, [], ◌∷◌, ◌++◌, Option, Some, None, not, nat_eq, if◌then◌else◌}
 use Rattle.std.specs.List.{list_any, list_all}
 use Rattle.std.specs.Str.{bytes_eq}
-use Rattle.meaning_syntax.specs.Items.{Word, Statement, Assign, Item, Object, Function}
+use Rattle.meaning_syntax.specs.Items.{Word, Statement, Assign, AssignThrough, AssignAddress, Item, Object, Function}
 
 -- how an object is declared: the words of its attribute, and its stars
 pub record Declared : Type 0 where
@@ -36,8 +36,16 @@ have_equal_stars (Some target) (Some source) = nat_eq target.stars source.stars
 have_equal_stars (Some target) None = false
 have_equal_stars None source = false
 
+-- both are objects, and the first can point to the second: it has one star more
+abbrev pub has_one_star_more : Option Declared → Option Declared → Bool
+has_one_star_more (Some pointer) (Some object) = nat_eq pointer.stars (object.stars + 1)
+has_one_star_more (Some pointer) None = false
+has_one_star_more None object = false
+
 abbrev pub statement_binds : List Item → Statement → Bool
 statement_binds before (Assign target source) = have_equal_stars (object_of before target) (object_of before source)
+statement_binds before (AssignThrough pointer source) = has_one_star_more (object_of before pointer) (object_of before source)
+statement_binds before (AssignAddress target object) = has_one_star_more (object_of before target) (object_of before object)
 
 -- no name is declared twice, and each name in a statement is an object declared before
 abbrev pub are_bound : List Item → List Item → Bool

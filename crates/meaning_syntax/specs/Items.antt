@@ -7,7 +7,7 @@
 --     Word = 'noderef' | 'address_space' '(' ID ')'
 --     Stars = at most three '*'
 --     Stmts = Stmt Stmts | -
---     Stmt = NAME '=' NAME ';'
+--     Stmt = NAME '=' NAME ';' | '*' NAME '=' NAME ';' | NAME '=' '&' NAME ';'
 use Rattle.std.specs.Prelude.{ℕ, Bool, true, ◌&&◌, List, [], ◌∷◌, ◌++◌, codes, nat_le, replicate}
 use Rattle.std.specs.List.{flat_map, list_all}
 use Rattle.meaning_syntax.specs.Words.{is_name, is_space_id}
@@ -20,6 +20,10 @@ pub data Word : Type 0 where
 pub data Statement : Type 0 where
   -- an object is assigned to another
   Assign : (target source : List ℕ) → Statement
+  -- an object is assigned to the one that a pointer points to
+  AssignThrough : (pointer source : List ℕ) → Statement
+  -- an object's address is assigned to a pointer
+  AssignAddress : (target object : List ℕ) → Statement
 
 pub data Item : Type 0 where
   Object : (words : List Word) (stars : ℕ) (name : List ℕ) → Item
@@ -41,6 +45,8 @@ attribute_spelled (word ∷ words) =
 
 abbrev pub statement_spelled : Statement → List (List ℕ)
 statement_spelled (Assign target source) = target ∷ codes "=" ∷ source ∷ codes ";" ∷ []
+statement_spelled (AssignThrough pointer source) = codes "*" ∷ pointer ∷ codes "=" ∷ source ∷ codes ";" ∷ []
+statement_spelled (AssignAddress target object) = target ∷ codes "=" ∷ codes "&" ∷ object ∷ codes ";" ∷ []
 
 abbrev pub item_spelled : Item → List (List ℕ)
 item_spelled (Object words stars name) =
@@ -56,6 +62,8 @@ word_fits (AddressSpace id) = is_space_id id
 
 abbrev pub statement_fits : Statement → Bool
 statement_fits (Assign target source) = is_name target && is_name source
+statement_fits (AssignThrough pointer source) = is_name pointer && is_name source
+statement_fits (AssignAddress target object) = is_name target && is_name object
 
 abbrev pub item_fits : Item → Bool
 item_fits (Object words stars name) = list_all word_fits words && nat_le stars 3 && is_name name

@@ -4,3 +4,4 @@ pub mod Binding
 pub mod Form
 pub mod Reading
 pub mod Laws
+pub mod Examples

@@ -3,7 +3,7 @@
 use Rattle.std.specs.Prelude.{ℕ, suc, zero, ◌+◌, Bool, List, [], ◌∷◌, Option, Some, None, codes, length, nat_le, if◌then◌else◌}
 use Rattle.std.specs.Str.{bytes_eq}
 use Rattle.meaning_syntax.specs.Words.{is_name, is_space_id}
-use Rattle.meaning_syntax.specs.Items.{Word, Noderef, AddressSpace, Statement, Assign, Item, Object, Function}
+use Rattle.meaning_syntax.specs.Items.{Word, Noderef, AddressSpace, Statement, Assign, AssignThrough, AssignAddress, Item, Object, Function}
 use Rattle.meaning_syntax.specs.Binding.{are_bound}
 
 abbrev pub Texts : Type 0
@@ -96,12 +96,35 @@ read_object texts =
     after (read_passing is_name few.1) (λ name.
     after (read_text (codes ";") name.1) (λ rest. Some (Object words.0 few.0 name.0, rest)))))))
 
-unfoldable pub read_statement : Texts → Option (Statement × Texts)
-read_statement texts =
+-- `target = source ;`
+unfoldable pub read_assignment : Texts → Option (Statement × Texts)
+read_assignment texts =
     after (read_passing is_name texts) (λ target.
     after (read_text (codes "=") target.1) (λ behind_equals.
     after (read_passing is_name behind_equals) (λ source.
     after (read_text (codes ";") source.1) (λ rest. Some (Assign target.0 source.0, rest)))))
+
+-- `* pointer = source ;`
+unfoldable pub read_assignment_through : Texts → Option (Statement × Texts)
+read_assignment_through texts =
+    after (read_text (codes "*") texts) (λ behind_star.
+    after (read_passing is_name behind_star) (λ pointer.
+    after (read_text (codes "=") pointer.1) (λ behind_equals.
+    after (read_passing is_name behind_equals) (λ source.
+    after (read_text (codes ";") source.1) (λ rest. Some (AssignThrough pointer.0 source.0, rest))))))
+
+-- `target = & object ;`
+unfoldable pub read_address_assignment : Texts → Option (Statement × Texts)
+read_address_assignment texts =
+    after (read_passing is_name texts) (λ target.
+    after (read_text (codes "=") target.1) (λ behind_equals.
+    after (read_text (codes "&") behind_equals) (λ behind_ampersand.
+    after (read_passing is_name behind_ampersand) (λ object.
+    after (read_text (codes ";") object.1) (λ rest. Some (AssignAddress target.0 object.0, rest))))))
+
+unfoldable pub read_statement : Texts → Option (Statement × Texts)
+read_statement texts =
+    or_else (read_assignment texts) (or_else (read_assignment_through texts) (read_address_assignment texts))
 
 -- `( void ) {`
 unfoldable pub read_opening : Texts → Option Texts

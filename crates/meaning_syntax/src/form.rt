@@ -1,3 +1,4 @@
+ghost use Rattle.meaning_syntax.specs.Examples.{ReadExamples, MisspelledExamples, UnboundExamples, SpaceExamples};
 ghost use Rattle.meaning_syntax.specs.Laws.{ReadItemsAreSpelled, SpelledItemsAreRead, ReadUnitsAreUnits, UnitsAreRead};
 
 /// A list of spellings is at most one list of items, and at most one unit: what the plain reader finds.
@@ -6,4 +7,12 @@ pub fn each_token_list_is_at_most_one_unit()
     ensures items_again { SpelledItemsAreRead }
     ensures unit { ReadUnitsAreUnits }
     ensures unit_again { UnitsAreRead }
+{}
+
+/// Files whose items one can tell by eye, and the nearest ones that are refused, are read as they should be.
+pub fn worked_examples()
+    ensures read { ReadExamples }
+    ensures misspelled { MisspelledExamples }
+    ensures unbound { UnboundExamples }
+    ensures spaces { SpaceExamples }
 {}

@@ -3,3 +3,4 @@ pub mod Places
 pub mod Tokens
 pub mod Lexing
 pub mod Laws
+pub mod Examples

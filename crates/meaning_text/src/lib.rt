@@ -6,4 +6,4 @@
 
 mod tokens;
 
-pub use tokens::each_text_has_one_list_of_tokens;
+pub use tokens::{each_text_has_one_list_of_tokens, worked_examples};

@@ -1,0 +1,74 @@
+-- Each example computes.
+use Rattle.std.proofs.Common.{ℕ, refl}
+use Rattle.meaning_syntax.specs.Words.{is_keyword, is_reserved, is_predefined_macro, is_name, is_space_number, is_space_name, is_space_id}
+use Rattle.meaning_syntax.specs.Reading.{read_up_to, read_many, read_noderef, read_space, read_word, read_further_word, read_word_list, read_attribute, read_stars, read_object, read_assignment, read_assignment_through, read_address_assignment, read_statement, read_opening, read_function, read_item, read_items, read_unit}
+use Rattle.meaning_syntax.proofs.form.worked_examples.Goals as goal
+
+-- names what an example opens, each reader and each test of a word
+opened : ℕ
+unfolding is_keyword is_reserved is_predefined_macro is_name is_space_number is_space_name is_space_id read_up_to read_many read_noderef read_space read_word read_further_word read_word_list read_attribute read_stars read_object read_assignment read_assignment_through read_address_assignment read_statement read_opening read_function read_item read_items read_unit
+opened = 0
+
+pub returns-clause-read : goal.returns-clause-read
+unfolding opened
+returns-clause-read c = record {
+  by_spaces = refl;
+  each_part = refl;
+  three_stars = refl;
+  one_underscore = refl;
+  no_statement = refl;
+  through_pointer = refl;
+  address = refl;
+  each_statement = refl;
+}
+
+pub returns-clause-misspelled : goal.returns-clause-misspelled
+unfolding opened
+returns-clause-misspelled c = record {
+  keyword_count = refl;
+  four_stars = (refl, refl);
+  keyword_as_name = (refl, refl);
+  two_underscores = (refl, refl);
+  reserved_name = (refl, refl);
+  typeof_name = (refl, refl);
+  pragma_name = (refl, refl);
+  empty_attribute = (refl, refl);
+  comma_at_end = (refl, refl);
+  no_end = (refl, refl);
+  through_two_stars = (refl, refl);
+  address_through_pointer = (refl, refl);
+  address_as_target = (refl, refl);
+  star_at_source = (refl, refl);
+}
+
+pub returns-clause-unbound : goal.returns-clause-unbound
+unfolding opened
+returns-clause-unbound c = record {
+  declared_twice = (refl, refl);
+  object_and_function = (refl, refl);
+  used_before_declared = (refl, refl);
+  function_assigned = (refl, refl);
+  unequal_stars = (refl, refl);
+  through_number = (refl, refl);
+  through_two_stars_more = (refl, refl);
+  through_function = (refl, refl);
+  address_of_equal_stars = (refl, refl);
+  address_in_number = (refl, refl);
+  address_of_function = (refl, refl);
+}
+
+pub returns-clause-spaces : goal.returns-clause-spaces
+unfolding opened
+returns-clause-spaces c = record {
+  one = refl;
+  largest = refl;
+  asm_word = refl;
+  zero = (refl, refl);
+  leading_zero = (refl, refl);
+  too_large = (refl, refl);
+  keyword = (refl, refl);
+  predefined_macro = (refl, refl);
+  predefined_file = (refl, refl);
+  predefined_counter = (refl, refl);
+  digits_and_letters = (refl, refl);
+}

@@ -1,0 +1,199 @@
+-- What the plain program plays is a run.
+use Rattle.std.proofs.Common.{◌≡◌, ℕ, Bool, true, false, ℤ, ◌≤ℤ◌, List, [], ◌∷◌, Option, Some, None, refl, sym, ap, subst, ◌∙◌}
+use Rattle.std.specs.Prelude.{option_map, int_le, nat_eq, slice_get, slice_set, T, if◌then◌else◌}
+use Rattle.std.specs.Option.{option_and_then}
+use Rattle.std.specs.Int.Signed.{le_z_yes}
+use Rattle.std.proofs.lemmas.Bool.{and_parts, false≢true, eqb-true, leb-true}
+use Rattle.std.proofs.lemmas.Option.{none-some, same_Some}
+use Rattle.meaning_types.specs.Types.{Kind, TypeTree, Typed, BaseTree, IntegerTree, PointerTree, no_qualifiers, bare, bare_base, BoolKind, CharKind, SignedCharKind, UnsignedCharKind, ShortKind, UnsignedShortKind, IntKind, UnsignedIntKind, LongKind, UnsignedLongKind, LongLongKind, UnsignedLongLongKind}
+use Rattle.meaning_syntax.specs.Items.{Item, Object, Function}
+use Rattle.meaning_rules.proofs.MixedSpaces.{are_equal_flags-Decides}
+use Rattle.meaning_machine.specs.Values.{Spot, Null, Foreign, In, Value, Integer, Pointer, Made, ForObject, ForFunction, Block, HasElements, SpotFits, ValueFits, Fits}
+use Rattle.meaning_machine.specs.Memory.{content_at, block_with}
+use Rattle.meaning_machine.specs.Tests.{are_equal_kinds, kind_number, are_similar, are_similar_bases}
+use Rattle.meaning_machine.specs.Machine.{Control, Outcome, Next, Done, Undefined, Fault, step}
+use Rattle.meaning_machine.specs.Runs.{World, opening, Move, Start, Step, Write, Runs, Moves, Starts, Takes, IsWritable}
+use Rattle.meaning_machine.specs.Played.{is_element, block_fits_now, spot_fits_now, value_fits_now, fits_now, made_fits_now, has_content, is_writable_now, started, taken, written_if, moved_to, played_from, onto, PlayedIsRun}
+
+-- Tests say what the relations say
+
+-- the kind of each number
+kind_of : ℕ → Kind
+kind_of number =
+    if nat_eq number 0 then BoolKind else if nat_eq number 1 then CharKind else if nat_eq number 2 then SignedCharKind
+    else if nat_eq number 3 then UnsignedCharKind else if nat_eq number 4 then ShortKind else if nat_eq number 5 then UnsignedShortKind
+    else if nat_eq number 6 then IntKind else if nat_eq number 7 then UnsignedIntKind else if nat_eq number 8 then LongKind
+    else if nat_eq number 9 then UnsignedLongKind else if nat_eq number 10 then LongLongKind else UnsignedLongLongKind
+
+-- a kind is told by its number
+kind_of-kind_number : (kind : Kind) → kind_of (kind_number kind) ≡ kind
+unfolding kind_of
+kind_of-kind_number BoolKind = refl
+kind_of-kind_number CharKind = refl
+kind_of-kind_number SignedCharKind = refl
+kind_of-kind_number UnsignedCharKind = refl
+kind_of-kind_number ShortKind = refl
+kind_of-kind_number UnsignedShortKind = refl
+kind_of-kind_number IntKind = refl
+kind_of-kind_number UnsignedIntKind = refl
+kind_of-kind_number LongKind = refl
+kind_of-kind_number UnsignedLongKind = refl
+kind_of-kind_number LongLongKind = refl
+kind_of-kind_number UnsignedLongLongKind = refl
+
+-- kinds that pass the test are equal
+equal_kinds : (kind other : Kind) → are_equal_kinds kind other ≡ true → kind ≡ other
+equal_kinds kind other passed =
+    sym (kind_of-kind_number kind) ∙ ap kind_of (eqb-true _ _ passed) ∙ kind_of-kind_number other
+
+-- similar types are equal but for const and volatile
+mutual
+  bare-from_similar : (type_ other : TypeTree) → are_similar type_ other ≡ true → bare type_ ≡ bare other
+  bare-from_similar (Typed base _ flags) (Typed other _ others) passed =
+      let parts = and_parts _ _ passed in
+      let equal = (are_equal_flags-Decides flags others).0 parts.0 in
+      λ i. Typed (bare_bases-from_similar base other parts.1 i) no_qualifiers (equal i)
+
+  bare_bases-from_similar : (base other : BaseTree) → are_similar_bases base other ≡ true → bare_base base ≡ bare_base other
+  bare_bases-from_similar (IntegerTree kind) (IntegerTree other) passed = ap IntegerTree (equal_kinds kind other passed)
+  bare_bases-from_similar (PointerTree target) (PointerTree other) passed = ap PointerTree (bare-from_similar target other passed)
+  bare_bases-from_similar (IntegerTree kind) (PointerTree other) passed = absurd (false≢true passed)
+  bare_bases-from_similar (PointerTree target) (IntegerTree other) passed = absurd (false≢true passed)
+
+-- numbers that pass the test are in order
+in_order : (a b : ℤ) → int_le a b ≡ true → a ≤ℤ b
+in_order a b passed = le_z_yes (subst T (sym passed) tt)
+
+-- of a pointer to an element
+element-fits : (block : Block) (made : Made) → block.made ≡ made → (path : List ℕ) (count : ℕ) (type_ : TypeTree)
+    → is_element made path count type_ ≡ true → HasElements block path count type_
+element-fits block (ForObject declared) is [] count type_ passed =
+    let parts = and_parts _ _ passed in
+    (declared, is, refl, eqb-true _ _ parts.0, bare-from_similar declared type_ parts.1)
+element-fits block (ForObject declared) is (_ ∷ _) count type_ passed = absurd (false≢true passed)
+element-fits block ForFunction is path count type_ passed = absurd (false≢true passed)
+
+-- of a pointer into a block
+block-fits : (blocks : List Block) (number : ℕ) (found : Option Block) → slice_get blocks number ≡ found
+    → (path : List ℕ) (index count : ℕ) (target : TypeTree) → block_fits_now found path index count target ≡ true
+    → SpotFits blocks (In number path index count) target
+block-fits blocks number (Some block) is path index count target passed =
+    let parts = and_parts _ _ passed in
+    (block, is, element-fits block block.made refl path count target parts.0, leb-true _ _ parts.1)
+block-fits blocks number None is path index count target passed = absurd (false≢true passed)
+
+-- of any pointer
+spot-fits : (blocks : List Block) (spot : Spot) (target : TypeTree) → spot_fits_now blocks spot target ≡ true → SpotFits blocks spot target
+spot-fits blocks Null target passed = tt
+spot-fits blocks Foreign target passed = tt
+spot-fits blocks (In number path index count) target passed = block-fits blocks number _ refl path index count target passed
+
+-- of a value, at a base
+value-fits : (blocks : List Block) (value : Value) (base : BaseTree) → value_fits_now blocks value base ≡ true → ValueFits blocks value base
+value-fits blocks (Integer kind None false number) (IntegerTree wanted) passed =
+    let parts = and_parts _ _ passed in
+    let more = and_parts _ _ parts.0 in
+    (equal_kinds kind wanted more.0, refl, refl, (in_order _ _ more.1, in_order _ _ parts.1))
+value-fits blocks (Integer kind None true number) (IntegerTree wanted) passed = absurd (false≢true passed)
+value-fits blocks (Integer kind (Some restricted) fouled number) (IntegerTree wanted) passed = absurd (false≢true passed)
+value-fits blocks (Integer kind None false number) (PointerTree wanted) passed = absurd (false≢true passed)
+value-fits blocks (Integer kind None true number) (PointerTree wanted) passed = absurd (false≢true passed)
+value-fits blocks (Integer kind (Some restricted) fouled number) (PointerTree wanted) passed = absurd (false≢true passed)
+value-fits blocks (Pointer target spot) (PointerTree wanted) passed =
+    let parts = and_parts _ _ passed in
+    (bare-from_similar target wanted parts.0, spot-fits blocks spot wanted parts.1)
+value-fits blocks (Pointer target spot) (IntegerTree wanted) passed = absurd (false≢true passed)
+
+-- of a value, at a type
+fits_now-Fits : (blocks : List Block) (value : Value) (type_ : TypeTree) → fits_now blocks value type_ ≡ true → Fits blocks value type_
+fits_now-Fits blocks value (Typed base _ _) passed = value-fits blocks value base passed
+
+-- of a cell, by what its block is made for and what is found there
+writable : (blocks : List Block) (block : Block) (made : Made) → block.made ≡ made → (path : List ℕ) (value : Value)
+    (found : Option (Option Value)) → content_at block.cells path ≡ found → block.is_alive ≡ true → has_content found ≡ true
+    → made_fits_now blocks value made ≡ true → IsWritable blocks block path value
+writable blocks block (ForObject declared) made path value (Some content) found alive cell fits =
+    (declared, content, made, alive, found, fits_now-Fits blocks value declared fits)
+writable blocks block (ForObject declared) made path value None found alive cell fits = absurd (false≢true cell)
+writable blocks block ForFunction made path value found is alive cell fits = absurd (false≢true fits)
+
+-- of a cell of a block
+is_writable_now-IsWritable : (blocks : List Block) (block : Block) (path : List ℕ) (value : Value)
+    → is_writable_now blocks block path value ≡ true → IsWritable blocks block path value
+is_writable_now-IsWritable blocks block path value passed =
+    let parts = and_parts _ _ passed in
+    let more = and_parts _ _ parts.0 in
+    writable blocks block _ refl path value _ refl more.0 more.1 parts.1
+
+-- Moves that are played are moves
+
+-- a start
+started-Starts : (unit : List Item) (before : World) (function : ℕ) (item : Option Item) (after : World)
+    → started unit before function item ≡ Some after → Starts unit before function item after
+started-Starts unit before function None after is = none-some _ is
+started-Starts unit before function (Some (Object words stars name)) after is = none-some _ is
+started-Starts unit before function (Some (Function name statements)) after is = sym (same_Some _ _ is)
+
+-- a step, by its outcome
+taken-Takes : (before : World) (activity : ℕ) (outcome : Outcome) (after : World)
+    → taken before activity outcome ≡ Some after → Takes before activity outcome after
+taken-Takes before activity (Next blocks control) after is = sym (same_Some _ _ is)
+taken-Takes before activity Done after is = sym (same_Some _ _ is)
+taken-Takes before activity (Undefined reason token) after is = none-some _ is
+taken-Takes before activity (Fault kind token) after is = none-some _ is
+
+-- a step, by the activity that is found
+stepped : (unit : List Item) (before : World) (activity : ℕ) (found : Option Control) → slice_get before.activities activity ≡ found
+    → (after : World) → option_and_then (taken before activity) (option_map (step unit before.blocks) found) ≡ Some after
+    → Moves unit before (Step activity) after
+stepped unit before activity None found after is = absurd (none-some _ is)
+stepped unit before activity (Some control) found after is =
+    (control, found, taken-Takes before activity (step unit before.blocks control) after is)
+
+-- a write, by its test
+written_block : (before : World) (number : ℕ) (path : List ℕ) (value : Value) (block : Block) (test : Bool)
+    → is_writable_now before.blocks block path value ≡ test → (after : World)
+    → (if test then Some (record before { blocks = slice_set before.blocks number (block_with block path value) }) else None) ≡ Some after
+    → IsWritable before.blocks block path value
+    × (after ≡ record before { blocks = slice_set before.blocks number (block_with block path value) })
+written_block before number path value block true test after is =
+    (is_writable_now-IsWritable before.blocks block path value test, sym (same_Some _ _ is))
+written_block before number path value block false test after is = absurd (none-some _ is)
+
+-- a write, by the block that is found
+written : (unit : List Item) (before : World) (number : ℕ) (path : List ℕ) (value : Value) (found : Option Block)
+    → slice_get before.blocks number ≡ found → (after : World) → written_if before number path value found ≡ Some after
+    → Moves unit before (Write number path value) after
+written unit before number path value None found after is = absurd (none-some _ is)
+written unit before number path value (Some block) found after is =
+    let both = written_block before number path value block _ refl after is in
+    (block, found, both.0, both.1)
+
+-- any move
+moved_to-Moves : (unit : List Item) (before : World) (move : Move) (after : World)
+    → moved_to unit before move ≡ Some after → Moves unit before move after
+moved_to-Moves unit before (Start function) after is = started-Starts unit before function (slice_get unit function) after is
+moved_to-Moves unit before (Step activity) after is = stepped unit before activity _ refl after is
+moved_to-Moves unit before (Write number path value) after is = written unit before number path value _ refl after is
+
+-- Lists of moves
+
+-- the runs that further moves lead to, from what they lead to behind the next world
+further : (unit : List Item) (move : Move) (moves earlier : List Move) (before world : World) → Runs unit earlier before
+    → ((after : World) → Runs unit (move ∷ earlier) after → played_from unit moves after ≡ Some world → Runs unit (onto moves (move ∷ earlier)) world)
+    → (next : Option World) → moved_to unit before move ≡ next
+    → option_and_then (played_from unit moves) next ≡ Some world → Runs unit (onto moves (move ∷ earlier)) world
+further unit move moves earlier before world run behind None moved rest = absurd (none-some _ rest)
+further unit move moves earlier before world run behind (Some after) moved rest =
+    behind after (before, run, moved_to-Moves unit before move after moved) rest
+
+-- what is played behind a run is a run
+played_from-Runs : (unit : List Item) (moves earlier : List Move) (before world : World)
+    → Runs unit earlier before → played_from unit moves before ≡ Some world → Runs unit (onto moves earlier) world
+played_from-Runs unit [] earlier before world run is = subst (Runs unit earlier) (same_Some _ _ is) run
+played_from-Runs unit (move ∷ moves) earlier before world run is =
+    further unit move moves earlier before world run (λ after. played_from-Runs unit moves (move ∷ earlier) after world) _ refl is
+
+-- what is played from the opening world is a run
+pub played_is_run : PlayedIsRun
+played_is_run unit moves world is = played_from-Runs unit moves [] (opening unit) world refl is

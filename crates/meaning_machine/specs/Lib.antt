@@ -1,0 +1,11 @@
+pub mod Values
+pub mod Outcomes
+pub mod Tests
+pub mod Memory
+pub mod Code
+pub mod Machine
+pub mod Runs
+pub mod Played
+pub mod Examples
+pub mod Laws
+pub mod Soundness

@@ -1,0 +1,95 @@
+-- What a place gives when it is read, and what a store does to it. Faults are looked for first.
+use Rattle.std.specs.Prelude.{ℕ, Bool, false, ℤ, pos, List, [], ◌∷◌, Option, Some, None, nat_lt, slice_get, slice_set, if◌then◌else◌}
+use Rattle.std.specs.Ordering.{int_eq}
+use Rattle.std.specs.Str.{bytes_eq}
+use Rattle.meaning_types.specs.Types.{Kind, TypeTree, Typed, BaseTree, IntegerTree, PointerTree, flags_of, has_flag}
+use Rattle.meaning_machine.specs.Values.{Spot, Null, Foreign, In, Value, Integer, Pointer, Place, Made, ForObject, ForFunction, Cell, Block}
+use Rattle.meaning_machine.specs.Outcomes.{NullPointer, DeadBlock, ForeignPointer, OutOfBounds, IndeterminateValue, ReadOnly, AccessFault, SpaceFault, ShapeFault, Answer, Gives, IsFault, IsUndefined}
+use Rattle.meaning_machine.specs.Tests.{are_equal_kinds, are_similar, differ_in_flags_alone}
+
+-- The one conversion: what a value becomes when it is stored to a place of this type (6.5.16.1, 6.3.2.3)
+
+-- a plain integer stays one of its kind; a plain 0 becomes a null pointer
+abbrev pub adopt_integer : Kind → Option ℕ → Bool → ℤ → BaseTree → Answer Value
+adopt_integer kind None false number (IntegerTree wanted) =
+    if are_equal_kinds kind wanted then Gives (Integer kind None false number) else IsFault ShapeFault
+adopt_integer kind None false number (PointerTree wanted) =
+    if int_eq number (pos 0) then Gives (Pointer wanted Null) else IsFault ShapeFault
+adopt_integer kind restricted fouled number base = IsFault ShapeFault
+
+-- a pointer keeps its own target
+abbrev pub adopt_pointer : TypeTree → Spot → BaseTree → Answer Value
+adopt_pointer target spot (PointerTree wanted) =
+    if are_similar target wanted then Gives (Pointer target spot)
+    else (if differ_in_flags_alone target wanted then IsFault SpaceFault
+    else IsFault ShapeFault)
+adopt_pointer target spot (IntegerTree kind) = IsFault ShapeFault
+
+abbrev pub adopt : Value → TypeTree → Answer Value
+adopt (Integer kind restricted fouled number) (Typed base _ _) = adopt_integer kind restricted fouled number base
+adopt (Pointer target spot) (Typed base _ _) = adopt_pointer target spot base
+
+-- Cells
+
+abbrev pub content_at : List Cell → List ℕ → Option (Option Value)
+content_at [] path = None
+content_at (cell ∷ cells) path = if bytes_eq cell.path path then Some cell.content else content_at cells path
+
+abbrev pub with_content : List Cell → List ℕ → Value → List Cell
+with_content [] path value = []
+with_content (cell ∷ cells) path value =
+    if bytes_eq cell.path path then record cell { content = Some value } ∷ cells else cell ∷ with_content cells path value
+
+abbrev pub block_with : Block → List ℕ → Value → Block
+block_with block path value = record block { cells = with_content block.cells path value }
+
+-- the block is made for objects of this type
+abbrev pub is_made_for : Made → TypeTree → Bool
+is_made_for (ForObject declared) type_ = are_similar declared type_
+is_made_for ForFunction type_ = false
+
+-- the block is made for an object that is const
+abbrev pub is_read_only : Made → Bool
+is_read_only (ForObject (Typed _ qualifiers _)) = qualifiers.is_const
+is_read_only ForFunction = false
+
+-- A load
+
+abbrev pub value_of_content : Option (Option Value) → Answer Value
+value_of_content None = IsUndefined OutOfBounds
+value_of_content (Some None) = IsUndefined IndeterminateValue
+value_of_content (Some (Some value)) = Gives value
+
+abbrev pub load_block : Option Block → TypeTree → List ℕ → ℕ → ℕ → Answer Value
+load_block None type_ path index length = IsFault ShapeFault
+load_block (Some block) type_ path index length =
+    if is_made_for block.made type_
+    then (if block.is_alive
+    then (if nat_lt index length then value_of_content (content_at block.cells path) else IsUndefined OutOfBounds)
+    else IsUndefined DeadBlock)
+    else IsFault ShapeFault
+
+abbrev pub load_spot : List Block → TypeTree → Spot → Answer Value
+load_spot blocks type_ Null = IsUndefined NullPointer
+load_spot blocks type_ Foreign = IsUndefined ForeignPointer
+load_spot blocks type_ (In block path index length) = load_block (slice_get blocks block) type_ path index length
+
+abbrev pub load : List Block → Place → Answer Value
+load blocks place = if has_flag (flags_of place.type_) then IsFault AccessFault else load_spot blocks place.type_ place.spot
+
+-- A store of a value that was adopted
+
+abbrev pub store_block : List Block → ℕ → Option Block → List ℕ → ℕ → ℕ → Value → Answer (List Block)
+store_block blocks number None path index length value = IsUndefined OutOfBounds
+store_block blocks number (Some block) path index length value =
+    if block.is_alive
+    then (if nat_lt index length
+    then (if is_read_only block.made then IsUndefined ReadOnly
+    else Gives (slice_set blocks number (block_with block path value)))
+    else IsUndefined OutOfBounds)
+    else IsUndefined DeadBlock
+
+abbrev pub store : List Block → Spot → Value → Answer (List Block)
+store blocks Null value = IsUndefined NullPointer
+store blocks Foreign value = IsUndefined ForeignPointer
+store blocks (In block path index length) value = store_block blocks block (slice_get blocks block) path index length value

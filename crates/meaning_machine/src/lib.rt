@@ -1,0 +1,12 @@
+//! The machine whose values carry their types, on the first form of C.
+//!
+//! Values, storage, the step of an activity, and runs of any number of activities in any order with
+//! writes of the outside. Definitions over pure shapes; [`safety`] has the law that a unit without
+//! failures meets no fault, and [`runs`] has worked examples. Start reading at `specs/Machine.antt`.
+#![tactic(auto)]
+
+mod runs;
+mod safety;
+
+pub use runs::{played_is_run, worked_runs};
+pub use safety::{blocks_last, moves_are_sound, runs_are_sound, silence_is_safe, steps_are_sound};

@@ -1,0 +1,21 @@
+ghost use Rattle.meaning_machine.specs.Played.{PlayedIsRun};
+ghost use Rattle.meaning_machine.specs.Examples.{SpaceIsLost, NoderefIsAccessed, FlaggedIntIsLoaded, SilentUnitEnds, SilentUnitCopies, NullIsUndefined, ForeignIsUndefined, ConstIsCopied, IndeterminateIsUndefined, ConstIsAdopted};
+
+/// What the plain program plays is a run.
+pub fn played_is_run()
+    ensures { PlayedIsRun }
+{}
+
+/// Small units, with runs that meet a fault, meet an undefined action or end.
+pub fn worked_runs()
+    ensures space_lost { SpaceIsLost }
+    ensures noderef_accessed { NoderefIsAccessed }
+    ensures flagged_loaded { FlaggedIntIsLoaded }
+    ensures silent_ends { SilentUnitEnds }
+    ensures silent_copies { SilentUnitCopies }
+    ensures null_undefined { NullIsUndefined }
+    ensures foreign_undefined { ForeignIsUndefined }
+    ensures const_copied { ConstIsCopied }
+    ensures indeterminate_undefined { IndeterminateIsUndefined }
+    ensures const_adopted { ConstIsAdopted }
+{}

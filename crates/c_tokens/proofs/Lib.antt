@@ -1,0 +1,4 @@
+pub mod FrontLemmas
+pub mod SeenLemmas
+pub mod StepLemmas
+pub mod TableLemmas

@@ -1,0 +1,31 @@
+-- How the values of this crate are seen by the definitions of `meaning_text`.
+use Rattle.std.specs.Prelude.{◌≡◌, ◌<◌, ℕ, List, [], ◌++◌, length, map, slice_get, unwrap_or}
+use Rattle.meaning_text.specs.Places.{At}
+use Rattle.meaning_text.specs.Tokens.{Tok}
+use Rattle.sparse_model.specs.declared.ids.NameId.{NameId}
+use Rattle.sparse_model.specs.declared.place.Place.{Place}
+use Rattle.c_tokens.specs.declared.token.Token.{Token}
+
+-- the spelling of an id in a table of spellings, which is empty for an unknown id
+abbrev pub text_of : List (List ℕ) → NameId → List ℕ
+text_of names id = unwrap_or (slice_get names id.0) []
+
+-- a place without its file
+abbrev pub at_of : Place → At
+at_of place = record { line = place.line; column = place.column }
+
+-- a token through a table
+abbrev pub tok_of : List (List ℕ) → Token → Tok
+tok_of names token = record { text = text_of names token.name; at = at_of token.place }
+
+-- tokens through a table
+abbrev pub toks_of : List (List ℕ) → List Token → List Tok
+toks_of names tokens = map (tok_of names) tokens
+
+-- an id of the table
+abbrev pub IsKnown : List (List ℕ) → NameId → Type 0
+IsKnown names id = id.0 < length names
+
+-- the table only grew: each old id keeps its spelling
+abbrev pub Extends : List (List ℕ) → List (List ℕ) → Type 0
+Extends old new = (more : List (List ℕ)) × (new ≡ old ++ more)

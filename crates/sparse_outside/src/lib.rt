@@ -1,0 +1,26 @@
+//! What the checker sees of the outside: files to load, sinks to write to, and the command's words.
+//!
+//! Two traits stand for the outside, and each has kinds over memory, whose whole behaviour is
+//! proved, and one over the system, which tells no content. Both traits count their faults, so
+//! that a caller can tell a fault of the outside from an answer. Nothing here knows of C. The
+//! definitions are in `specs/Load.antt` and `specs/Put.antt`; start reading at [`Files`].
+#![tactic(auto)]
+
+mod files;
+mod honest;
+mod log;
+mod memory;
+mod memory_sink;
+mod real;
+mod sink;
+#[cfg(test)]
+mod tests;
+mod words;
+
+pub use files::{Files, Load};
+pub use honest::HonestFiles;
+pub use memory::MemoryFiles;
+pub use memory_sink::MemorySink;
+pub use real::{RealFiles, RealSink};
+pub use sink::{Put, Sink};
+pub use words::Words;

@@ -1,0 +1,11 @@
+pub mod CountLemmas
+pub mod JudgeLemmas
+pub mod KnownLemmas
+pub mod ListLemmas
+pub mod ManyLemmas
+pub mod NumberLemmas
+pub mod ScopeLemmas
+pub mod SpaceLemmas
+pub mod StarLemmas
+pub mod TextLemmas
+pub mod UnitLemmas

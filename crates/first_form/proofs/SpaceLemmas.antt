@@ -1,0 +1,61 @@
+-- Lemmas on the tokens that can stand for an address space.
+use Rattle.std.proofs.Common.{◌≡◌, ℕ, ◌<◌, ◌^◌, List, [], ◌∷◌, length, refl, subst, Err, arith, true, ◌⊎◌, inl, inr, ⊎_elim}
+use Rattle.std.specs.List.{list_all}
+use Rattle.std.specs.Char.{is_ascii_digit}
+use Rattle.std.specs.Str.{IsUtf8}
+use Rattle.std.specs.Str.Parse.{ParsesUnsigned, digits_value}
+use Rattle.std.proofs.lemmas.Bool.{and_parts, or_cases, false≢true}
+use Rattle.std.proofs.lemmas.Bool.Decides.{nat_tests}
+use Rattle.std.proofs.lemmas.Str.Parse.{parse_digits}
+use Rattle.meaning_types.specs.Types.{NamedSpace}
+use Rattle.meaning_syntax.specs.Words.{is_identifier, is_space_id, is_space_name, is_space_number}
+use Rattle.meaning_rules.specs.Typing.{space_of}
+use Rattle.first_form.proofs.NumberLemmas.{digits, digits_are_text}
+
+-- A number that can stand for a space.
+pub record IsNumber (spelling : List ℕ) : Type 0 where
+  all_digits : list_all is_ascii_digit spelling ≡ true
+  not_empty : 0 < length spelling
+  small : digits_value 10 spelling < 2 ^ 32
+
+-- what a number that can stand for a space is made of
+number_parts : (spelling : List ℕ) → is_space_number spelling ≡ true → IsNumber spelling
+unfolding is_space_number
+number_parts [] is_number = absurd (false≢true is_number)
+number_parts (digit ∷ rest) is_number =
+    let parts = and_parts _ _ is_number in
+    record {
+      all_digits = (and_parts _ _ parts.0).0;
+      not_empty = omega arith;
+      small = grind (arith, nat_tests);
+    }
+
+-- what can stand for a space is an identifier or a number
+pub space_id_cases : (spelling : List ℕ) → is_space_id spelling ≡ true → (is_identifier spelling ≡ true) ⊎ IsNumber spelling
+unfolding is_space_id is_space_name
+space_id_cases spelling is_id =
+    ⊎_elim
+    (λ name. inl (and_parts _ _ (and_parts _ _ name).0).0)
+    (λ number. inr (number_parts spelling number))
+    (or_cases _ _ is_id)
+
+-- the space of an identifier has its name
+space_of-identifier : (spelling : List ℕ) → is_identifier spelling ≡ true → space_of spelling ≡ NamedSpace spelling
+space_of-identifier spelling identifier = rw identifier refl
+
+-- what is no text is named by itself
+pub named_by_no_text : (spelling : List ℕ) → is_space_id spelling ≡ true → (IsUtf8 spelling → ⊥) → space_of spelling ≡ NamedSpace spelling
+named_by_no_text spelling is_id no_text =
+    ⊎_elim
+    (space_of-identifier spelling)
+    (λ number. absurd (no_text (digits_are_text spelling number.all_digits)))
+    (space_id_cases spelling is_id)
+
+-- what is read as no number is named by itself
+pub named_by_no_number : (text spelling : List ℕ) → text ≡ spelling → is_space_id spelling ≡ true → ParsesUnsigned {E = ℕ} 32 10 text (Err 0) → space_of spelling ≡ NamedSpace spelling
+named_by_no_number text spelling same is_id parses =
+    let unread = subst (λ (t : List ℕ). ParsesUnsigned {E = ℕ} 32 10 t (Err 0)) same parses in
+    ⊎_elim
+    (space_of-identifier spelling)
+    (λ number. absurd (parse_digits digits {E = ℕ} 32 spelling (Err 0) unread number.all_digits (number.not_empty, number.small)))
+    (space_id_cases spelling is_id)

@@ -1,0 +1,6 @@
+-- A known token has a known name, and what stands behind it is known.
+use Rattle.first_form.proofs.KnownLemmas.{AreKnownTokens-parts}
+use Rattle.first_form.proofs.front.name.Goals as goal
+
+pub returns-then-is_name-clause-known : goal.returns-then-is_name-clause-known
+returns-then-is_name-clause-known c = AreKnownTokens-parts _ _ _ _ c.in_ok-first.ensures.cases.0 c.requires

@@ -1,0 +1,18 @@
+use crate::object::ObjectType;
+
+/// What a rule is broken by, with the types that its warning names.
+#[derive(Clone, Copy, Debug, PartialEq, Eq)]
+pub enum Cause {
+    /// The types of an assignment's target and source are pointers into different address spaces.
+    SpacesMixed(ObjectType, ObjectType),
+    /// A place with a flag is read or written.
+    FlaggedAccess(ObjectType),
+}
+
+/// A rule that fails at a token.
+#[derive(Clone, Copy, Debug, PartialEq, Eq)]
+pub struct Failure {
+    /// The index of the token in the file.
+    pub token: u32,
+    pub cause: Cause,
+}

@@ -1,0 +1,13 @@
+pub mod Ending
+pub mod Words
+pub mod Replied
+pub mod Safe
+pub mod Sinks
+pub mod Written
+pub use Rattle.meaning_answer.specs.Reply
+pub use Rattle.meaning_answer.specs.Command
+pub use Rattle.meaning_answer.specs.Answer
+pub use Rattle.meaning_answer.specs.Delivery
+pub use Rattle.meaning_machine.specs.Runs
+pub use Rattle.meaning_outside.specs.Faults
+pub use Rattle.meaning_outside.specs.Files

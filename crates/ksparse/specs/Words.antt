@@ -1,0 +1,34 @@
+-- What the words of a command are read as.
+use Rattle.std.specs.Prelude.{◌≡◌, ℕ, List, [], ◌∷◌, Some, slice_get}
+use Rattle.sparse_model.specs.declared.class.Class.{Class}
+use Rattle.sparse_model.specs.declared.class.Class.TheVariants.{AddressSpace, Bitwise, Context, NonPointerNull}
+use Rattle.sparse_model.specs.declared.options.Options.{Options}
+use Rattle.meaning_answer.specs.Command as command
+use Rattle.ksparse.specs.declared.command.Command.{Command}
+use Rattle.ksparse.specs.declared.command.Command.TheVariants as commands
+use Rattle.ksparse.specs.declared.command.WordFault.{WordFault}
+use Rattle.ksparse.specs.declared.command.WordFault.TheVariants as faults
+
+-- the classes that are on by default
+abbrev pub default_classes : List Class
+default_classes = AddressSpace ∷ Bitwise ∷ Context ∷ NonPointerNull ∷ []
+
+-- no directory, no macro, and the default classes
+pub record AreDefault (options : Options) : Type 0 where
+  pub dirs : options.dirs ≡ []
+  pub commands : options.commands ≡ []
+  pub classes : options.classes ≡ default_classes
+
+-- what the command is asked for
+abbrev pub request_of : Command → command.Request
+request_of (commands.Check options file) = command.Check file
+
+abbrev pub options_of : Command → Options
+options_of (commands.Check options file) = options
+
+-- the words are at this fault
+abbrev pub IsFaultOf : List (List ℕ) → WordFault → Type 0
+IsFaultOf words (faults.BadWord position) =
+    (word : List ℕ) × (command.request_of words ≡ command.BadWord position word) × (slice_get words position ≡ Some word)
+IsFaultOf words faults.MissingFile = command.request_of words ≡ command.MissingFile
+IsFaultOf words faults.Memory = Unit {0}

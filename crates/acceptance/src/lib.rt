@@ -1,0 +1,22 @@
+//! The top call as its users meet it: words and files in, texts and an exit out.
+//!
+//! Tests alone, each a table whose rows are worked out by hand from the rules. What a contract below
+//! says needs no row here; these rows ask whether the contracts say what was meant.
+#![tactic(auto)]
+
+#[cfg(test)]
+mod bytes;
+#[cfg(test)]
+mod faults;
+#[cfg(test)]
+mod model;
+#[cfg(test)]
+mod pairs;
+#[cfg(test)]
+mod run;
+#[cfg(test)]
+mod sizes;
+#[cfg(test)]
+mod texts;
+#[cfg(test)]
+mod words;

@@ -1,10 +1,6 @@
--- The bytes of which a file in the first form is made.
-use Rattle.std.specs.Prelude.{ℕ, Bool, ◌==◌, ◌||◌, codes}
-use Rattle.std.specs.List.{list_any}
+-- The bytes that the tokens of C11 tell apart. A character is a byte.
+use Rattle.std.specs.Prelude.{ℕ, Bool, ◌==◌, ◌||◌}
 use Rattle.std.specs.Char.{is_ascii_alphabetic, is_ascii_digit}
-
-abbrev pub space : ℕ
-space = 32
 
 abbrev pub tab : ℕ
 tab = 9
@@ -12,12 +8,79 @@ tab = 9
 abbrev pub new_line : ℕ
 new_line = 10
 
+abbrev pub vertical_tab : ℕ
+vertical_tab = 11
+
+abbrev pub form_feed : ℕ
+form_feed = 12
+
+abbrev pub space : ℕ
+space = 32
+
+abbrev pub double_quote : ℕ
+double_quote = 34
+
+abbrev pub single_quote : ℕ
+single_quote = 39
+
+abbrev pub star : ℕ
+star = 42
+
+abbrev pub plus : ℕ
+plus = 43
+
+abbrev pub minus : ℕ
+minus = 45
+
+abbrev pub dot : ℕ
+dot = 46
+
+abbrev pub slash : ℕ
+slash = 47
+
+abbrev pub digit_8 : ℕ
+digit_8 = 56
+
+abbrev pub less : ℕ
+less = 60
+
+abbrev pub greater : ℕ
+greater = 62
+
+abbrev pub upper_e : ℕ
+upper_e = 69
+
+abbrev pub upper_l : ℕ
+upper_l = 76
+
+abbrev pub upper_p : ℕ
+upper_p = 80
+
+abbrev pub upper_u : ℕ
+upper_u = 85
+
+abbrev pub backslash : ℕ
+backslash = 92
+
 abbrev pub underscore : ℕ
 underscore = 95
 
--- white space between tokens (C11 6.4 p3, without vertical tab and form feed)
+abbrev pub lower_e : ℕ
+lower_e = 101
+
+abbrev pub lower_p : ℕ
+lower_p = 112
+
+abbrev pub lower_u : ℕ
+lower_u = 117
+
+-- white space inside a line (C11 6.4 p3)
 abbrev pub is_blank : ℕ → Bool
-is_blank b = b == space || b == tab || b == new_line
+is_blank b = b == space || b == tab || b == vertical_tab || b == form_feed
+
+-- white space between tokens (6.4 p3)
+abbrev pub is_white : ℕ → Bool
+is_white b = is_blank b || b == new_line
 
 -- a letter or an underscore, with which an identifier begins (6.4.2.1)
 abbrev pub is_nondigit : ℕ → Bool
@@ -27,10 +90,17 @@ is_nondigit b = is_ascii_alphabetic b || b == underscore
 abbrev pub is_word_byte : ℕ → Bool
 is_word_byte b = is_nondigit b || is_ascii_digit b
 
--- a punctuator of the first form, each one byte long (6.4.6)
-abbrev pub is_mark : ℕ → Bool
-is_mark b = list_any (λ mark. b == mark) (codes "(){}*&=,;")
+-- the letters behind which a sign goes on with a number (6.4.8)
+abbrev pub is_exponent : ℕ → Bool
+is_exponent b = b == lower_e || b == upper_e || b == lower_p || b == upper_p
 
--- a byte that a file in the first form may have
-abbrev pub is_plain : ℕ → Bool
-is_plain b = is_blank b || is_word_byte b || is_mark b
+abbrev pub is_sign : ℕ → Bool
+is_sign b = b == plus || b == minus
+
+-- what a character constant or a string literal opens with (6.4.4.4, 6.4.5)
+abbrev pub is_quotation_mark : ℕ → Bool
+is_quotation_mark b = b == single_quote || b == double_quote
+
+-- a prefix of character constants and string literals that is one letter (6.4.4.4, 6.4.5)
+abbrev pub is_prefix_letter : ℕ → Bool
+is_prefix_letter b = b == upper_l || b == lower_u || b == upper_u

@@ -1,6 +1,14 @@
 pub mod Bytes
 pub mod Places
+pub mod Logical
+pub mod Words
+pub mod Quoted
+pub mod Comments
+pub mod Punctuators
+pub mod Kinds
 pub mod Tokens
+pub mod Fronts
 pub mod Lexing
 pub mod Laws
 pub mod Examples
+pub mod Terminals

@@ -1,39 +1,163 @@
--- The tokens of a text (C11 6.4), for texts of the first form.
-use Rattle.std.specs.Prelude.{◌≡◌, ℕ, ◌<◌, ◌≤◌, List, [], ◌∷◌, ◌++◌, length, take, true, ◌⊎◌}
-use Rattle.std.specs.List.{list_all}
-use Rattle.meaning_text.specs.Bytes.{is_blank, is_word_byte, is_mark}
-use Rattle.meaning_text.specs.Places.{At, behind}
+-- The tokens of a text (C11 6.4), as a relation on whole texts.
+use Rattle.std.specs.Prelude.{◌≡◌, ℕ, ◌<◌, ◌≤◌, Bool, true, false, ◌&&◌, ◌==◌, List, [], ◌∷◌, ◌++◌, length, take, Option, Some, None, codes, ⊤, if◌then◌else◌}
+use Rattle.std.specs.List.{list_any}
+use Rattle.std.specs.Str.{bytes_eq}
+use Rattle.meaning_text.specs.Bytes.{new_line, is_white, is_quotation_mark}
+use Rattle.meaning_text.specs.Places.{At}
+use Rattle.meaning_text.specs.Logical.{SourceByte, bytes_of, logical_text}
+use Rattle.meaning_text.specs.Comments.{begins_comment, begins_block_comment, is_block_comment, is_line_comment, is_line_end}
+use Rattle.meaning_text.specs.Kinds.{Kind, Identifier, Number, Character, String, HeaderName, Punctuator, Stray, kind_in}
 
--- a token, as it is spelled, and where it begins
 pub record Tok : Type 0 where
+  pub kind : Kind
+  -- its spelling, without the pairs of backslash and new-line that were in it
   pub text : List ℕ
+  -- where its first byte stands
   pub at : At
+  -- white space stands directly before it; comments and new-lines count
+  pub space_before : Bool
+  -- it is the first token of its line
+  pub line_start : Bool
 
--- a word, which is an identifier, a keyword or a number
-abbrev pub IsWord : List ℕ → Type 0
-IsWord text = (0 < length text) × (list_all is_word_byte text ≡ true)
+-- What stands between tokens
 
--- a punctuator
-abbrev pub IsMark : List ℕ → Type 0
-IsMark text = (b : ℕ) × (text ≡ b ∷ []) × (is_mark b ≡ true)
+pub data Piece : Type 0 where
+  White : SourceByte → Piece
+  LineComment : List SourceByte → Piece
+  BlockComment : List SourceByte → Piece
 
-abbrev pub IsToken : List ℕ → Type 0
-IsToken text = IsWord text ⊎ IsMark text
+abbrev pub piece_text : Piece → List SourceByte
+piece_text (White b) = b ∷ []
+piece_text (LineComment text) = text
+piece_text (BlockComment text) = text
+
+-- A piece before such a text is what it is called; a comment that begins with `//` goes on to the end of the line.
+abbrev pub is_piece : Piece → List SourceByte → Bool
+is_piece (White b) rest = is_white b.byte
+is_piece (LineComment text) rest = is_line_comment (bytes_of text) && is_line_end (bytes_of rest)
+is_piece (BlockComment text) rest = is_block_comment (bytes_of text)
+
+-- it ends a line: a new-line inside a comment doesn't
+abbrev pub ends_line : Piece → Bool
+ends_line (White b) = b.byte == new_line
+ends_line (LineComment text) = false
+ends_line (BlockComment text) = false
+
+abbrev pub Gap : Type 0
+Gap = List Piece
+
+abbrev pub gap_text : Gap → List SourceByte
+gap_text [] = []
+gap_text (piece ∷ gap) = piece_text piece ++ gap_text gap
+
+-- the pieces are white space and comments before such a text
+abbrev pub IsGap : Gap → List SourceByte → Type 0
+IsGap [] rest = ⊤
+IsGap (piece ∷ gap) rest = (is_piece piece (gap_text gap ++ rest) ≡ true) × IsGap gap rest
+
+abbrev pub is_some_gap : Gap → Bool
+is_some_gap [] = false
+is_some_gap (piece ∷ gap) = true
+
+-- What the tokens before make of a place in a text: header names exist directly behind `include` directly behind
+-- the `#` that is first in its line (6.4 p4, 6.10 p2).
+pub data Context : Type 0 where
+  AtLineStart : Context
+  BehindHash : Context
+  BehindInclude : Context
+  Elsewhere : Context
+
+abbrev pub allows_header_name : Context → Bool
+allows_header_name AtLineStart = false
+allows_header_name BehindHash = false
+allows_header_name BehindInclude = true
+allows_header_name Elsewhere = false
+
+abbrev pub is_line_start : Context → Bool
+is_line_start AtLineStart = true
+is_line_start BehindHash = false
+is_line_start BehindInclude = false
+is_line_start Elsewhere = false
+
+abbrev pub behind_gap : Context → Gap → Context
+behind_gap context gap = if list_any ends_line gap then AtLineStart else context
+
+-- `#`, also where it is spelled as a digraph
+abbrev pub is_hash : Kind → Bool
+is_hash Identifier = false
+is_hash Number = false
+is_hash Character = false
+is_hash String = false
+is_hash HeaderName = false
+is_hash (Punctuator stands_for) = bytes_eq stands_for (codes "#")
+is_hash Stray = false
+
+abbrev pub behind_token : Context → Kind → List ℕ → Context
+behind_token AtLineStart kind text = if is_hash kind then BehindHash else Elsewhere
+behind_token BehindHash kind text = if bytes_eq text (codes "include") then BehindInclude else Elsewhere
+behind_token BehindInclude kind text = Elsewhere
+behind_token Elsewhere kind text = Elsewhere
 
 -- no longer front of the text and what follows it is a token (6.4 p4)
-abbrev pub IsLongest : List ℕ → List ℕ → Type 0
-IsLongest text rest = (k : ℕ) → 0 < k → k ≤ length rest → IsToken (text ++ take k rest) → ⊥
+abbrev pub IsLongest : Bool → List ℕ → List ℕ → Type 0
+IsLongest allowed text rest =
+    (k : ℕ) → 0 < k → k ≤ length rest → kind_in allowed (text ++ take k rest) ≡ None
 
--- At this place the text begins with these blanks, then the token, then the rest.
-pub record BeginsWith (at : At) (text blanks : List ℕ) (token : Tok) (rest : List ℕ) : Type 0 where
-  pub split : text ≡ blanks ++ token.text ++ rest
-  pub blank : list_all is_blank blanks ≡ true
-  pub is_token : IsToken token.text
-  pub longest : IsLongest token.text rest
-  pub place : token.at ≡ behind at blanks
+abbrev pub place_of : List SourceByte → Option At
+place_of [] = None
+place_of (b ∷ text) = Some b.at
 
--- The tokens, with the blanks between them, make up the text in order, each as long as it can be.
-abbrev pub Lexes : At → List ℕ → List Tok → Type 0
-Lexes at text [] = list_all is_blank text ≡ true
-Lexes at text (token ∷ tokens) =
-    (blanks rest : List ℕ) × BeginsWith at text blanks token rest × Lexes (behind token.at token.text) rest tokens
+-- In this context the text is the gap, the bytes of the token, and the rest.
+pub record BeginsWith (context : Context) (text : List SourceByte) (gap : Gap) (token : Tok) (spelled rest : List SourceByte) : Type 0 where
+  pub split : text ≡ gap_text gap ++ spelled ++ rest
+  pub is_gap : IsGap gap (spelled ++ rest)
+  pub no_comment : begins_comment (bytes_of (spelled ++ rest)) ≡ false
+  pub kind : kind_in (allows_header_name (behind_gap context gap)) (bytes_of spelled) ≡ Some token.kind
+  pub longest : IsLongest (allows_header_name (behind_gap context gap)) (bytes_of spelled) (bytes_of rest)
+  pub spelling : bytes_of spelled ≡ token.text
+  pub place : place_of spelled ≡ Some token.at
+  pub space_before : is_some_gap gap ≡ token.space_before
+  pub line_start : is_line_start (behind_gap context gap) ≡ token.line_start
+
+-- The text begins with these tokens, each behind a gap and as long as it can be. Behind a last gap stands what is
+-- told of the context and the rest there.
+abbrev pub TokensUpTo : (Context → List SourceByte → Type 0) → Context → List SourceByte → List Tok → Type 0
+TokensUpTo End context text [] =
+    (gap : Gap) × (rest : List SourceByte) × (text ≡ gap_text gap ++ rest) × IsGap gap rest × End (behind_gap context gap) rest
+TokensUpTo End context text (token ∷ tokens) =
+    (gap : Gap) × (spelled rest : List SourceByte) × BeginsWith context text gap token spelled rest
+    × TokensUpTo End (behind_token (behind_gap context gap) token.kind token.text) rest tokens
+
+abbrev pub IsEnd : Context → List SourceByte → Type 0
+IsEnd context rest = rest ≡ []
+
+-- The tokens, with the gaps between them, make up the text in order.
+abbrev pub Lexes : Context → List SourceByte → List Tok → Type 0
+Lexes context text tokens = TokensUpTo IsEnd context text tokens
+
+-- why a text has no tokens: what opens here is never closed
+pub data LexFault : Type 0 where
+  OpenComment : At → LexFault
+  OpenLiteral : At → LexFault
+
+-- Here opens a comment of which no front of the rest is the whole (6.4.9 p1), or a quotation mark stands here with
+-- which no token begins.
+abbrev pub IsFaultAt : LexFault → Context → List SourceByte → Type 0
+IsFaultAt fault context [] = ⊥
+IsFaultAt (OpenComment at) context (b ∷ rest) =
+    (b.at ≡ at) × (begins_block_comment (bytes_of (b ∷ rest)) ≡ true)
+    × ((k : ℕ) → is_block_comment (take k (bytes_of (b ∷ rest))) ≡ false)
+IsFaultAt (OpenLiteral at) context (b ∷ rest) =
+    (b.at ≡ at) × (is_quotation_mark b.byte ≡ true)
+    × ((k : ℕ) → kind_in (allows_header_name context) (take k (bytes_of (b ∷ rest))) ≡ None)
+
+-- behind some tokens the text has this fault
+abbrev pub Opens : Context → List SourceByte → LexFault → Type 0
+Opens context text fault = (tokens : List Tok) × TokensUpTo (IsFaultAt fault) context text tokens
+
+-- The tokens of a file with this number, and the fault of one that has none.
+abbrev pub LexesFile : ℕ → List ℕ → List Tok → Type 0
+LexesFile file bytes tokens = Lexes AtLineStart (logical_text file bytes) tokens
+
+abbrev pub OpensFile : ℕ → List ℕ → LexFault → Type 0
+OpensFile file bytes fault = Opens AtLineStart (logical_text file bytes) fault

@@ -1,0 +1,41 @@
+-- Worked examples: counts of faults before and after a call.
+use Rattle.std.specs.Prelude.{ℕ, ◌-◌, ◌^◌, ⊤}
+use Rattle.meaning_outside.specs.Faults.{Rose, Told, ToldOfTwo}
+
+-- the greatest count
+abbrev pub end_of_counts : ℕ
+end_of_counts = 2 ^ 64 - 1
+
+pub record RisenExamples : Type 0 where
+  pub by_one : Rose 0 1
+  pub by_more : Rose 3 5
+  pub to_the_end : Rose (end_of_counts - 1) end_of_counts
+  -- a count at the end can't rise, and says nothing
+  pub at_the_end : Rose end_of_counts end_of_counts
+  pub not_standing : Rose 0 0 → ⊥
+  pub not_standing_before_the_end : Rose (end_of_counts - 1) (end_of_counts - 1) → ⊥
+  pub not_falling : Rose 2 1 → ⊥
+
+-- A call fails (⊤), or it doesn't (⊥).
+pub record ToldExamples : Type 0 where
+  pub fault : Told 0 1 ⊤
+  pub several_faults : Told 3 5 ⊤
+  pub no_fault : Told 3 3 ⊥
+  -- at the end either answer may come
+  pub fault_at_the_end : Told end_of_counts end_of_counts ⊤
+  pub no_fault_at_the_end : Told end_of_counts end_of_counts ⊥
+  pub not_without_a_rise : Told 3 3 ⊤ → ⊥
+  pub not_kept_back : Told 3 4 ⊥ → ⊥
+  pub not_falling : Told 3 2 ⊥ → ⊥
+
+-- the counts of `out` before and after the call, and then those of `err`
+pub record TwoSinkExamples : Type 0 where
+  pub out_alone : ToldOfTwo 0 1 7 7 ⊤
+  pub err_alone : ToldOfTwo 7 7 0 1 ⊤
+  pub both : ToldOfTwo 0 1 7 8 ⊤
+  pub no_fault : ToldOfTwo 7 7 3 3 ⊥
+  pub not_without_a_rise : ToldOfTwo 7 7 3 3 ⊤ → ⊥
+  pub out_not_kept_back : ToldOfTwo 7 8 3 3 ⊥ → ⊥
+  pub err_not_kept_back : ToldOfTwo 7 7 3 4 ⊥ → ⊥
+  pub out_not_falling : ToldOfTwo 7 6 3 4 ⊤ → ⊥
+  pub err_not_falling : ToldOfTwo 7 8 3 2 ⊤ → ⊥

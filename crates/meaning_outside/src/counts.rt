@@ -1,0 +1,8 @@
+ghost use Rattle.meaning_outside.specs.Examples.{RisenExamples, ToldExamples, TwoSinkExamples};
+
+/// Counts rise, and calls tell of it, where one can tell so by eye.
+pub fn worked_examples()
+    ensures risen { RisenExamples }
+    ensures told { ToldExamples }
+    ensures of_two { TwoSinkExamples }
+{}

@@ -1,3 +1,4 @@
 pub mod Types
 pub mod Spaces
 pub mod Spelling
+pub mod Examples

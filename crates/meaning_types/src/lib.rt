@@ -1,4 +1,9 @@
 //! Types as trees, with their qualifiers and flags, and what the rules on address spaces ask of them.
 //!
-//! Definitions alone, over pure shapes. Start reading at `specs/Types.antt`.
+//! Definitions over pure shapes. [`types`] has the examples that hold of them. Start reading at
+//! `specs/Types.antt`.
 #![tactic(auto)]
+
+mod types;
+
+pub use types::worked_examples;

@@ -1,0 +1,4 @@
+pub mod Runs
+pub mod ElementLemmas
+pub mod GrammarLemmas
+pub mod IntegerLemmas

@@ -1,0 +1,19 @@
+-- What a literal is, or why it is none.
+use Rattle.std.specs.Prelude.{ℕ}
+use Rattle.meaning_types.specs.Types.{Kind}
+
+-- an integer constant: its kind, and its value modulo 2^64
+pub record Constant : Type 0 where
+  pub kind : Kind
+  pub bits : ℕ
+
+-- the one reason for which a literal is refused
+pub data Fault : Type 0 where
+  BadDigitFault : Fault
+  BadSuffixFault : Fault
+  TooBigFault : Fault
+  FloatingFault : Fault
+  BadEscapeFault : Fault
+  EmptyFault : Fault
+  WideFault : Fault
+  UniversalFault : Fault

@@ -1,0 +1,11 @@
+pub mod Bytes
+pub mod Numbers
+pub mod Suffixes
+pub mod Kinds
+pub mod Constants
+pub mod Integers
+pub mod Elements
+pub mod Grammar
+pub mod Quoted
+pub mod Laws
+pub mod Examples

@@ -1,0 +1,31 @@
+use crate::ids::NameId;
+use crate::node_kind::NodeKind;
+use crate::role::Role;
+
+/// A node with all that stands below it, which is the value that a node of a unit has.
+///
+/// Nothing builds one: a unit keeps its nodes in a list, and this is what contracts call the value of a
+/// node. They see it as the `Tree` of `meaning_tree`, by `tree_of` in `specs/Values.antt` of `c_tree`.
+#[derive(Debug, Drop)]
+#[cycle(tree)]
+pub struct Tree {
+    pub kind: NodeKind,
+    /// The index of the token at which the node stands.
+    pub token: u32,
+    /// The spelling that the node holds, or the empty one.
+    pub name: NameId,
+    /// The number that the node holds, or 0.
+    pub number: u64,
+    pub parts: TreeList,
+}
+
+/// The parts of a tree in order.
+pub type TreeList = Vec<Part>;
+
+/// A tree below another, and what it is for that one.
+#[derive(Debug, Drop)]
+#[cycle(tree)]
+pub struct Part {
+    pub role: Role,
+    pub tree: Tree,
+}

@@ -1,4 +1,8 @@
-pub mod FrontLemmas
+pub mod AnswerLemmas
+pub mod CursorLemmas
+pub mod LexLemmas
+pub mod PunctuatorLemmas
+pub mod RemainingLemmas
 pub mod SeenLemmas
-pub mod StepLemmas
 pub mod TableLemmas
+pub mod WordLemmas

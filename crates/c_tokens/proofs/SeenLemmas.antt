@@ -6,7 +6,7 @@ use Rattle.std.proofs.lemmas.List.Elements.{All-head, All-tail, All-push, All-we
 use Rattle.sparse_model.specs.declared.ids.NameId.{NameId}
 use Rattle.c_tokens.specs.declared.token.Token.{Token}
 use Rattle.c_tokens.specs.Spellings.{AreApart}
-use Rattle.c_tokens.specs.Seen.{text_of, at_of, tok_of, toks_of, IsKnown, Extends}
+use Rattle.c_tokens.specs.Seen.{text_of, tok_of, toks_of, IsKnown, Extends}
 
 -- an element of a list stays where more come behind it
 pub slice_get-append : {X : Type 0} (xs ys : List X) (i : ℕ) → i < length xs → slice_get (xs ++ ys) i ≡ slice_get xs i
@@ -44,14 +44,14 @@ toks_of-Extends old new extends [] known = refl
 toks_of-Extends old new extends (token ∷ tokens) known =
     let here = text_of-Extends old new extends token.name (All-head (λ (t : Token). IsKnown old t.name) token tokens known) in
     let later = toks_of-Extends old new extends tokens (All-tail (λ (t : Token). IsKnown old t.name) token tokens known) in
-    λ i. record { text = here i; at = (tok_of old token).at } ∷ later i
+    λ i. record (tok_of old token) { text = here i } ∷ later i
 
 -- a pushed token is seen behind the others, with the spelling that its id has
-pub toks_of-push : (old new : List (List ℕ)) (tokens : List Token) (token : Token) (spelling : List ℕ) → Extends old new → All (λ t. IsKnown old t.name) tokens → slice_get new token.name.0 ≡ Some spelling → toks_of new (tokens ++ token ∷ []) ≡ toks_of old tokens ++ record { text = spelling; at = at_of token.place } ∷ []
+pub toks_of-push : (old new : List (List ℕ)) (tokens : List Token) (token : Token) (spelling : List ℕ) → Extends old new → All (λ t. IsKnown old t.name) tokens → slice_get new token.name.0 ≡ Some spelling → toks_of new (tokens ++ token ∷ []) ≡ toks_of old tokens ++ record (tok_of new token) { text = spelling } ∷ []
 toks_of-push old new tokens token spelling extends known stands =
     let spelled : text_of new token.name ≡ spelling = ap (λ found. unwrap_or found []) stands in
     let before = toks_of-Extends old new extends tokens known in
-    map-append (tok_of new) tokens (token ∷ []) ∙ (λ i. before i ++ record { text = spelled i; at = at_of token.place } ∷ [])
+    map-append (tok_of new) tokens (token ∷ []) ∙ (λ i. before i ++ record (tok_of new token) { text = spelled i } ∷ [])
 
 -- known ids stay known, and the pushed one joins them
 pub AreKnown-push : (old new : List (List ℕ)) (tokens : List Token) (token : Token) → Extends old new → All (λ t. IsKnown old t.name) tokens → IsKnown new token.name → All (λ t. IsKnown new t.name) (tokens ++ token ∷ [])

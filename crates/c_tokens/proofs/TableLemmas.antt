@@ -11,7 +11,7 @@ use Rattle.indexmap.specs.IndexSet.{insert_key}
 use Rattle.std.proofs.lemmas.Map.Keys.{apart_from_distinct}
 use Rattle.std.proofs.lemmas.Option.{slice_get-map, slice_get-get_or, slice_get_within, same_Some, none-some}
 use Rattle.std.proofs.lemmas.Slice.Eq.{bytes_eq-Decides}
-use Rattle.c_tokens.specs.Spellings.{AreApart, is_among, with_spelling}
+use Rattle.c_tokens.specs.Spellings.{AreApart, is_among, with_spelling, with_spellings}
 
 -- equal bytes are one spelling
 same_bytes : (a b : List ℕ) → bytes_eq a b ≡ true → a ≡ b
@@ -69,6 +69,11 @@ with_spelling-known names text among = ap (λ found. if found then names else na
 -- a new spelling goes last
 pub with_spelling-new : (names : List (List ℕ)) (text : List ℕ) → is_among text names ≡ false → with_spelling names text ≡ names ++ text ∷ []
 with_spelling-new names text absent = ap (λ found. if found then names else names ++ text ∷ []) absent
+
+-- a further text joins the table behind the others
+pub with_spellings-push : (names texts : List (List ℕ)) (text : List ℕ) → with_spellings names (texts ++ text ∷ []) ≡ with_spelling (with_spellings names texts) text
+with_spellings-push names [] text = refl
+with_spellings-push names (first ∷ texts) text = with_spellings-push (with_spelling names first) texts text
 
 -- the last of the spellings
 pub slice_get-last : (names : List (List ℕ)) (text : List ℕ) → slice_get (names ++ text ∷ []) (length names) ≡ Some text

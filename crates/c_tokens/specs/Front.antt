@@ -1,16 +1,14 @@
--- The token at the front of a text.
-use Rattle.std.specs.Prelude.{◌≡◌, ◌<◌, ◌≤◌, ℕ, List, [], ◌∷◌, length, take, drop, false}
-use Rattle.meaning_text.specs.Bytes.{is_word_byte, is_mark}
-use Rattle.meaning_text.specs.Tokens.{IsToken, IsLongest}
+-- How the front of a text is seen.
+use Rattle.meaning_text.specs.Fronts as fronts
+use Rattle.c_tokens.specs.declared.front.Front.{Front}
+use Rattle.c_tokens.specs.declared.front.Front.TheVariants.{End, NewLine, Blank, Comment, Token, OpenComment, OpenLiteral}
+use Rattle.c_tokens.specs.Seen.{kind_of}
 
--- no token begins with the first byte
-abbrev pub HasNoToken : List ℕ → Type 0
-HasNoToken [] = Unit {0}
-HasNoToken (b ∷ text) = (is_word_byte b ≡ false) × (is_mark b ≡ false)
-
--- the first bytes, so many of them, are the token that the text begins with
-pub record IsFront (text : List ℕ) (count : ℕ) : Type 0 where
-  pub some : 0 < count
-  pub within : count ≤ length text
-  pub is_token : IsToken (take count text)
-  pub longest : IsLongest (take count text) (drop count text)
+abbrev pub front_seen : Front → fronts.Front
+front_seen End = fronts.AtEnd
+front_seen NewLine = fronts.AtNewLine
+front_seen Blank = fronts.AtBlank
+front_seen (Comment count) = fronts.AtComment count
+front_seen (Token kind count) = fronts.AtToken (kind_of kind) count
+front_seen OpenComment = fronts.AtOpenComment
+front_seen OpenLiteral = fronts.AtOpenLiteral

@@ -1,8 +1,8 @@
+pub mod Context
+pub mod Cursor
+pub mod Found
 pub mod Front
+pub mod Remaining
 pub mod Seen
 pub mod Spellings
 pub mod Table
-pub use Rattle.meaning_text.specs.Bytes
-pub use Rattle.meaning_text.specs.Lexing
-pub use Rattle.meaning_text.specs.Places
-pub use Rattle.meaning_text.specs.Tokens

@@ -11,6 +11,11 @@ is_among text names = list_any (bytes_eq text) names
 abbrev pub with_spelling : List (List ℕ) → List ℕ → List (List ℕ)
 with_spelling names text = if is_among text names then names else names ++ text ∷ []
 
+-- the table after these texts join it, one behind the other
+abbrev pub with_spellings : List (List ℕ) → List (List ℕ) → List (List ℕ)
+with_spellings names [] = names
+with_spellings names (text ∷ texts) = with_spellings (with_spelling names text) texts
+
 -- no spelling stands twice
 abbrev pub AreApart : List (List ℕ) → Type 0
 AreApart names = (i j : ℕ) (text : List ℕ) → slice_get names i ≡ Some text → slice_get names j ≡ Some text → i ≡ j

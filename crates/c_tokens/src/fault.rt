@@ -1,30 +1,33 @@
 ghost use Rattle.std.specs.Prelude.{◌≡◌};
-ghost use Rattle.c_tokens.specs.declared.fault.PlainFault.TheVariants.{Memory};
+ghost use Rattle.c_tokens.specs.declared.fault.LexFault.TheVariants.{Memory};
 
+use sparse_model::Place;
 use std::alloc::{AllocError, AllocFailed};
 use thiserror::Error;
 
-/// Why a file has no tokens in the first form.
+/// Why a text has no tokens: what opens at the place is never closed. Or memory was wanting.
 #[derive(Clone, Copy, Debug, PartialEq, Eq, Error)]
-pub enum PlainFault {
-    #[error("a byte that the first form doesn't have")]
-    NotBuilt,
+pub enum LexFault {
+    #[error("unterminated comment")]
+    OpenComment(Place),
+    #[error("unterminated literal")]
+    OpenLiteral(Place),
     #[error("out of memory")]
     Memory,
 }
 
-impl From<AllocError> for PlainFault {
+impl From<AllocError> for LexFault {
     ghost from_gives = { λ _ fault. fault ≡ Memory };
 
-    fn from(_error: AllocError) -> PlainFault {
-        PlainFault::Memory
+    fn from(_error: AllocError) -> LexFault {
+        LexFault::Memory
     }
 }
 
-impl<T: Drop> From<AllocFailed<T>> for PlainFault {
+impl<T: Drop> From<AllocFailed<T>> for LexFault {
     ghost from_gives = { λ _ fault. fault ≡ Memory };
 
-    fn from(_refused: AllocFailed<T>) -> PlainFault {
-        PlainFault::Memory
+    fn from(_refused: AllocFailed<T>) -> LexFault {
+        LexFault::Memory
     }
 }

@@ -1,19 +1,28 @@
-//! The tokens of a file in the first form: identifiers, keywords, numbers and marks (C11 6.4).
+//! The tokens of a text (C11 6.4).
 //!
-//! Bytes come in, and tokens go out, each with its spelling as an id and the place where it begins.
-//! Nothing here knows what a token means. What the tokens of a text are is said in `meaning_text`,
-//! and how a [`Token`] is seen there in `specs/Seen.antt`. Start reading at [`lex_plain`].
+//! Bytes come in, and tokens go out, each with its kind, its spelling as an id, and the place where
+//! it begins. Nothing here knows what a token means. What the tokens of a text are is said in
+//! `meaning_text`, and how a [`Token`] is seen there in `specs/Seen.antt`. Start reading at [`lex`].
 #![tactic(auto)]
 
-mod bytes;
+mod comments;
+mod context;
+mod cursor;
 mod fault;
-mod lex;
+mod front;
 mod names;
+#[cfg(test)]
+mod pairs;
+mod punctuators;
+mod quoted;
+mod scanner;
 #[cfg(test)]
 mod tests;
 mod token;
+mod words;
 
-pub use fault::PlainFault;
-pub use lex::lex_plain;
+pub use fault::LexFault;
 pub use names::Names;
+pub use punctuators::punctuator;
+pub use scanner::lex;
 pub use token::Token;

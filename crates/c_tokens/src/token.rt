@@ -1,8 +1,19 @@
-use sparse_model::{NameId, Place};
+use sparse_model::{NameId, Place, TokenKind};
+use std::mem::size_of;
 
-/// A token of a file: the id of its spelling, and where its first byte stands.
+/// A token of a file (C11 6.4).
 #[derive(Clone, Copy, Debug, PartialEq, Eq)]
 pub struct Token {
+    pub kind: TokenKind,
+    /// The id of its spelling, which has no splices.
     pub name: NameId,
+    /// Where its first byte stands.
     pub place: Place,
+    /// White space stands directly before it; comments and new-lines count.
+    pub space_before: bool,
+    /// It is the first token of its line.
+    pub line_start: bool,
 }
+
+// There are millions of them.
+const _: () = prove!(size_of::<Token>() <= 32);

@@ -1,0 +1,14 @@
+use Rattle.std.proofs.Common.{◌≡◌, ◌+◌, ◌≤◌, ◌^◌, length}
+use Rattle.meaning_text.specs.Fronts.{line_length}
+use Rattle.c_tokens.specs.Cursor.{ahead}
+use Rattle.c_tokens.proofs.comments.line_length.Given as goal
+
+abbrev pub invariant-loop-cursor : goal.invariant-loop-cursor
+invariant-loop-cursor l =
+    record {
+      counted : l.count + line_length (ahead l.cursor) ≡ line_length (ahead l.start);
+      within : l.count + length (ahead l.cursor) ≤ 2 ^ 31;
+    }
+
+abbrev pub decreases-loop-cursor : goal.decreases-loop-cursor
+decreases-loop-cursor l = length (ahead l.cursor)

@@ -1,0 +1,140 @@
+//! Identifiers and preprocessing numbers (C11 6.4.2.1, 6.4.8), by the bytes that go on with one.
+ghost use Rattle.std.specs.Prelude.{◌≡◌, ◌^◌, ◌<◌, ◌≤◌, length, IsTrue, false};
+ghost use Rattle.meaning_text.specs.Bytes.{is_exponent, is_nondigit, is_sign, is_word_byte};
+ghost use Rattle.meaning_text.specs.Words.{begins_hexadecimal, begins_identifier, begins_number, number_goes_on, sign_behind, universal_left, universal_length, word_goes_on};
+ghost use Rattle.meaning_text.specs.Fronts.{number_tail_length, word_length};
+ghost use Rattle.c_tokens.specs.Cursor.{ahead};
+
+use crate::cursor::Cursor;
+
+// A letter or an underscore, with which an identifier begins.
+fn is_nondigit(byte: u8) -> bool
+    ensures { result ≡ is_nondigit byte }
+{
+    byte.is_ascii_alphabetic() || byte == b'_'
+}
+
+// A byte of identifiers and numbers.
+fn is_word_byte(byte: u8) -> bool
+    ensures { result ≡ is_word_byte byte }
+{
+    is_nondigit(byte) || byte.is_ascii_digit()
+}
+
+// The text begins with so many hexadecimal digits.
+fn begins_hexadecimal(start: &Cursor<'_>, count: usize) -> bool
+    ensures { result ≡ begins_hexadecimal count (ahead start.now) }
+{
+    let mut cursor = *start;
+    let mut left = count;
+    while left > 0 {
+        if !cursor.byte().is_ascii_hexdigit() {
+            return false;
+        }
+        cursor = cursor.next();
+        left -= 1;
+    }
+    true
+}
+
+// The length of the universal character name with which the text begins, or 0 (6.4.3).
+fn universal_length(cursor: &Cursor<'_>) -> usize
+    ensures length { result ≡ universal_length (ahead cursor.now) }
+    ensures bound { result ≤ 10 }
+{
+    if cursor.byte() != b'\\' {
+        return 0;
+    }
+    let second = cursor.next();
+    let letter = second.byte();
+    let digits = second.next();
+    if letter == b'u' && begins_hexadecimal(&digits, 4) {
+        return 6;
+    }
+    if letter == b'U' && begins_hexadecimal(&digits, 8) {
+        return 10;
+    }
+    0
+}
+
+// The byte goes on with an identifier.
+fn word_goes_on(cursor: &Cursor<'_>) -> bool
+    ensures goes_on { result ≡ word_goes_on (ahead cursor.now) }
+    ensures some { IsTrue result → 0 < length (ahead cursor.now) }
+{
+    is_word_byte(cursor.byte()) || universal_length(cursor) > 0
+}
+
+/// The text begins with an identifier.
+pub(crate) fn begins_identifier(cursor: &Cursor<'_>) -> bool
+    ensures { result ≡ begins_identifier (ahead cursor.now) }
+{
+    is_nondigit(cursor.byte()) || universal_length(cursor) > 0
+}
+
+/// How many bytes go on with an identifier.
+pub(crate) fn word_length(start: &Cursor<'_>) -> usize
+    ensures { result ≡ word_length (ahead start.now) }
+{
+    let mut cursor = *start;
+    let mut count = 0;
+    while word_goes_on(&cursor) {
+        cursor = cursor.next();
+        count += 1;
+    }
+    count
+}
+
+/// The text begins with a number.
+pub(crate) fn begins_number(cursor: &Cursor<'_>) -> bool
+    ensures { result ≡ begins_number (ahead cursor.now) }
+{
+    let byte = cursor.byte();
+    byte.is_ascii_digit() || (byte == b'.' && cursor.next().byte().is_ascii_digit())
+}
+
+// The byte goes on with a number.
+fn number_goes_on(cursor: &Cursor<'_>, sign_may_stand: bool) -> bool
+    ensures goes_on { result ≡ number_goes_on sign_may_stand (ahead cursor.now) }
+    ensures some { IsTrue result → 0 < length (ahead cursor.now) }
+{
+    let byte = cursor.byte();
+    word_goes_on(cursor) || byte == b'.' || (sign_may_stand && matches!(byte, b'+' | b'-'))
+}
+
+// How many bytes of a universal character name are left behind the byte.
+fn universal_left(left: usize, cursor: &Cursor<'_>) -> usize
+    ensures { result ≡ universal_left left (ahead cursor.now) }
+{
+    let length = universal_length(cursor);
+    if length > 0 {
+        length - 1
+    } else {
+        left.saturating_sub(1)
+    }
+}
+
+// A sign may stand behind the byte.
+fn sign_behind(left: usize, byte: u8) -> bool
+    ensures { result ≡ sign_behind left byte }
+{
+    left == 0 && matches!(byte, b'e' | b'E' | b'p' | b'P')
+}
+
+/// How many bytes behind the first go on with a number.
+pub(crate) fn number_tail_length(start: &Cursor<'_>) -> usize
+    ensures length { result ≡ number_tail_length false 0 (ahead start.now) }
+    ensures bound { result ≤ 2 ^ 31 }
+{
+    let mut cursor = *start;
+    let mut count = 0;
+    let mut sign = false;
+    let mut left = 0;
+    while number_goes_on(&cursor, sign) {
+        sign = sign_behind(left, cursor.byte());
+        left = universal_left(left, &cursor);
+        cursor = cursor.next();
+        count += 1;
+    }
+    count
+}

@@ -1,0 +1,5 @@
+pub mod Kinds
+pub mod Trees
+pub mod Nodes
+pub mod Laws
+pub mod Examples

@@ -1,0 +1,53 @@
+ghost use Rattle.meaning_tree.specs.Examples.{NodeExamples};
+ghost use Rattle.meaning_tree.specs.Laws.{AddedNodeGrows, AddedNodeStands, AddedNodeStandsBehind, FurtherChildStands, GrowthIsReflexive, GrowthIsTransitive, JoinedPartGrows, JoinedStandBefore, NoTreesCome, NothingStandsBefore, PartsAreUnique, PartsStay, TagsKeepRoles, TreesAreUnique, TreesExist, TreesStay, TreesStayBehind, TreesStayInFront};
+
+/// A list of children keeps the role of each of them.
+pub fn tags_keep_roles()
+    ensures { TagsKeepRoles }
+{}
+
+/// A node stands for at most one tree, and for one where children stand before their parents.
+pub fn each_node_stands_for_one_tree<Spelling>()
+    ensures unique { TreesAreUnique Spelling }
+    ensures unique_parts { PartsAreUnique Spelling }
+    ensures exist { TreesExist Spelling }
+{}
+
+/// Lists grow by nothing, by a node, by a part, and by what they grow by one after the other.
+pub fn lists_grow<Spelling>()
+    ensures by_nothing { GrowthIsReflexive Spelling }
+    ensures in_turn { GrowthIsTransitive Spelling }
+    ensures by_node { AddedNodeGrows Spelling }
+    ensures by_part { JoinedPartGrows Spelling }
+{}
+
+/// A node's tree doesn't change when nodes are added.
+pub fn trees_stay<Spelling>()
+    ensures stay { TreesStay Spelling }
+    ensures parts_stay { PartsStay Spelling }
+    ensures none_come { NoTreesCome Spelling }
+{}
+
+/// Nor when a list takes in a part that begins where the list ends.
+pub fn trees_stay_in_joined_lists<Spelling>()
+    ensures in_front { TreesStayInFront Spelling }
+    ensures behind { TreesStayBehind Spelling }
+{}
+
+/// A node that is added stands for the tree of its fields and of what its children stand for.
+pub fn added_nodes_stand<Spelling>()
+    ensures node { AddedNodeStands Spelling }
+    ensures child { FurtherChildStands Spelling }
+{}
+
+/// Children stand before their parents in lists that grow by nodes or parts in which they do.
+pub fn order_is_kept<Spelling>()
+    ensures nothing { NothingStandsBefore Spelling }
+    ensures node { AddedNodeStandsBehind Spelling }
+    ensures part { JoinedStandBefore Spelling }
+{}
+
+/// A short list of nodes stands for the tree that one can tell by eye.
+pub fn worked_examples()
+    ensures { NodeExamples }
+{}

@@ -1,3 +1,4 @@
 pub mod Texts
 pub mod Shapes
+mod Written
 pub mod Delivered

@@ -9,7 +9,7 @@ use Rattle.meaning_rules.specs.Failures.{Cause, SpacesMixed, FlaggedAccess, Fail
 use Rattle.meaning_rules.specs.Text.{place_text, place_of, cause_text, failure_text, warnings_text, access_text}
 use Rattle.meaning_answer.specs.Reply.{Reply, line, IsLine, IsShaped}
 use Rattle.meaning_answer.specs.Command.{Request, BadWord, MissingFile, Check, request_of}
-use Rattle.meaning_answer.specs.Answer.{bad_word_text, missing_file_text, no_such_file_text, file_size_text, unit_tokens_text, warned, not_built_text, IsFileReply, IsTextReply, IsRequestReply}
+use Rattle.meaning_answer.specs.Answer.{bad_word_text, missing_file_text, no_such_file_text, file_size_text, unit_tokens_text, warned, not_built_text, opening_text, IsFileReply, IsTextReply, IsRequestReply}
 use Rattle.meaning_answer.specs.Laws.{AnswersAreShaped}
 
 -- a text before a line ends as the line does
@@ -41,7 +41,8 @@ shaped_as reply other same shaped = subst IsShaped (sym same) shaped
 pub IsShaped-text : (path text : List ℕ) (reply : Reply) → IsTextReply path text reply → IsShaped reply
 IsShaped-text path text reply (inl tells) = shaped_as _ _ tells.5 (IsShaped-warned path tells.0 tells.2)
 IsShaped-text path text reply (inr (inl tells)) = shaped_as _ _ tells.5 (refl, (unit_tokens_text, refl))
-IsShaped-text path text reply (inr (inr tells)) = shaped_as _ _ tells.1 (refl, (not_built_text path, refl))
+IsShaped-text path text reply (inr (inr (inl tells))) = shaped_as _ _ tells.3 (refl, (not_built_text path, refl))
+IsShaped-text path text reply (inr (inr (inr tells))) = shaped_as _ _ tells.2 (refl, (opening_text path tells.0, refl))
 
 IsShaped-file : (path : List ℕ) (found : Option (List ℕ)) (reply : Reply) → IsFileReply path found reply → IsShaped reply
 IsShaped-file path None reply is = shaped_as _ _ is (refl, (no_such_file_text path, refl))

@@ -1,13 +1,14 @@
 -- The answer of a command, as a relation of its words, the files and the reply, in the order in which a
--- refusal goes before another: usage, loading, limits, form; and behind them the rules.
-use Rattle.std.specs.Prelude.{◌≡◌, ℕ, ◌<◌, ◌≤◌, List, [], ◌∷◌, ◌++◌, Option, Some, None, codes, length, map, ◌⊎◌}
+-- refusal goes before another: usage, loading, the size of the file, its tokens, its form, their number; and
+-- behind them the rules.
+use Rattle.std.specs.Prelude.{◌≡◌, ℕ, ◌<◌, ◌≤◌, List, [], ◌∷◌, ◌++◌, Option, Some, None, codes, length, ◌⊎◌}
 use Rattle.meaning_outside.specs.Files.{FileMap, file_at}
-use Rattle.meaning_text.specs.Places.{start}
-use Rattle.meaning_text.specs.Tokens.{Tok, Lexes}
-use Rattle.meaning_syntax.specs.Items.{Item}
-use Rattle.meaning_syntax.specs.Form.{IsUnit}
+use Rattle.meaning_text.specs.Tokens.{Tok, LexFault, OpenComment, OpenLiteral, LexesFile, OpensFile}
+use Rattle.meaning_text.specs.Terminals.{terminals_of}
+use Rattle.meaning_tree.specs.Trees.{SyntaxTree}
+use Rattle.meaning_syntax.specs.Trees.{Derives}
 use Rattle.meaning_rules.specs.Failures.{Failure, IsListing}
-use Rattle.meaning_rules.specs.Text.{warnings_text}
+use Rattle.meaning_rules.specs.Text.{main_file, place_text, warnings_text}
 use Rattle.meaning_answer.specs.Reply.{Reply, Warned, Refused, Usage, Limit, silence, line}
 use Rattle.meaning_answer.specs.Command.{Request, BadWord, MissingFile, Check, request_of}
 
@@ -38,41 +39,49 @@ unit_tokens_text = codes "ksparse: limit: unit tokens"
 abbrev pub not_built_text : List ℕ → List ℕ
 not_built_text path = path ++ codes ":1:1: error[29]: form not built"
 
--- the spellings of tokens
-abbrev pub texts_of : List Tok → List (List ℕ)
-texts_of tokens = map (λ token. token.text) tokens
+-- a comment or a literal that opens here and is never closed
+abbrev pub opening_text : List ℕ → LexFault → List ℕ
+opening_text path (OpenComment at) = place_text path at ++ codes " error[3]: unterminated comment"
+opening_text path (OpenLiteral at) = place_text path at ++ codes " error[4]: unterminated literal"
 
 -- silence where no rule fails, else the warnings
 abbrev pub warned : List ℕ → List Tok → List Failure → Reply
 warned path tokens [] = silence
 warned path tokens (failure ∷ failures) = record { out = []; err = warnings_text path tokens (failure ∷ failures); ending = Warned }
 
--- The text has these tokens, they are this unit, and these are its failures.
-pub record IsChecked (text : List ℕ) (tokens : List Tok) (unit : List Item) (failures : List Failure) : Type 0 where
-  pub lexes : Lexes start text tokens
-  pub is_unit : IsUnit (texts_of tokens) unit
+-- The text has these tokens, they derive this unit, and these are its failures.
+pub record IsChecked (text : List ℕ) (tokens : List Tok) (unit : SyntaxTree) (failures : List Failure) : Type 0 where
+  pub lexes : LexesFile main_file text tokens
+  pub derives : Derives (terminals_of tokens) unit
   pub is_listing : IsListing unit failures
 
 -- the text is a unit of the first form
 abbrev pub IsInForm : List ℕ → Type 0
-IsInForm text = (tokens : List Tok) × (unit : List Item) × Lexes start text tokens × IsUnit (texts_of tokens) unit
+IsInForm text = (tokens : List Tok) × (unit : SyntaxTree) × LexesFile main_file text tokens × Derives (terminals_of tokens) unit
 
 -- the reply tells the failures of the unit that the text is
 abbrev pub TellsFailures : List ℕ → List ℕ → Reply → Type 0
 TellsFailures path text reply =
-    (tokens : List Tok) × (unit : List Item) × (failures : List Failure) × IsChecked text tokens unit failures × (length tokens ≤ most_tokens) × (reply ≡ warned path tokens failures)
+    (tokens : List Tok) × (unit : SyntaxTree) × (failures : List Failure) × IsChecked text tokens unit failures × (length tokens ≤ most_tokens) × (reply ≡ warned path tokens failures)
 
 -- or says that the unit has too many tokens
 abbrev pub TellsTooManyTokens : List ℕ → Reply → Type 0
 TellsTooManyTokens text reply =
-    (tokens : List Tok) × (unit : List Item) × Lexes start text tokens × IsUnit (texts_of tokens) unit × (most_tokens < length tokens) × (reply ≡ line Limit unit_tokens_text)
+    (tokens : List Tok) × (unit : SyntaxTree) × LexesFile main_file text tokens × Derives (terminals_of tokens) unit × (most_tokens < length tokens) × (reply ≡ line Limit unit_tokens_text)
 
--- or says that the text isn't in the form
+-- or says that the text has tokens and isn't in the form
 abbrev pub TellsNotBuilt : List ℕ → List ℕ → Reply → Type 0
-TellsNotBuilt path text reply = (IsInForm text → ⊥) × (reply ≡ line Refused (not_built_text path))
+TellsNotBuilt path text reply =
+    (tokens : List Tok) × LexesFile main_file text tokens × (IsInForm text → ⊥) × (reply ≡ line Refused (not_built_text path))
+
+-- or says what opens first in the text and is never closed, so that it has no tokens
+abbrev pub TellsOpening : List ℕ → List ℕ → Reply → Type 0
+TellsOpening path text reply =
+    (fault : LexFault) × OpensFile main_file text fault × (reply ≡ line Refused (opening_text path fault))
 
 abbrev pub IsTextReply : List ℕ → List ℕ → Reply → Type 0
-IsTextReply path text reply = TellsFailures path text reply ⊎ (TellsTooManyTokens text reply ⊎ TellsNotBuilt path text reply)
+IsTextReply path text reply =
+    TellsFailures path text reply ⊎ (TellsTooManyTokens text reply ⊎ (TellsNotBuilt path text reply ⊎ TellsOpening path text reply))
 
 abbrev pub IsFileReply : List ℕ → Option (List ℕ) → Reply → Type 0
 IsFileReply path None reply = reply ≡ line Refused (no_such_file_text path)

@@ -1,5 +1,5 @@
-ghost use Rattle.meaning_answer.specs.Examples.{AnswerExamples};
-ghost use Rattle.meaning_answer.specs.Laws.{AnswersExist, AnswersAreUnique, AnswersAreShaped};
+ghost use Rattle.meaning_answer.specs.Examples.{AnswerExamples, LimitExamples, RequestExamples};
+ghost use Rattle.meaning_answer.specs.Laws.{AnswersAreShaped, AnswersAreUnique, AnswersExist, EndingsTellWhatIsWritten};
 
 /// Each command has exactly one answer over given files, and it has the shape of its ending.
 pub fn each_command_has_one_answer()
@@ -10,5 +10,12 @@ pub fn each_command_has_one_answer()
 
 /// Small commands, from their words and files to their texts.
 pub fn worked_examples()
-    ensures { AnswerExamples }
+    ensures answers { AnswerExamples }
+    ensures requests { RequestExamples }
+    ensures limits { LimitExamples }
+{}
+
+/// What a command has written on sinks that tell it, by its ending alone, whatever the files hold.
+pub fn endings_tell_what_is_written()
+    ensures { EndingsTellWhatIsWritten }
 {}

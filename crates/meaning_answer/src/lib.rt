@@ -7,4 +7,4 @@
 
 mod answers;
 
-pub use answers::{each_command_has_one_answer, worked_examples};
+pub use answers::{each_command_has_one_answer, endings_tell_what_is_written, worked_examples};

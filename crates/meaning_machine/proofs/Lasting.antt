@@ -1,13 +1,15 @@
 -- Blocks keep what they are made for, and dead ones stay dead.
 use Rattle.std.proofs.Common.{◌≡◌, ℕ, zero, suc, Bool, true, false, List, [], ◌∷◌, Option, Some, None, slice_get, slice_set, nat_lt, if◌then◌else◌, refl, ap, ◌∙◌}
 use Rattle.meaning_types.specs.Types.{flags_of, has_flag}
-use Rattle.meaning_syntax.specs.Items.{Item, Object, Function}
+use Rattle.meaning_tree.specs.Trees.{SyntaxTree}
+use Rattle.meaning_rules.specs.Bindings.{Binding}
+use Rattle.meaning_rules.specs.Evaluation.{external_parts}
 use Rattle.meaning_machine.specs.Values.{Value, Integer, Pointer, Spot, Null, Foreign, In, Place, Block}
 use Rattle.meaning_machine.specs.Outcomes.{DeadBlock, OutOfBounds, ReadOnly, FaultKind, AccessFault, Answer, Gives, IsFault, IsUndefined}
 use Rattle.meaning_machine.specs.Memory.{adopt, load, store, store_block, block_with, is_read_only}
-use Rattle.meaning_machine.specs.Code.{PlaceCode, Named, Behind}
+use Rattle.meaning_machine.specs.Code.{PlaceCode, Named, Behind, NoPlace, ValueCode}
 use Rattle.meaning_machine.specs.Machine.{AfterPlace, AfterValue, Control, EnterBody, EnterStatement, EnterPlace, EnterAddress, EnterAssignment, Load, Move, Store, Leave, Finished, Outcome, Next, Done, Undefined, Fault, place_of, entered_name, loaded, moved, written, adopted, step}
-use Rattle.meaning_machine.specs.Runs.{World, Moves, Start, Step, Write, Starts, Takes}
+use Rattle.meaning_machine.specs.Runs.{World, Moves, Start, Step, Write, Starts, Takes, body_at, bindings_in}
 use Rattle.meaning_machine.specs.Runs as runs
 use Rattle.meaning_machine.specs.Soundness.{Last}
 
@@ -101,24 +103,25 @@ last-entered blocks token None after = tt
 last-entered blocks token (Some place) after = last-same blocks
 
 -- nor that of a node
-last-entered_place : (unit : List Item) (blocks : List Block) (place : PlaceCode) (after : AfterPlace) → LastInOutcome blocks (step unit blocks (EnterPlace place after))
-last-entered_place unit blocks (Named token name) after = last-entered blocks token (place_of unit name) after
-last-entered_place unit blocks (Behind token pointer) after = last-same blocks
+last-entered_place : (scope : List Binding) (blocks : List Block) (place : PlaceCode) (after : AfterPlace) → LastInOutcome blocks (step scope blocks (EnterPlace place after))
+last-entered_place scope blocks (Named token name) after = last-entered blocks token (place_of scope name) after
+last-entered_place scope blocks (Behind token pointer) after = last-same blocks
+last-entered_place scope blocks (NoPlace token) after = tt
 
 -- a store alone changes blocks
-last-step : (unit : List Item) (blocks : List Block) (control : Control) → LastInOutcome blocks (step unit blocks control)
-last-step unit blocks (EnterBody statements) = last-same blocks
-last-step unit blocks (EnterStatement statement statements) = last-same blocks
-last-step unit blocks (EnterPlace place after) = last-entered_place unit blocks place after
-last-step unit blocks (EnterAddress place after) = last-same blocks
-last-step unit blocks (EnterAssignment token left right after) = last-same blocks
-last-step unit blocks (Load place token after) = last-loaded blocks token after (load blocks place)
-last-step unit blocks (Move value token after) = last-moved blocks value token after
-last-step unit blocks (Store place place_token value token after) =
+last-step : (scope : List Binding) (blocks : List Block) (control : Control) → LastInOutcome blocks (step scope blocks control)
+last-step scope blocks (EnterBody statements) = last-same blocks
+last-step scope blocks (EnterStatement statement statements) = last-same blocks
+last-step scope blocks (EnterPlace place after) = last-entered_place scope blocks place after
+last-step scope blocks (EnterAddress place after) = last-same blocks
+last-step scope blocks (EnterAssignment token left right after) = last-same blocks
+last-step scope blocks (Load place token after) = last-loaded blocks token after (load blocks place)
+last-step scope blocks (Move value token after) = last-moved blocks value token after
+last-step scope blocks (Store place place_token value token after) =
     last-flagged blocks (adopted blocks place place_token token after (adopt value place.type_)) AccessFault place_token (has_flag (flags_of place.type_))
     (last-adopted blocks place place_token token after (adopt value place.type_))
-last-step unit blocks Leave = tt
-last-step unit blocks Finished = tt
+last-step scope blocks Leave = tt
+last-step scope blocks Finished = tt
 
 -- Moves
 
@@ -130,15 +133,14 @@ last-takes before after activity (Undefined reason token) last takes = absurd ta
 last-takes before after activity (Fault kind token) last takes = absurd takes
 
 -- a function starts
-last-starts : (unit : List Item) (before after : World) (function : ℕ) (found : Option Item) → Starts unit before function found after → Last before.blocks after.blocks
-last-starts unit before after function None starts = absurd starts
-last-starts unit before after function (Some (Object words stars name)) starts = absurd starts
-last-starts unit before after function (Some (Function name statements)) starts = rw starts (last-same before.blocks)
+last-starts : (before after : World) (body : Option (List ValueCode)) → Starts before body after → Last before.blocks after.blocks
+last-starts before after None starts = absurd starts
+last-starts before after (Some statements) starts = rw starts (last-same before.blocks)
 
 -- blocks outlast each move
-pub blocks_last : (unit : List Item) (before after : World) (move : runs.Move) → Moves unit before move after → Last before.blocks after.blocks
-blocks_last unit before after (Start function) moves = last-starts unit before after function (slice_get unit function) moves
+pub blocks_last : (unit : SyntaxTree) (before after : World) (move : runs.Move) → Moves unit before move after → Last before.blocks after.blocks
+blocks_last unit before after (Start function) moves = last-starts before after (body_at function (external_parts unit)) moves
 blocks_last unit before after (Step activity) moves =
-    last-takes before after activity (step unit before.blocks moves.0) (last-step unit before.blocks moves.0) moves.2
+    last-takes before after activity (step (bindings_in unit) before.blocks moves.0) (last-step (bindings_in unit) before.blocks moves.0) moves.2
 blocks_last unit before after (Write number path value) moves =
     rw moves.3 (last-written before.blocks number moves.0 path value moves.1)

@@ -6,14 +6,17 @@ use Rattle.std.specs.Int.Signed.{le_z_yes}
 use Rattle.std.proofs.lemmas.Bool.{and_parts, false≢true, eqb-true, leb-true}
 use Rattle.std.proofs.lemmas.Option.{none-some, same_Some}
 use Rattle.meaning_types.specs.Types.{Kind, TypeTree, Typed, BaseTree, IntegerTree, PointerTree, no_qualifiers, bare, bare_base, BoolKind, CharKind, SignedCharKind, UnsignedCharKind, ShortKind, UnsignedShortKind, IntKind, UnsignedIntKind, LongKind, UnsignedLongKind, LongLongKind, UnsignedLongLongKind}
-use Rattle.meaning_syntax.specs.Items.{Item, Object, Function}
+use Rattle.meaning_tree.specs.Trees.{SyntaxTree}
+use Rattle.meaning_rules.specs.Evaluation.{external_parts}
 use Rattle.meaning_rules.proofs.MixedSpaces.{are_equal_flags-Decides}
 use Rattle.meaning_machine.specs.Values.{Spot, Null, Foreign, In, Value, Integer, Pointer, Made, ForObject, ForFunction, Block, HasElements, SpotFits, ValueFits, Fits}
 use Rattle.meaning_machine.specs.Memory.{content_at, block_with}
 use Rattle.meaning_machine.specs.Tests.{are_equal_kinds, kind_number, are_similar, are_similar_bases}
+use Rattle.meaning_machine.specs.Code.{ValueCode}
 use Rattle.meaning_machine.specs.Machine.{Control, Outcome, Next, Done, Undefined, Fault, step}
-use Rattle.meaning_machine.specs.Runs.{World, opening, Move, Start, Step, Write, Runs, Moves, Starts, Takes, IsWritable}
-use Rattle.meaning_machine.specs.Played.{is_element, block_fits_now, spot_fits_now, value_fits_now, fits_now, made_fits_now, has_content, is_writable_now, started, taken, written_if, moved_to, played_from, onto, PlayedIsRun}
+use Rattle.meaning_machine.specs.Outcomes.{FaultKind}
+use Rattle.meaning_machine.specs.Runs.{World, opening, Move, Start, Step, Write, Runs, IsSafe, Moves, Starts, Takes, IsWritable, body_at, bindings_in}
+use Rattle.meaning_machine.specs.Played.{is_element, block_fits_now, spot_fits_now, value_fits_now, fits_now, made_fits_now, has_content, is_writable_now, started, taken, written_if, moved_to, played_from, onto, PlayedIsRun, FaultsAreUnsafe}
 
 -- Tests say what the relations say
 
@@ -128,11 +131,9 @@ is_writable_now-IsWritable blocks block path value passed =
 -- Moves that are played are moves
 
 -- a start
-started-Starts : (unit : List Item) (before : World) (function : ℕ) (item : Option Item) (after : World)
-    → started unit before function item ≡ Some after → Starts unit before function item after
-started-Starts unit before function None after is = none-some _ is
-started-Starts unit before function (Some (Object words stars name)) after is = none-some _ is
-started-Starts unit before function (Some (Function name statements)) after is = sym (same_Some _ _ is)
+started-Starts : (before : World) (body : Option (List ValueCode)) (after : World) → started before body ≡ Some after → Starts before body after
+started-Starts before None after is = none-some _ is
+started-Starts before (Some statements) after is = sym (same_Some _ _ is)
 
 -- a step, by its outcome
 taken-Takes : (before : World) (activity : ℕ) (outcome : Outcome) (after : World)
@@ -143,12 +144,12 @@ taken-Takes before activity (Undefined reason token) after is = none-some _ is
 taken-Takes before activity (Fault kind token) after is = none-some _ is
 
 -- a step, by the activity that is found
-stepped : (unit : List Item) (before : World) (activity : ℕ) (found : Option Control) → slice_get before.activities activity ≡ found
-    → (after : World) → option_and_then (taken before activity) (option_map (step unit before.blocks) found) ≡ Some after
+stepped : (unit : SyntaxTree) (before : World) (activity : ℕ) (found : Option Control) → slice_get before.activities activity ≡ found
+    → (after : World) → option_and_then (taken before activity) (option_map (step (bindings_in unit) before.blocks) found) ≡ Some after
     → Moves unit before (Step activity) after
 stepped unit before activity None found after is = absurd (none-some _ is)
 stepped unit before activity (Some control) found after is =
-    (control, found, taken-Takes before activity (step unit before.blocks control) after is)
+    (control, found, taken-Takes before activity (step (bindings_in unit) before.blocks control) after is)
 
 -- a write, by its test
 written_block : (before : World) (number : ℕ) (path : List ℕ) (value : Value) (block : Block) (test : Bool)
@@ -161,7 +162,7 @@ written_block before number path value block true test after is =
 written_block before number path value block false test after is = absurd (none-some _ is)
 
 -- a write, by the block that is found
-written : (unit : List Item) (before : World) (number : ℕ) (path : List ℕ) (value : Value) (found : Option Block)
+written : (unit : SyntaxTree) (before : World) (number : ℕ) (path : List ℕ) (value : Value) (found : Option Block)
     → slice_get before.blocks number ≡ found → (after : World) → written_if before number path value found ≡ Some after
     → Moves unit before (Write number path value) after
 written unit before number path value None found after is = absurd (none-some _ is)
@@ -170,16 +171,16 @@ written unit before number path value (Some block) found after is =
     (block, found, both.0, both.1)
 
 -- any move
-moved_to-Moves : (unit : List Item) (before : World) (move : Move) (after : World)
+moved_to-Moves : (unit : SyntaxTree) (before : World) (move : Move) (after : World)
     → moved_to unit before move ≡ Some after → Moves unit before move after
-moved_to-Moves unit before (Start function) after is = started-Starts unit before function (slice_get unit function) after is
+moved_to-Moves unit before (Start function) after is = started-Starts before (body_at function (external_parts unit)) after is
 moved_to-Moves unit before (Step activity) after is = stepped unit before activity _ refl after is
 moved_to-Moves unit before (Write number path value) after is = written unit before number path value _ refl after is
 
 -- Lists of moves
 
 -- the runs that further moves lead to, from what they lead to behind the next world
-further : (unit : List Item) (move : Move) (moves earlier : List Move) (before world : World) → Runs unit earlier before
+further : (unit : SyntaxTree) (move : Move) (moves earlier : List Move) (before world : World) → Runs unit earlier before
     → ((after : World) → Runs unit (move ∷ earlier) after → played_from unit moves after ≡ Some world → Runs unit (onto moves (move ∷ earlier)) world)
     → (next : Option World) → moved_to unit before move ≡ next
     → option_and_then (played_from unit moves) next ≡ Some world → Runs unit (onto moves (move ∷ earlier)) world
@@ -188,7 +189,7 @@ further unit move moves earlier before world run behind (Some after) moved rest 
     behind after (before, run, moved_to-Moves unit before move after moved) rest
 
 -- what is played behind a run is a run
-played_from-Runs : (unit : List Item) (moves earlier : List Move) (before world : World)
+played_from-Runs : (unit : SyntaxTree) (moves earlier : List Move) (before world : World)
     → Runs unit earlier before → played_from unit moves before ≡ Some world → Runs unit (onto moves earlier) world
 played_from-Runs unit [] earlier before world run is = subst (Runs unit earlier) (same_Some _ _ is) run
 played_from-Runs unit (move ∷ moves) earlier before world run is =
@@ -197,3 +198,16 @@ played_from-Runs unit (move ∷ moves) earlier before world run is =
 -- what is played from the opening world is a run
 pub played_is_run : PlayedIsRun
 played_is_run unit moves world is = played_from-Runs unit moves [] (opening unit) world refl is
+
+-- Faults that runs meet
+
+-- by the activity that is found
+unsafe_at : (unit : SyntaxTree) (moves : List Move) (world : World) (activity : ℕ) (kind : FaultKind) (token : ℕ) → Runs unit moves world
+    → (found : Option Control) → slice_get world.activities activity ≡ found
+    → option_map (step (bindings_in unit) world.blocks) found ≡ Some (Fault kind token) → IsSafe unit → ⊥
+unsafe_at unit moves world activity kind token run None found met safe = none-some _ met
+unsafe_at unit moves world activity kind token run (Some control) found met safe =
+    safe moves world run activity control found kind token (same_Some _ _ met)
+
+pub faults_are_unsafe : FaultsAreUnsafe
+faults_are_unsafe unit moves world activity kind token run met safe = unsafe_at unit moves world activity kind token run _ refl met safe

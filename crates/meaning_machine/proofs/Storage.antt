@@ -1,7 +1,7 @@
 -- What the machine's memory does to what fits.
 use Rattle.std.proofs.Common.{◌≡◌, ℕ, zero, suc, ◌⊎◌, inl, inr, ⊎_elim, if◌then◌else◌, Bool, true, false, List, [], ◌∷◌, Option, Some, None, map, nat_lt, bytes_eq, slice_get, slice_set, refl, sym, ap, ◌∙◌, subst}
 use Rattle.meaning_types.specs.Types.{TypeTree, Typed, IntegerTree, PointerTree, has_flag, bare}
-use Rattle.meaning_syntax.specs.Items.{Item}
+use Rattle.meaning_rules.specs.Bindings.{Binding}
 use Rattle.meaning_machine.specs.Values.{Spot, Null, Foreign, In, Value, Integer, Pointer, Place, ForObject, Cell, Block, SpotFits, Fits}
 use Rattle.meaning_machine.specs.Outcomes.{DeadBlock, OutOfBounds, ReadOnly, AccessFault, Answer, Gives, IsFault, IsUndefined}
 use Rattle.meaning_machine.specs.Memory.{adopt, content_at, with_content, block_with, is_made_for, is_read_only, value_of_content, load_block, load_spot, load, store_block, store}
@@ -28,64 +28,64 @@ adopted-as-it-is blocks value type_ place_type wanted fits agree same =
 -- Loads
 
 -- what a load gives fits, and it is no fault
-abbrev pub IsSoundLoad : List Item → TypeTree → Answer Value → Type 0
-IsSoundLoad unit type_ (Gives value) = ValueFitsIn unit value type_
-IsSoundLoad unit type_ (IsFault kind) = ⊥
-IsSoundLoad unit type_ (IsUndefined reason) = Unit {0}
+abbrev pub IsSoundLoad : List Binding → TypeTree → Answer Value → Type 0
+IsSoundLoad scope type_ (Gives value) = ValueFitsIn scope value type_
+IsSoundLoad scope type_ (IsFault kind) = ⊥
+IsSoundLoad scope type_ (IsUndefined reason) = Unit {0}
 
 -- what is read after the tests is sound if each value there fits
 sound-reading :
-    (unit : List Item) (type_ : TypeTree) (is_alive is_within : Bool) (content : Option (Option Value))
-    → ((value : Value) → content ≡ Some (Some value) → ValueFitsIn unit value type_)
-    → IsSoundLoad unit type_ (if is_alive then (if is_within then value_of_content content else IsUndefined OutOfBounds) else IsUndefined DeadBlock)
-sound-reading unit type_ true true None each = tt
-sound-reading unit type_ true true (Some None) each = tt
-sound-reading unit type_ true true (Some (Some value)) each = each value refl
-sound-reading unit type_ true false content each = tt
-sound-reading unit type_ false is_within content each = tt
+    (scope : List Binding) (type_ : TypeTree) (is_alive is_within : Bool) (content : Option (Option Value))
+    → ((value : Value) → content ≡ Some (Some value) → ValueFitsIn scope value type_)
+    → IsSoundLoad scope type_ (if is_alive then (if is_within then value_of_content content else IsUndefined OutOfBounds) else IsUndefined DeadBlock)
+sound-reading scope type_ true true None each = tt
+sound-reading scope type_ true true (Some None) each = tt
+sound-reading scope type_ true true (Some (Some value)) each = each value refl
+sound-reading scope type_ true false content each = tt
+sound-reading scope type_ false is_within content each = tt
 
 -- a load from a block that is made for this type is sound
 sound-load_block :
-    (unit : List Item) (block : Block) (declared place_type type_ : TypeTree) (path : List ℕ) (index length : ℕ)
-    → CellsFit unit block → block.made ≡ ForObject declared → bare declared ≡ bare type_ → bare place_type ≡ bare type_
-    → IsSoundLoad unit type_ (load_block (Some block) place_type path index length)
-sound-load_block unit block declared place_type type_ path index length cells_fit made equal same =
+    (scope : List Binding) (block : Block) (declared place_type type_ : TypeTree) (path : List ℕ) (index length : ℕ)
+    → CellsFit scope block → block.made ≡ ForObject declared → bare declared ≡ bare type_ → bare place_type ≡ bare type_
+    → IsSoundLoad scope type_ (load_block (Some block) place_type path index length)
+sound-load_block scope block declared place_type type_ path index length cells_fit made equal same =
     let is_made : is_made_for block.made place_type ≡ true =
     ap (λ m. is_made_for m place_type) made ∙ similar-bare declared place_type (equal ∙ sym same)
     in
     rw is_made (
-    sound-reading unit type_ block.is_alive (nat_lt index length) (content_at block.cells path) (λ value stands.
-    fits-agreeing (first_blocks unit) value declared type_ (agree-bare declared type_ equal) (cells_fit declared made path value stands))
+    sound-reading scope type_ block.is_alive (nat_lt index length) (content_at block.cells path) (λ value stands.
+    fits-agreeing (first_blocks scope) value declared type_ (agree-bare declared type_ equal) (cells_fit declared made path value stands))
     )
 
 -- a load from a spot that fits is sound
 sound-load_spot :
-    (unit : List Item) (blocks : List Block) (spot : Spot) (place_type type_ : TypeTree)
-    → AreSoundBlocks unit blocks → bare place_type ≡ bare type_ → SpotFits (first_blocks unit) spot type_
-    → IsSoundLoad unit type_ (load_spot blocks place_type spot)
-sound-load_spot unit blocks Null place_type type_ sound same fits = tt
-sound-load_spot unit blocks Foreign place_type type_ sound same fits = tt
-sound-load_spot unit blocks (In block path index length) place_type type_ sound same (there, stands, (declared, made, at, count, equal), within) =
+    (scope : List Binding) (blocks : List Block) (spot : Spot) (place_type type_ : TypeTree)
+    → AreSoundBlocks scope blocks → bare place_type ≡ bare type_ → SpotFits (first_blocks scope) spot type_
+    → IsSoundLoad scope type_ (load_spot blocks place_type spot)
+sound-load_spot scope blocks Null place_type type_ sound same fits = tt
+sound-load_spot scope blocks Foreign place_type type_ sound same fits = tt
+sound-load_spot scope blocks (In block path index length) place_type type_ sound same (there, stands, (declared, made, at, count, equal), within) =
     let found : (y : Block) × (slice_get blocks block ≡ Some y) × (there.made ≡ y.made) =
-    slice_get-mapped (λ (b : Block). b.made) (first_blocks unit) blocks block there (sym sound.0) stands
+    slice_get-mapped (λ (b : Block). b.made) (first_blocks scope) blocks block there (sym sound.0) stands
     in
-    rw found.1 (sound-load_block unit found.0 declared place_type type_ path index length (sound.1 block found.0 found.1) (sym found.2 ∙ made) equal same)
+    rw found.1 (sound-load_block scope found.0 declared place_type type_ path index length (sound.1 block found.0 found.1) (sym found.2 ∙ made) equal same)
 
 -- a load from a place that fits is sound
-pub sound-load : (unit : List Item) (blocks : List Block) (place : Place) (type_ : TypeTree) → AreSoundBlocks unit blocks → PlaceFits unit place type_ → IsUnflagged type_ → IsSoundLoad unit type_ (load blocks place)
-sound-load unit blocks place type_ sound fits unflagged =
+pub sound-load : (scope : List Binding) (blocks : List Block) (place : Place) (type_ : TypeTree) → AreSoundBlocks scope blocks → PlaceFits scope place type_ → IsUnflagged type_ → IsSoundLoad scope type_ (load blocks place)
+sound-load scope blocks place type_ sound fits unflagged =
     subst
-    (λ (is_flagged : Bool). IsSoundLoad unit type_ (if is_flagged then IsFault AccessFault else load_spot blocks place.type_ place.spot))
+    (λ (is_flagged : Bool). IsSoundLoad scope type_ (if is_flagged then IsFault AccessFault else load_spot blocks place.type_ place.spot))
     (sym (ap has_flag (flags-bare place.type_ type_ fits.0) ∙ unflagged))
-    (sound-load_spot unit blocks place.spot place.type_ type_ sound fits.0 fits.1)
+    (sound-load_spot scope blocks place.spot place.type_ type_ sound fits.0 fits.1)
 
 -- Stores
 
 -- a store leaves blocks sound, and it is no fault
-abbrev pub IsSoundStore : List Item → Answer (List Block) → Type 0
-IsSoundStore unit (Gives blocks) = AreSoundBlocks unit blocks
-IsSoundStore unit (IsFault kind) = ⊥
-IsSoundStore unit (IsUndefined reason) = Unit {0}
+abbrev pub IsSoundStore : List Binding → Answer (List Block) → Type 0
+IsSoundStore scope (Gives blocks) = AreSoundBlocks scope blocks
+IsSoundStore scope (IsFault kind) = ⊥
+IsSoundStore scope (IsUndefined reason) = Unit {0}
 
 -- an element that is set to one that a function maps to the same leaves the mapped list the same
 map-set_same : {X Y : Type 0} (f : X → Y) (xs : List X) (k : ℕ) (x y : X) → slice_get xs k ≡ Some x → f y ≡ f x → map f (slice_set xs k y) ≡ map f xs
@@ -140,54 +140,54 @@ content_at-written (cell ∷ cells) path other value found stands =
 
 -- the cells of a block fit after a write of a value that fits
 fits-written :
-    (unit : List Item) (block : Block) (path : List ℕ) (value : Value) (declared : TypeTree)
-    → CellsFit unit block → block.made ≡ ForObject declared → ValueFitsIn unit value declared
-    → CellsFit unit (block_with block path value)
-fits-written unit block path value declared cells_fit made fits named is_named other found stands =
+    (scope : List Binding) (block : Block) (path : List ℕ) (value : Value) (declared : TypeTree)
+    → CellsFit scope block → block.made ≡ ForObject declared → ValueFitsIn scope value declared
+    → CellsFit scope (block_with block path value)
+fits-written scope block path value declared cells_fit made fits named is_named other found stands =
     ⊎_elim
-    (λ (written : found ≡ value). subst (λ (v : Value). ValueFitsIn unit v named) (sym written) (subst (λ (t : TypeTree). ValueFitsIn unit value t) (cc (made, is_named)) fits))
+    (λ (written : found ≡ value). subst (λ (v : Value). ValueFitsIn scope v named) (sym written) (subst (λ (t : TypeTree). ValueFitsIn scope value t) (cc (made, is_named)) fits))
     (λ (stood : content_at block.cells other ≡ Some (Some found)). cells_fit named is_named other found stood)
     (content_at-written block.cells path other value found stands)
 
 -- a write of a value that fits, into a block that is made for an object of this type, keeps blocks sound
-pub sound-write : (unit : List Item) (blocks : List Block) (number : ℕ) (block : Block) (path : List ℕ) (value : Value) (declared : TypeTree) → AreSoundBlocks unit blocks → slice_get blocks number ≡ Some block → block.made ≡ ForObject declared → ValueFitsIn unit value declared → AreSoundBlocks unit (slice_set blocks number (block_with block path value))
-sound-write unit blocks number block path value declared sound stands made fits = (
+pub sound-write : (scope : List Binding) (blocks : List Block) (number : ℕ) (block : Block) (path : List ℕ) (value : Value) (declared : TypeTree) → AreSoundBlocks scope blocks → slice_get blocks number ≡ Some block → block.made ≡ ForObject declared → ValueFitsIn scope value declared → AreSoundBlocks scope (slice_set blocks number (block_with block path value))
+sound-write scope blocks number block path value declared sound stands made fits = (
   map-set_same (λ (b : Block). b.made) blocks number block (block_with block path value) stands refl ∙ sound.0,
   λ other found is_found.
       ⊎_elim
       (λ (written : found ≡ block_with block path value).
-      subst (CellsFit unit) (sym written) (fits-written unit block path value declared (sound.1 number block stands) made fits))
+      subst (CellsFit scope) (sym written) (fits-written scope block path value declared (sound.1 number block stands) made fits))
       (λ (stood : slice_get blocks other ≡ Some found). sound.1 other found stood)
       (slice_get-set_cases blocks number other (block_with block path value) found is_found),
 )
 
 -- a store after the tests is sound if the blocks that it leaves are
 sound-storing :
-    (unit : List Item) (blocks : List Block) (is_alive is_within is_const : Bool) → AreSoundBlocks unit blocks
-    → IsSoundStore unit (if is_alive then (if is_within then (if is_const then IsUndefined ReadOnly else Gives blocks) else IsUndefined OutOfBounds) else IsUndefined DeadBlock)
-sound-storing unit blocks true true true sound = tt
-sound-storing unit blocks true true false sound = sound
-sound-storing unit blocks true false is_const sound = tt
-sound-storing unit blocks false is_within is_const sound = tt
+    (scope : List Binding) (blocks : List Block) (is_alive is_within is_const : Bool) → AreSoundBlocks scope blocks
+    → IsSoundStore scope (if is_alive then (if is_within then (if is_const then IsUndefined ReadOnly else Gives blocks) else IsUndefined OutOfBounds) else IsUndefined DeadBlock)
+sound-storing scope blocks true true true sound = tt
+sound-storing scope blocks true true false sound = sound
+sound-storing scope blocks true false is_const sound = tt
+sound-storing scope blocks false is_within is_const sound = tt
 
 -- a store of a value that fits to a spot keeps blocks sound
 sound-store_spot :
-    (unit : List Item) (blocks : List Block) (spot : Spot) (type_ : TypeTree) (value : Value)
-    → AreSoundBlocks unit blocks → SpotFits (first_blocks unit) spot type_ → ValueFitsIn unit value type_
-    → IsSoundStore unit (store blocks spot value)
-sound-store_spot unit blocks Null type_ value sound fits value_fits = tt
-sound-store_spot unit blocks Foreign type_ value sound fits value_fits = tt
-sound-store_spot unit blocks (In block path index length) type_ value sound (there, stands, (declared, made, at, count, equal), within) value_fits =
+    (scope : List Binding) (blocks : List Block) (spot : Spot) (type_ : TypeTree) (value : Value)
+    → AreSoundBlocks scope blocks → SpotFits (first_blocks scope) spot type_ → ValueFitsIn scope value type_
+    → IsSoundStore scope (store blocks spot value)
+sound-store_spot scope blocks Null type_ value sound fits value_fits = tt
+sound-store_spot scope blocks Foreign type_ value sound fits value_fits = tt
+sound-store_spot scope blocks (In block path index length) type_ value sound (there, stands, (declared, made, at, count, equal), within) value_fits =
     let found : (y : Block) × (slice_get blocks block ≡ Some y) × (there.made ≡ y.made) =
-    slice_get-mapped (λ (b : Block). b.made) (first_blocks unit) blocks block there (sym sound.0) stands
+    slice_get-mapped (λ (b : Block). b.made) (first_blocks scope) blocks block there (sym sound.0) stands
     in
-    let declared_fits : ValueFitsIn unit value declared = fits-agreeing (first_blocks unit) value type_ declared (agree-bare type_ declared (sym equal)) value_fits in
+    let declared_fits : ValueFitsIn scope value declared = fits-agreeing (first_blocks scope) value type_ declared (agree-bare type_ declared (sym equal)) value_fits in
     subst
-    (λ (o : Option Block). IsSoundStore unit (store_block blocks block o path index length value))
+    (λ (o : Option Block). IsSoundStore scope (store_block blocks block o path index length value))
     (sym found.1)
-    (sound-storing unit (slice_set blocks block (block_with found.0 path value)) found.0.is_alive (nat_lt index length) (is_read_only found.0.made)
-    (sound-write unit blocks block found.0 path value declared sound found.1 (sym found.2 ∙ made) declared_fits))
+    (sound-storing scope (slice_set blocks block (block_with found.0 path value)) found.0.is_alive (nat_lt index length) (is_read_only found.0.made)
+    (sound-write scope blocks block found.0 path value declared sound found.1 (sym found.2 ∙ made) declared_fits))
 
 -- a store of a value that fits keeps blocks sound
-pub sound-store : (unit : List Item) (blocks : List Block) (place : Place) (type_ : TypeTree) (value : Value) → AreSoundBlocks unit blocks → PlaceFits unit place type_ → ValueFitsIn unit value type_ → IsSoundStore unit (store blocks place.spot value)
-sound-store unit blocks place type_ value sound fits value_fits = sound-store_spot unit blocks place.spot type_ value sound fits.1 value_fits
+pub sound-store : (scope : List Binding) (blocks : List Block) (place : Place) (type_ : TypeTree) (value : Value) → AreSoundBlocks scope blocks → PlaceFits scope place type_ → ValueFitsIn scope value type_ → IsSoundStore scope (store blocks place.spot value)
+sound-store scope blocks place type_ value sound fits value_fits = sound-store_spot scope blocks place.spot type_ value sound fits.1 value_fits

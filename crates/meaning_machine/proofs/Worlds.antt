@@ -1,19 +1,19 @@
 -- Every world that a run of a unit without failures reaches is sound.
-use Rattle.std.proofs.Common.{◌≡◌, ◌≢◌, ℕ, zero, suc, ◌+◌, Bool, true, false, pos, List, [], ◌∷◌, All, Option, Some, None, map, slice_get, slice_set, if◌then◌else◌, refl, subst, arith}
+use Rattle.std.proofs.Common.{◌≡◌, ◌≢◌, ℕ, zero, suc, Bool, true, false, pos, List, [], ◌∷◌, All, Option, Some, None, slice_get, slice_set, if◌then◌else◌, refl, subst, arith}
 use Rattle.std.specs.Str.{bytes_eq}
 use Rattle.std.proofs.lemmas.List.Elements.{All-append, All-cons, All-nil, All-head, All-tail}
 use Rattle.meaning_types.specs.Types.{Kind, BoolKind, CharKind, SignedCharKind, UnsignedCharKind, ShortKind, UnsignedShortKind, IntKind, UnsignedIntKind, LongKind, UnsignedLongKind, LongLongKind, UnsignedLongLongKind, TypeTree, Typed, IntegerTree, PointerTree}
-use Rattle.meaning_syntax.specs.Items.{Item, Object, Function}
-use Rattle.meaning_syntax.specs.Binding.{Declared, item_declared, are_bound}
-use Rattle.meaning_rules.specs.Typing.{declared_type}
-use Rattle.meaning_rules.specs.Evaluation.{tokens_before_body}
+use Rattle.meaning_tree.specs.Trees.{SyntaxTree}
+use Rattle.meaning_syntax.specs.Trees.{IsInFirstForm}
+use Rattle.meaning_rules.specs.Bindings.{Binding}
+use Rattle.meaning_rules.specs.Evaluation.{external_parts}
 use Rattle.meaning_rules.specs.Failures.{IsListing}
 use Rattle.meaning_machine.specs.Values.{Value, Block, IsInRange}
 use Rattle.meaning_machine.specs.Outcomes.{FaultKind}
-use Rattle.meaning_machine.specs.Code.{body_code}
+use Rattle.meaning_machine.specs.Code.{ValueCode}
 use Rattle.meaning_machine.specs.Machine.{Control, EnterBody, Finished, Outcome, Next, Done, Undefined, Fault, step}
-use Rattle.meaning_machine.specs.Runs.{World, opening, opening_value, opening_block, Move, Start, Step, Write, first_token, Starts, Takes, Moves, Runs, IsSafe}
-use Rattle.meaning_machine.specs.Soundness.{ValueFitsIn, IsSoundControl, CellsFit, IsSoundOutcome, IsSoundWorld, first_blocks}
+use Rattle.meaning_machine.specs.Runs.{World, opening, opening_value, opening_block, Move, Start, Step, Write, body_at, bindings_in, Starts, Takes, Moves, Runs, IsSafe}
+use Rattle.meaning_machine.specs.Soundness.{ValueFitsIn, IsSoundControl, CellsFit, IsStatement, IsSoundOutcome, IsSoundWorld, first_blocks}
 use Rattle.meaning_machine.proofs.Similar.{fits-made}
 use Rattle.meaning_machine.proofs.Storage.{sound-write}
 use Rattle.meaning_machine.proofs.Steps.{step_is_sound}
@@ -37,9 +37,9 @@ zero-in_range LongLongKind = grind arith
 zero-in_range UnsignedLongLongKind = grind arith
 
 -- zero and null fit
-opening_value-fits : (unit : List Item) (type_ : TypeTree) → ValueFitsIn unit (opening_value type_) type_
-opening_value-fits unit (Typed (IntegerTree kind) qualifiers flags) = (refl, refl, refl, zero-in_range kind)
-opening_value-fits unit (Typed (PointerTree target) qualifiers flags) = (refl, tt)
+opening_value-fits : (scope : List Binding) (type_ : TypeTree) → ValueFitsIn scope (opening_value type_) type_
+opening_value-fits scope (Typed (IntegerTree kind) qualifiers flags) = (refl, refl, refl, zero-in_range kind)
+opening_value-fits scope (Typed (PointerTree target) qualifiers flags) = (refl, tt)
 
 -- the one cell of an object has its one value
 only_content : (is_there : Bool) (content value : Value) → (if is_there then Some (Some content) else None) ≡ Some (Some value) → content ≡ value
@@ -47,23 +47,24 @@ only_content true content value e = cc e
 only_content false content value e = cc e
 
 -- the cell of an object begins with a value that fits
-opening_block-fits : (unit : List Item) (found : Option Declared) → CellsFit unit (opening_block found)
-opening_block-fits unit None declared made path value there = cc made
-opening_block-fits unit (Some object) declared made path value there =
-    subst (λ v. ValueFitsIn unit v declared) (only_content (bytes_eq [] path) (opening_value (declared_type object)) value there)
-    (subst (λ t. ValueFitsIn unit (opening_value (declared_type object)) t) (cc made) (opening_value-fits unit (declared_type object)))
+opening_block-fits : (scope : List Binding) (object : Option TypeTree) → CellsFit scope (opening_block object)
+opening_block-fits scope None declared made path value there = cc made
+opening_block-fits scope (Some type_) declared made path value there =
+    subst (λ v. ValueFitsIn scope v declared) (only_content (bytes_eq [] path) (opening_value type_) value there)
+    (subst (λ t. ValueFitsIn scope (opening_value type_) t) (cc made) (opening_value-fits scope type_))
 
 opening_blocks-fit :
-    (unit items : List Item) (number : ℕ) (block : Block) → slice_get (map (λ item. opening_block (item_declared item)) items) number ≡ Some block →
-    CellsFit unit block
-opening_blocks-fit unit [] number block e = cc e
-opening_blocks-fit unit (item ∷ items) zero block e =
-    let same : opening_block (item_declared item) ≡ block = cc e in subst (CellsFit unit) same (opening_block-fits unit (item_declared item))
-opening_blocks-fit unit (item ∷ items) (suc number) block e = opening_blocks-fit unit items number block e
+    (scope bindings : List Binding) (number : ℕ) (block : Block) → slice_get (first_blocks bindings) number ≡ Some block → CellsFit scope block
+opening_blocks-fit scope [] number block e = cc e
+opening_blocks-fit scope (binding ∷ bindings) zero block e =
+    let same : opening_block binding.object ≡ block = cc e in subst (CellsFit scope) same (opening_block-fits scope binding.object)
+opening_blocks-fit scope (binding ∷ bindings) (suc number) block e = opening_blocks-fit scope bindings number block e
 
 -- no activity runs, and each cell fits
-opening-sound : (unit : List Item) → IsSoundWorld unit (opening unit)
-opening-sound unit = ((refl, opening_blocks-fit unit unit), All-nil (IsSoundControl unit))
+opening-sound : (unit : SyntaxTree) → IsSoundWorld (bindings_in unit) (opening unit)
+opening-sound unit =
+    let scope : List Binding = bindings_in unit in
+    ((refl, opening_blocks-fit scope scope), All-nil (IsSoundControl scope))
 
 -- Activities
 
@@ -82,48 +83,48 @@ All-replaced P (first ∷ all) (suc number) one h is =
 
 -- Moves
 
--- a function starts
+-- a function starts whose statements have types
 starts-sound :
-    (unit : List Item) → are_bound [] unit ≡ true → IsListing unit [] →
-    (before after : World) (function : ℕ) (found : Option Item) → slice_get unit function ≡ found →
-    IsSoundWorld unit before → Starts unit before function found after → IsSoundWorld unit after
-starts-sound unit bound listing before after function None e sound starts = absurd starts
-starts-sound unit bound listing before after function (Some (Object words stars name)) e sound starts = absurd starts
-starts-sound unit bound listing before after function (Some (Function name statements)) e sound starts = rw starts (
+    (scope : List Binding) (before after : World) (body : Option (List ValueCode)) →
+    ((statements : List ValueCode) → body ≡ Some statements → All (IsStatement scope) statements) →
+    IsSoundWorld scope before → Starts before body after → IsSoundWorld scope after
+starts-sound scope before after None typed sound starts = absurd starts
+starts-sound scope before after (Some statements) typed sound starts = rw starts (
   sound.0,
-  All-append (IsSoundControl unit) before.activities _ sound.1
-      (All-cons (IsSoundControl unit) (EnterBody (body_code (first_token unit function + tokens_before_body) statements)) [] (are_statements unit bound listing function name statements e) (All-nil (IsSoundControl unit))),
+  All-append (IsSoundControl scope) before.activities _ sound.1
+      (All-cons (IsSoundControl scope) (EnterBody statements) [] (typed statements refl) (All-nil (IsSoundControl scope))),
 )
 
 -- an activity takes a step
 takes-sound :
-    (unit : List Item) (before after : World) (activity : ℕ) (outcome : Outcome) →
-    IsSoundWorld unit before → IsSoundOutcome unit outcome → Takes before activity outcome after → IsSoundWorld unit after
-takes-sound unit before after activity (Next blocks control) sound is takes =
-    rw takes (is.0, All-replaced (IsSoundControl unit) before.activities activity control sound.1 is.1)
-takes-sound unit before after activity Done sound is takes =
-    rw takes (sound.0, All-replaced (IsSoundControl unit) before.activities activity Finished sound.1 tt)
-takes-sound unit before after activity (Undefined reason token) sound is takes = absurd takes
-takes-sound unit before after activity (Fault kind token) sound is takes = absurd takes
+    (scope : List Binding) (before after : World) (activity : ℕ) (outcome : Outcome) →
+    IsSoundWorld scope before → IsSoundOutcome scope outcome → Takes before activity outcome after → IsSoundWorld scope after
+takes-sound scope before after activity (Next blocks control) sound is takes =
+    rw takes (is.0, All-replaced (IsSoundControl scope) before.activities activity control sound.1 is.1)
+takes-sound scope before after activity Done sound is takes =
+    rw takes (sound.0, All-replaced (IsSoundControl scope) before.activities activity Finished sound.1 tt)
+takes-sound scope before after activity (Undefined reason token) sound is takes = absurd takes
+takes-sound scope before after activity (Fault kind token) sound is takes = absurd takes
 
 -- the next step of an activity in a sound world is sound
 activity-sound :
-    (unit : List Item) (world : World) (activity : ℕ) (control : Control) → IsSoundWorld unit world → slice_get world.activities activity ≡ Some control →
-    IsSoundOutcome unit (step unit world.blocks control)
-activity-sound unit world activity control sound e =
-    step_is_sound unit world.blocks control sound.0 (All-at (IsSoundControl unit) world.activities activity control sound.1 e)
+    (scope : List Binding) (world : World) (activity : ℕ) (control : Control) → IsSoundWorld scope world → slice_get world.activities activity ≡ Some control →
+    IsSoundOutcome scope (step scope world.blocks control)
+activity-sound scope world activity control sound e =
+    step_is_sound scope world.blocks control sound.0 (All-at (IsSoundControl scope) world.activities activity control sound.1 e)
 
 -- each move keeps a world sound
 pub move_is_sound :
-    (unit : List Item) → are_bound [] unit ≡ true → IsListing unit [] →
-    (before after : World) (move : Move) → IsSoundWorld unit before → Moves unit before move after → IsSoundWorld unit after
-move_is_sound unit bound listing before after (Start function) sound moves =
-    starts-sound unit bound listing before after function (slice_get unit function) refl sound moves
-move_is_sound unit bound listing before after (Step activity) sound moves =
-    takes-sound unit before after activity (step unit before.blocks moves.0) sound (activity-sound unit before activity moves.0 sound moves.1) moves.2
-move_is_sound unit bound listing before after (Write number path value) sound moves = rw moves.3 (
-  sound-write unit before.blocks number moves.0 path value moves.2.0 sound.0 moves.1 moves.2.2
-      (fits-made before.blocks (first_blocks unit) value moves.2.0 sound.0.0 moves.2.5),
+    (unit : SyntaxTree) → IsInFirstForm unit → IsListing unit [] →
+    (before after : World) (move : Move) → IsSoundWorld (bindings_in unit) before → Moves unit before move after → IsSoundWorld (bindings_in unit) after
+move_is_sound unit form listing before after (Start function) sound moves =
+    starts-sound (bindings_in unit) before after (body_at function (external_parts unit)) (are_statements unit form listing function) sound moves
+move_is_sound unit form listing before after (Step activity) sound moves =
+    let scope : List Binding = bindings_in unit in
+    takes-sound scope before after activity (step scope before.blocks moves.0) sound (activity-sound scope before activity moves.0 sound moves.1) moves.2
+move_is_sound unit form listing before after (Write number path value) sound moves = rw moves.3 (
+  sound-write (bindings_in unit) before.blocks number moves.0 path value moves.2.0 sound.0 moves.1 moves.2.2
+      (fits-made before.blocks (first_blocks (bindings_in unit)) value moves.2.0 sound.0.0 moves.2.5),
   sound.1,
 )
 
@@ -131,17 +132,18 @@ move_is_sound unit bound listing before after (Write number path value) sound mo
 
 -- each world that a run reaches is sound
 pub run_is_sound :
-    (unit : List Item) → are_bound [] unit ≡ true → IsListing unit [] →
-    (moves : List Move) (world : World) → Runs unit moves world → IsSoundWorld unit world
-run_is_sound unit bound listing [] world run = rw run (opening-sound unit)
-run_is_sound unit bound listing (move ∷ earlier) world run =
-    move_is_sound unit bound listing run.0 world move (run_is_sound unit bound listing earlier run.0 run.1) run.2
+    (unit : SyntaxTree) → IsInFirstForm unit → IsListing unit [] →
+    (moves : List Move) (world : World) → Runs unit moves world → IsSoundWorld (bindings_in unit) world
+run_is_sound unit form listing [] world run = rw run (opening-sound unit)
+run_is_sound unit form listing (move ∷ earlier) world run =
+    move_is_sound unit form listing run.0 world move (run_is_sound unit form listing earlier run.0 run.1) run.2
 
 -- what is a fault is not sound
-no_fault : (unit : List Item) (outcome : Outcome) (kind : FaultKind) (token : ℕ) → IsSoundOutcome unit outcome → outcome ≢ Fault kind token
-no_fault unit outcome kind token sound e = subst (IsSoundOutcome unit) e sound
+no_fault : (scope : List Binding) (outcome : Outcome) (kind : FaultKind) (token : ℕ) → IsSoundOutcome scope outcome → outcome ≢ Fault kind token
+no_fault scope outcome kind token sound e = subst (IsSoundOutcome scope) e sound
 
 -- no run meets a fault
-pub unit_is_safe : (unit : List Item) → are_bound [] unit ≡ true → IsListing unit [] → IsSafe unit
-unit_is_safe unit bound listing moves world run activity control e kind token =
-    no_fault unit (step unit world.blocks control) kind token (activity-sound unit world activity control (run_is_sound unit bound listing moves world run) e)
+pub unit_is_safe : (unit : SyntaxTree) → IsInFirstForm unit → IsListing unit [] → IsSafe unit
+unit_is_safe unit form listing moves world run activity control e kind token =
+    let scope : List Binding = bindings_in unit in
+    no_fault scope (step scope world.blocks control) kind token (activity-sound scope world activity control (run_is_sound unit form listing moves world run) e)

@@ -1,6 +1,9 @@
--- The trees that the machine runs, each node with the token at which it stands.
-use Rattle.std.specs.Prelude.{ℕ, ◌+◌, List, [], ◌∷◌, length}
-use Rattle.meaning_syntax.specs.Items.{Statement, Assign, AssignThrough, AssignAddress, statement_spelled}
+-- The code that the machine runs: what is to be evaluated, each node with the token at which it stands.
+use Rattle.std.specs.Prelude.{ℕ, List, [], ◌∷◌, Option, Some, None}
+use Rattle.meaning_tree.specs.Kinds.{NodeKind, FunctionDefinition, CompoundStatement, ExpressionStatement, Name, Indirection, Address}
+use Rattle.meaning_tree.specs.Kinds as kinds
+use Rattle.meaning_tree.specs.Trees.{SyntaxTree, Node, NoParts, Part}
+use Rattle.meaning_syntax.specs.Trees.{SyntaxParts}
 
 -- lvalues, and expressions whose value is wanted (C11 6.3.2.1 p1, 6.5)
 mutual
@@ -9,6 +12,8 @@ mutual
     Named : (token : ℕ) (name : List ℕ) → PlaceCode
     -- `*`: the place to which a pointer points (6.5.3.2 p4)
     Behind : (token : ℕ) → ValueCode → PlaceCode
+    -- a node that designates no place, or for which the machine has no row: to enter it is a fault
+    NoPlace : (token : ℕ) → PlaceCode
 
   pub data ValueCode : Type 0 where
     -- the value of a place
@@ -22,17 +27,62 @@ mutual
 abbrev pub place_token : PlaceCode → ℕ
 place_token (Named token name) = token
 place_token (Behind token value) = token
+place_token (NoPlace token) = token
 
--- an expression statement that begins at this token (6.8.3)
-abbrev pub statement_code : ℕ → Statement → ValueCode
-statement_code first (Assign target source) =
-    Assignment (first + 1) (Named first target) (ValueOf (Named (first + 2) source))
-statement_code first (AssignThrough pointer source) =
-    Assignment (first + 2) (Behind first (ValueOf (Named (first + 1) pointer))) (ValueOf (Named (first + 3) source))
-statement_code first (AssignAddress target object) =
-    Assignment (first + 1) (Named first target) (AddressOf (first + 2) (Named (first + 3) object))
+-- A node of the tree, as a place and as a value
+pub record Code : Type 0 where
+  pub place : PlaceCode
+  pub value : ValueCode
 
-abbrev pub body_code : ℕ → List Statement → List ValueCode
-body_code first [] = []
-body_code first (statement ∷ statements) =
-    statement_code first statement ∷ body_code (first + length (statement_spelled statement)) statements
+abbrev pub place_code : PlaceCode → Code
+place_code place = record { place = place; value = ValueOf place }
+
+abbrev pub value_code : ℕ → ValueCode → Code
+value_code token value = record { place = NoPlace token; value = value }
+
+-- by its kind, its token, its name and the code of its parts
+abbrev pub code_row : NodeKind → ℕ → List ℕ → List Code → Code
+code_row Name token name parts = place_code (Named token name)
+code_row Indirection token name (pointer ∷ []) = place_code (Behind token pointer.value)
+code_row Address token name (operand ∷ []) = value_code token (AddressOf token operand.place)
+code_row kinds.Assignment token name (left ∷ right ∷ []) = value_code token (Assignment token left.place right.value)
+code_row kind token name parts = place_code (NoPlace token)
+
+abbrev mutual
+  pub code_of : SyntaxTree → Code
+  code_of (Node kind token name number parts) = code_row kind token name (parts_code parts)
+
+  pub parts_code : SyntaxParts → List Code
+  parts_code NoParts = []
+  parts_code (Part role tree parts) = code_of tree ∷ parts_code parts
+
+-- an expression statement is the value of its expression (6.8.3)
+abbrev pub statement_row : NodeKind → ℕ → List Code → ValueCode
+statement_row ExpressionStatement token (expression ∷ []) = expression.value
+statement_row kind token parts = ValueOf (NoPlace token)
+
+abbrev pub statement_code : SyntaxTree → ValueCode
+statement_code (Node kind token name number parts) = statement_row kind token (parts_code parts)
+
+abbrev pub statements_code : SyntaxParts → List ValueCode
+statements_code NoParts = []
+statements_code (Part role statement statements) = statement_code statement ∷ statements_code statements
+
+-- the statements of a body (6.8.2)
+abbrev pub compound_code : NodeKind → SyntaxParts → Option (List ValueCode)
+compound_code CompoundStatement statements = Some (statements_code statements)
+compound_code kind statements = None
+
+-- of a function: its last part is the body (6.9.1)
+abbrev pub last_code : SyntaxParts → Option (List ValueCode)
+last_code NoParts = None
+last_code (Part role (Node kind token name number statements) NoParts) = compound_code kind statements
+last_code (Part role tree (Part other next parts)) = last_code (Part other next parts)
+
+abbrev pub function_code : NodeKind → SyntaxParts → Option (List ValueCode)
+function_code FunctionDefinition parts = last_code parts
+function_code kind parts = None
+
+-- what a call of the node runs, if it is a function with a body
+abbrev pub body_code : SyntaxTree → Option (List ValueCode)
+body_code (Node kind token name number parts) = function_code kind parts

@@ -1,35 +1,44 @@
 -- Worked examples: small units, with runs of them.
-use Rattle.std.specs.Prelude.{◌≡◌, ℕ, true, false, pos, List, [], ◌∷◌, Some, None, codes, replicate}
-use Rattle.std.specs.List.{flat_map}
+use Rattle.std.specs.Prelude.{◌≡◌, ℕ, suc, zero, true, false, pos, List, [], ◌∷◌, Some, None, codes, replicate}
+use Rattle.std.specs.List.{flat_map, list_all}
 use Rattle.meaning_types.specs.Types.{IntKind, no_flags, TypeTree, Typed, IntegerTree}
-use Rattle.meaning_syntax.specs.Items.{Noderef, Statement, Assign, AssignThrough, AssignAddress, Item, Object}
+use Rattle.meaning_tree.specs.Kinds.{CompoundStatement, ExpressionStatement}
+use Rattle.meaning_tree.specs.Trees.{SyntaxTree}
+use Rattle.meaning_syntax.specs.Items.{Noderef, Statement, Assign, AssignThrough, AssignAddress, Item, Object, item_fits}
 use Rattle.meaning_syntax.specs.Binding.{are_bound}
-use Rattle.meaning_rules.specs.Typing.{int_with, pointer_to}
+use Rattle.meaning_syntax.specs.Trees.{unit_tree, plain_node, leaf, one_part, name_tree, assignment_tree, address_tree}
+use Rattle.meaning_rules.specs.Bindings.{Binding, pointer_to}
+use Rattle.meaning_rules.specs.Typing.{int_with}
 use Rattle.meaning_rules.specs.Evaluation.{InAssignment}
 use Rattle.meaning_rules.specs.Failures.{Failure, SpacesMixed, FlaggedAccess}
 use Rattle.meaning_rules.specs.Judging.{failures_of}
 use Rattle.meaning_rules.specs.Examples.{user_flags, user_words, noderef_flags, function_of}
 use Rattle.meaning_machine.specs.Values.{Spot, Null, Foreign, In, Value, Integer, Pointer, ForObject, Block}
-use Rattle.meaning_machine.specs.Outcomes.{NullPointer, ForeignPointer, IndeterminateValue, AccessFault, SpaceFault, Gives, IsUndefined}
+use Rattle.meaning_machine.specs.Outcomes.{NullPointer, ForeignPointer, IndeterminateValue, AccessFault, SpaceFault, ShapeFault, Gives, IsUndefined}
 use Rattle.meaning_machine.specs.Memory.{adopt, load}
-use Rattle.meaning_machine.specs.Machine.{Control, Finished, Outcome, Undefined, Fault}
+use Rattle.meaning_machine.specs.Code.{ValueCode, statement_code}
+use Rattle.meaning_machine.specs.Machine.{Control, EnterStatement, Finished, Outcome, Next, Done, Undefined, Fault, step}
 use Rattle.meaning_machine.specs.Runs.{World, Move, Start, Step, Write, Runs}
 use Rattle.meaning_machine.specs.Played.{onto, outcome_of}
 
--- The unit has these failures, and the moves, the first one first, are a run behind which the activity's next step has this outcome.
-pub record Meets (unit : List Item) (failures : List Failure) (moves : List Move) (activity : ℕ) (outcome : Outcome) : Type 0 where
-  pub bound : are_bound [] unit ≡ true
-  pub listed : failures_of unit ≡ failures
+-- The items are a unit of the first form with these failures, and the moves, the first one first, are a run of its
+-- tree behind which the activity's next step has this outcome.
+pub record Meets (items : List Item) (failures : List Failure) (moves : List Move) (activity : ℕ) (outcome : Outcome) : Type 0 where
+  pub fit : list_all item_fits items ≡ true
+  pub bound : are_bound [] items ≡ true
+  pub listed : failures_of items ≡ failures
   pub world : World
-  pub runs : Runs unit (onto moves []) world
-  pub met : outcome_of unit world activity ≡ Some outcome
+  pub runs : Runs (unit_tree items) (onto moves []) world
+  pub met : outcome_of (unit_tree items) world activity ≡ Some outcome
 
--- The unit has no failures, and the moves are a run that leaves the activities so, and this value in the block of an object.
-pub record Ends (unit : List Item) (moves : List Move) (activities : List Control) (block : ℕ) (type_ : TypeTree) (value : Value) : Type 0 where
-  pub bound : are_bound [] unit ≡ true
-  pub silent : failures_of unit ≡ []
+-- The items are a unit of the first form without failures, and the moves are a run of its tree that leaves the
+-- activities so, and this value in the block of an object.
+pub record Ends (items : List Item) (moves : List Move) (activities : List Control) (block : ℕ) (type_ : TypeTree) (value : Value) : Type 0 where
+  pub fit : list_all item_fits items ≡ true
+  pub bound : are_bound [] items ≡ true
+  pub silent : failures_of items ≡ []
   pub world : World
-  pub runs : Runs unit (onto moves []) world
+  pub runs : Runs (unit_tree items) (onto moves []) world
   pub ended : world.activities ≡ activities
   pub left : load world.blocks (record { type_ = type_; spot = In block [] 0 1 }) ≡ Gives value
 
@@ -150,3 +159,31 @@ IndeterminateIsUndefined =
 -- a pointer to const int may be stored where one to int is wanted, and keeps its target
 abbrev pub ConstIsAdopted : Type 0
 ConstIsAdopted = adopt (Pointer const_int Null) (pointer_to plain_int) ≡ Gives (Pointer const_int Null)
+
+-- Nodes without a row
+
+-- the outcome behind so many more steps, or the one that ends them before
+abbrev pub outcome_behind : ℕ → List Binding → Outcome → Outcome
+outcome_behind zero scope outcome = outcome
+outcome_behind (suc count) scope (Next blocks control) = outcome_behind count scope (step scope blocks control)
+outcome_behind (suc count) scope Done = Done
+outcome_behind (suc count) scope (Undefined reason token) = Undefined reason token
+outcome_behind (suc count) scope (Fault kind token) = Fault kind token
+
+-- `&x = y;`, whose `&` is token 3
+abbrev pub stored_to_address : SyntaxTree
+stored_to_address =
+    plain_node ExpressionStatement 3
+    (one_part (assignment_tree 5 (address_tree 3 (name_tree 4 (codes "x"))) (name_tree 6 (codes "y"))))
+
+-- the left side designates no place: whatever is declared, the third step is a fault there
+abbrev pub AddressIsNoPlace : Type 0
+AddressIsNoPlace =
+    (scope : List Binding) (blocks : List Block) (statements : List ValueCode)
+    → outcome_behind 2 scope (step scope blocks (EnterStatement (statement_code stored_to_address) statements)) ≡ Fault ShapeFault 3
+
+-- a statement of another kind, braces in a body here, is not passed over: the second step is a fault
+abbrev pub StatementWithoutRowIsFault : Type 0
+StatementWithoutRowIsFault =
+    (scope : List Binding) (blocks : List Block) (statements : List ValueCode)
+    → outcome_behind 1 scope (step scope blocks (EnterStatement (statement_code (leaf CompoundStatement 3)) statements)) ≡ Fault ShapeFault 3

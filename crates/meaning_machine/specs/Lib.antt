@@ -7,5 +7,6 @@ pub mod Machine
 pub mod Runs
 pub mod Played
 pub mod Examples
+pub mod RowExamples
 pub mod Laws
 pub mod Soundness

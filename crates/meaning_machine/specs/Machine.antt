@@ -2,14 +2,12 @@
 -- their declarations.
 use Rattle.std.specs.Prelude.{ℕ, ◌+◌, List, [], ◌∷◌, Option, Some, None, if◌then◌else◌}
 use Rattle.std.specs.Str.{bytes_eq}
-use Rattle.meaning_types.specs.Types.{flags_of, has_flag}
-use Rattle.meaning_syntax.specs.Items.{Item}
-use Rattle.meaning_syntax.specs.Binding.{Declared, item_name, item_declared}
-use Rattle.meaning_rules.specs.Typing.{declared_type}
+use Rattle.meaning_types.specs.Types.{TypeTree, flags_of, has_flag}
+use Rattle.meaning_rules.specs.Bindings.{Binding}
 use Rattle.meaning_machine.specs.Values.{In, Value, Integer, Pointer, Place, Block}
 use Rattle.meaning_machine.specs.Outcomes.{Reason, FaultKind, AccessFault, ShapeFault, Answer, Gives, IsFault, IsUndefined}
 use Rattle.meaning_machine.specs.Memory.{adopt, load, store}
-use Rattle.meaning_machine.specs.Code.{PlaceCode, Named, Behind, ValueCode, ValueOf, AddressOf, Assignment, place_token}
+use Rattle.meaning_machine.specs.Code.{PlaceCode, Named, Behind, NoPlace, ValueCode, ValueOf, AddressOf, Assignment, place_token}
 
 -- What remains to be done with a place, or with a value, innermost first
 mutual
@@ -50,18 +48,18 @@ pub data Outcome : Type 0 where
   Fault : FaultKind → (token : ℕ) → Outcome
 
 -- an object is the one element of its block
-abbrev pub object_place : ℕ → Option Declared → Option Place
+abbrev pub object_place : ℕ → Option TypeTree → Option Place
 object_place number None = None
-object_place number (Some declared) = Some (record { type_ = declared_type declared; spot = In number [] 0 1 })
+object_place number (Some type_) = Some (record { type_ = type_; spot = In number [] 0 1 })
 
--- the object of a name: its block has the number of its item
-abbrev pub place_from : ℕ → List Item → List ℕ → Option Place
+-- the object of a name: its block has the number of its binding
+abbrev pub place_from : ℕ → List Binding → List ℕ → Option Place
 place_from number [] name = None
-place_from number (item ∷ items) name =
-    if bytes_eq (item_name item) name then object_place number (item_declared item) else place_from (number + 1) items name
+place_from number (binding ∷ scope) name =
+    if bytes_eq binding.name name then object_place number binding.object else place_from (number + 1) scope name
 
-abbrev pub place_of : List Item → List ℕ → Option Place
-place_of unit name = place_from 0 unit name
+abbrev pub place_of : List Binding → List ℕ → Option Place
+place_of scope name = place_from 0 scope name
 
 -- An expression is taken up at its outermost node; a place whose value is wanted is loaded
 abbrev pub taken_up : ValueCode → AfterValue → Control
@@ -92,9 +90,10 @@ entered_name blocks token None after = Fault ShapeFault token
 entered_name blocks token (Some place) after = Next blocks (behind_place place after)
 
 -- enter takes up a node
-abbrev pub enter_place : List Item → List Block → PlaceCode → AfterPlace → Outcome
-enter_place unit blocks (Named token name) after = entered_name blocks token (place_of unit name) after
-enter_place unit blocks (Behind token pointer) after = Next blocks (taken_up pointer (ThenMove token after))
+abbrev pub enter_place : List Binding → List Block → PlaceCode → AfterPlace → Outcome
+enter_place scope blocks (Named token name) after = entered_name blocks token (place_of scope name) after
+enter_place scope blocks (Behind token pointer) after = Next blocks (taken_up pointer (ThenMove token after))
+enter_place scope blocks (NoPlace token) after = Fault ShapeFault token
 
 -- load gives the value of a place
 abbrev pub loaded : List Block → ℕ → AfterValue → Answer Value → Outcome
@@ -124,15 +123,15 @@ stored blocks place place_token value token after =
     else adopted blocks place place_token token after (adopt value place.type_)
 
 -- One step is the row that comes next.
-abbrev pub step : List Item → List Block → Control → Outcome
-step unit blocks (EnterBody statements) = Next blocks (gone_on statements)
-step unit blocks (EnterStatement statement statements) = Next blocks (taken_up statement (ThenGoOn statements))
-step unit blocks (EnterPlace place after) = enter_place unit blocks place after
-step unit blocks (EnterAddress place after) = Next blocks (EnterPlace place (ThenPoint after))
-step unit blocks (EnterAssignment token left right after) =
+abbrev pub step : List Binding → List Block → Control → Outcome
+step scope blocks (EnterBody statements) = Next blocks (gone_on statements)
+step scope blocks (EnterStatement statement statements) = Next blocks (taken_up statement (ThenGoOn statements))
+step scope blocks (EnterPlace place after) = enter_place scope blocks place after
+step scope blocks (EnterAddress place after) = Next blocks (EnterPlace place (ThenPoint after))
+step scope blocks (EnterAssignment token left right after) =
     Next blocks (EnterPlace left (ThenAssign (place_token left) token right after))
-step unit blocks (Load place token after) = loaded blocks token after (load blocks place)
-step unit blocks (Move value token after) = moved blocks value token after
-step unit blocks (Store place place_token value token after) = stored blocks place place_token value token after
-step unit blocks Leave = Done
-step unit blocks Finished = Done
+step scope blocks (Load place token after) = loaded blocks token after (load blocks place)
+step scope blocks (Move value token after) = moved blocks value token after
+step scope blocks (Store place place_token value token after) = stored blocks place place_token value token after
+step scope blocks Leave = Done
+step scope blocks Finished = Done

@@ -1,15 +1,16 @@
 -- The plain program beside the runs: it plays a list of moves, in the order in which they are made.
-use Rattle.std.specs.Prelude.{◌≡◌, ℕ, ◌+◌, Bool, true, false, ◌&&◌, List, [], ◌∷◌, ◌++◌, Option, Some, None, option_map, int_le, nat_eq, nat_le, slice_get, slice_set, if◌then◌else◌}
+use Rattle.std.specs.Prelude.{◌≡◌, ℕ, Bool, true, false, ◌&&◌, List, [], ◌∷◌, ◌++◌, Option, Some, None, option_map, int_le, nat_eq, nat_le, slice_get, slice_set, if◌then◌else◌}
 use Rattle.std.specs.Option.{option_and_then}
 use Rattle.meaning_types.specs.Types.{TypeTree, Typed, BaseTree, IntegerTree, PointerTree}
-use Rattle.meaning_syntax.specs.Items.{Item, Object, Function}
-use Rattle.meaning_rules.specs.Evaluation.{tokens_before_body}
+use Rattle.meaning_tree.specs.Trees.{SyntaxTree}
+use Rattle.meaning_rules.specs.Evaluation.{external_parts}
 use Rattle.meaning_machine.specs.Values.{Spot, Null, Foreign, In, Value, Integer, Pointer, Made, ForObject, ForFunction, Block, least, greatest}
 use Rattle.meaning_machine.specs.Memory.{content_at, block_with}
 use Rattle.meaning_machine.specs.Tests.{are_equal_kinds, are_similar}
-use Rattle.meaning_machine.specs.Code.{body_code}
+use Rattle.meaning_machine.specs.Code.{ValueCode}
+use Rattle.meaning_machine.specs.Outcomes.{FaultKind}
 use Rattle.meaning_machine.specs.Machine.{EnterBody, Finished, Outcome, Next, Done, Undefined, Fault, step}
-use Rattle.meaning_machine.specs.Runs.{World, opening, Move, Start, Step, Write, first_token, Runs}
+use Rattle.meaning_machine.specs.Runs.{World, opening, Move, Start, Step, Write, body_at, bindings_in, Runs, IsSafe}
 
 -- Tests that a value fits
 
@@ -58,12 +59,10 @@ is_writable_now blocks block path value =
 
 -- Moves, where they are possible
 
--- a new activity runs the body of the item, if it is a function
-abbrev pub started : List Item → World → ℕ → Option Item → Option World
-started unit before function None = None
-started unit before function (Some (Object words stars name)) = None
-started unit before function (Some (Function name statements)) =
-    Some (record before { activities = before.activities ++ EnterBody (body_code (first_token unit function + tokens_before_body) statements) ∷ [] })
+-- a new activity runs these statements, if there is such a body
+abbrev pub started : World → Option (List ValueCode) → Option World
+started before None = None
+started before (Some statements) = Some (record before { activities = before.activities ++ EnterBody statements ∷ [] })
 
 -- an activity's step has this outcome
 abbrev pub taken : World → ℕ → Outcome → Option World
@@ -74,8 +73,8 @@ taken before activity (Undefined reason token) = None
 taken before activity (Fault kind token) = None
 
 -- the outcome of an activity's next step
-abbrev pub outcome_of : List Item → World → ℕ → Option Outcome
-outcome_of unit world activity = option_map (step unit world.blocks) (slice_get world.activities activity)
+abbrev pub outcome_of : SyntaxTree → World → ℕ → Option Outcome
+outcome_of unit world activity = option_map (step (bindings_in unit) world.blocks) (slice_get world.activities activity)
 
 -- the outside writes a value that fits into a cell of the block
 abbrev pub written_if : World → ℕ → List ℕ → Value → Option Block → Option World
@@ -86,18 +85,18 @@ written_if before number path value (Some block) =
     else None
 
 -- the world behind one move
-abbrev pub moved_to : List Item → World → Move → Option World
-moved_to unit before (Start function) = started unit before function (slice_get unit function)
+abbrev pub moved_to : SyntaxTree → World → Move → Option World
+moved_to unit before (Start function) = started before (body_at function (external_parts unit))
 moved_to unit before (Step activity) = option_and_then (taken before activity) (outcome_of unit before activity)
 moved_to unit before (Write number path value) = written_if before number path value (slice_get before.blocks number)
 
 -- the world behind these moves, the first one first
-abbrev pub played_from : List Item → List Move → World → Option World
+abbrev pub played_from : SyntaxTree → List Move → World → Option World
 played_from unit [] world = Some world
 played_from unit (move ∷ moves) world = option_and_then (played_from unit moves) (moved_to unit world move)
 
 -- from the opening world
-abbrev pub played : List Item → List Move → Option World
+abbrev pub played : SyntaxTree → List Move → Option World
 played unit moves = played_from unit moves (opening unit)
 
 -- the moves with the last one first, before others
@@ -107,4 +106,10 @@ onto (move ∷ moves) earlier = onto moves (move ∷ earlier)
 
 -- what is played is a run
 abbrev pub PlayedIsRun : Type 0
-PlayedIsRun = (unit : List Item) (moves : List Move) (world : World) → played unit moves ≡ Some world → Runs unit (onto moves []) world
+PlayedIsRun = (unit : SyntaxTree) (moves : List Move) (world : World) → played unit moves ≡ Some world → Runs unit (onto moves []) world
+
+-- a unit isn't safe where some run leads to a world in which an activity's next step is a fault
+abbrev pub FaultsAreUnsafe : Type 0
+FaultsAreUnsafe =
+    (unit : SyntaxTree) (moves : List Move) (world : World) (activity : ℕ) (kind : FaultKind) (token : ℕ)
+    → Runs unit moves world → outcome_of unit world activity ≡ Some (Fault kind token) → IsSafe unit → ⊥

@@ -1,15 +1,14 @@
 -- Runs: lists of moves from the opening world, for any number of activities in any order.
-use Rattle.std.specs.Prelude.{◌≡◌, ◌≢◌, ℕ, ◌+◌, true, pos, List, [], ◌∷◌, ◌++◌, Option, Some, None, length, map, take, false, slice_get, slice_set}
-use Rattle.std.specs.List.{flat_map}
+use Rattle.std.specs.Prelude.{◌≡◌, ◌≢◌, ℕ, suc, zero, true, pos, List, [], ◌∷◌, ◌++◌, Option, Some, None, map, false, slice_get, slice_set}
 use Rattle.meaning_types.specs.Types.{TypeTree, Typed, BaseTree, IntegerTree, PointerTree}
-use Rattle.meaning_syntax.specs.Items.{Item, Object, Function, item_spelled}
-use Rattle.meaning_syntax.specs.Binding.{Declared, item_declared}
-use Rattle.meaning_rules.specs.Typing.{declared_type}
-use Rattle.meaning_rules.specs.Evaluation.{tokens_before_body}
+use Rattle.meaning_tree.specs.Trees.{SyntaxTree, NoParts, Part}
+use Rattle.meaning_syntax.specs.Trees.{SyntaxParts}
+use Rattle.meaning_rules.specs.Bindings.{Binding, bindings_of}
+use Rattle.meaning_rules.specs.Evaluation.{external_parts}
 use Rattle.meaning_machine.specs.Values.{Null, Value, Integer, Pointer, ForObject, ForFunction, Block, Fits}
 use Rattle.meaning_machine.specs.Outcomes.{FaultKind}
 use Rattle.meaning_machine.specs.Memory.{content_at, block_with}
-use Rattle.meaning_machine.specs.Code.{body_code}
+use Rattle.meaning_machine.specs.Code.{ValueCode, body_code}
 use Rattle.meaning_machine.specs.Machine.{Control, EnterBody, Finished, Outcome, Next, Done, Undefined, Fault, step}
 
 pub record World : Type 0 where
@@ -25,38 +24,47 @@ zero_of (PointerTree target) = Pointer target Null
 abbrev pub opening_value : TypeTree → Value
 opening_value (Typed base _ _) = zero_of base
 
-abbrev pub opening_block : Option Declared → Block
+abbrev pub opening_block : Option TypeTree → Block
 opening_block None = record { made = ForFunction; is_alive = true; cells = [] }
 opening_block (Some declared) =
     record {
-      made = ForObject (declared_type declared);
+      made = ForObject declared;
       is_alive = true;
-      cells = record { path = []; content = Some (opening_value (declared_type declared)) } ∷ [];
+      cells = record { path = []; content = Some (opening_value declared) } ∷ [];
     }
 
-abbrev pub opening : List Item → World
-opening unit = record { blocks = map (λ item. opening_block (item_declared item)) unit; activities = [] }
+-- what the declarations and functions of a unit bind, in order
+abbrev pub bindings_among : SyntaxParts → List Binding
+bindings_among NoParts = []
+bindings_among (Part role tree parts) = bindings_of tree ++ bindings_among parts
+
+abbrev pub bindings_in : SyntaxTree → List Binding
+bindings_in unit = bindings_among (external_parts unit)
+
+-- a block for each binding
+abbrev pub opening : SyntaxTree → World
+opening unit = record { blocks = map (λ binding. opening_block binding.object) (bindings_in unit); activities = [] }
 
 -- Moves
 
 pub data Move : Type 0 where
-  -- the function of this item is called
+  -- the function that stands there among the declarations and functions of the unit is called
   Start : (function : ℕ) → Move
   -- an activity takes a step
   Step : (activity : ℕ) → Move
   -- the outside writes a value into a cell of a block
   Write : (block : ℕ) (path : List ℕ) (value : Value) → Move
 
--- the index of an item's first token
-abbrev pub first_token : List Item → ℕ → ℕ
-first_token unit function = length (flat_map item_spelled (take function unit))
+-- the body of the function that stands behind so many others
+abbrev pub body_at : ℕ → SyntaxParts → Option (List ValueCode)
+body_at function NoParts = None
+body_at zero (Part role tree parts) = body_code tree
+body_at (suc function) (Part role tree parts) = body_at function parts
 
--- a new activity runs the body of the item, if it is a function
-abbrev pub Starts : List Item → World → ℕ → Option Item → World → Type 0
-Starts unit before function None after = ⊥
-Starts unit before function (Some (Object words stars name)) after = ⊥
-Starts unit before function (Some (Function name statements)) after =
-    after ≡ record before { activities = before.activities ++ EnterBody (body_code (first_token unit function + tokens_before_body) statements) ∷ [] }
+-- a new activity runs these statements, if there is such a body
+abbrev pub Starts : World → Option (List ValueCode) → World → Type 0
+Starts before None after = ⊥
+Starts before (Some statements) after = after ≡ record before { activities = before.activities ++ EnterBody statements ∷ [] }
 
 -- an activity whose next step is undefined or a fault takes none
 abbrev pub Takes : World → ℕ → Outcome → World → Type 0
@@ -72,22 +80,22 @@ IsWritable blocks block path value =
     (declared : TypeTree) × (content : Option Value) × (block.made ≡ ForObject declared) × (block.is_alive ≡ true)
     × (content_at block.cells path ≡ Some content) × Fits blocks value declared
 
-abbrev pub Moves : List Item → World → Move → World → Type 0
-Moves unit before (Start function) after = Starts unit before function (slice_get unit function) after
+abbrev pub Moves : SyntaxTree → World → Move → World → Type 0
+Moves unit before (Start function) after = Starts before (body_at function (external_parts unit)) after
 Moves unit before (Step activity) after =
-    (control : Control) × (slice_get before.activities activity ≡ Some control) × Takes before activity (step unit before.blocks control) after
+    (control : Control) × (slice_get before.activities activity ≡ Some control) × Takes before activity (step (bindings_in unit) before.blocks control) after
 Moves unit before (Write number path value) after =
     (block : Block) × (slice_get before.blocks number ≡ Some block) × IsWritable before.blocks block path value
     × (after ≡ record before { blocks = slice_set before.blocks number (block_with block path value) })
 
 -- these moves, the last one first, lead from the opening world to this one
-abbrev pub Runs : List Item → List Move → World → Type 0
+abbrev pub Runs : SyntaxTree → List Move → World → Type 0
 Runs unit [] world = world ≡ opening unit
 Runs unit (move ∷ earlier) world = (before : World) × Runs unit earlier before × Moves unit before move world
 
 -- no run meets a fault: no activity's next step is one, in any world that a run reaches
-abbrev pub IsSafe : List Item → Type 0
+abbrev pub IsSafe : SyntaxTree → Type 0
 IsSafe unit =
     (moves : List Move) (world : World) → Runs unit moves world
     → (activity : ℕ) (control : Control) → slice_get world.activities activity ≡ Some control
-    → (kind : FaultKind) (token : ℕ) → step unit world.blocks control ≢ Fault kind token
+    → (kind : FaultKind) (token : ℕ) → step (bindings_in unit) world.blocks control ≢ Fault kind token

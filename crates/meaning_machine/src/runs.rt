@@ -1,12 +1,14 @@
 ghost use Rattle.meaning_machine.specs.Played.{PlayedIsRun};
-ghost use Rattle.meaning_machine.specs.Examples.{SpaceIsLost, NoderefIsAccessed, FlaggedIntIsLoaded, SilentUnitEnds, SilentUnitCopies, NullIsUndefined, ForeignIsUndefined, ConstIsCopied, IndeterminateIsUndefined, ConstIsAdopted};
+ghost use Rattle.meaning_machine.specs.RowExamples.{FitExamples, RangeExamples, RowExamples};
+ghost use Rattle.meaning_machine.specs.Examples.{SpaceIsLost, NoderefIsAccessed, FlaggedIntIsLoaded, SilentUnitEnds, SilentUnitCopies, NullIsUndefined, ForeignIsUndefined, ConstIsCopied, IndeterminateIsUndefined, ConstIsAdopted, AddressIsNoPlace, StatementWithoutRowIsFault};
 
 /// What the plain program plays is a run.
 pub fn played_is_run()
     ensures { PlayedIsRun }
 {}
 
-/// Small units, with runs that meet a fault, meet an undefined action or end.
+/// Small units, with runs that meet a fault, meet an undefined action or end; single rows, and nodes that
+/// have none.
 pub fn worked_runs()
     ensures space_lost { SpaceIsLost }
     ensures noderef_accessed { NoderefIsAccessed }
@@ -18,4 +20,13 @@ pub fn worked_runs()
     ensures const_copied { ConstIsCopied }
     ensures indeterminate_undefined { IndeterminateIsUndefined }
     ensures const_adopted { ConstIsAdopted }
+    ensures address_no_place { AddressIsNoPlace }
+    ensures rowless_fault { StatementWithoutRowIsFault }
+{}
+
+/// The numbers of each kind, what fits a type, and what single loads and stores give.
+pub fn worked_rows()
+    ensures ranges { RangeExamples }
+    ensures rows { RowExamples }
+    ensures fits { FitExamples }
 {}

@@ -1,3 +1,4 @@
+ghost use Rattle.meaning_machine.specs.Played.{FaultsAreUnsafe};
 ghost use Rattle.meaning_machine.specs.Laws.{BlocksLast, MovesAreSound, RunsAreSound, SilenceIsSafe, StepsAreSound};
 
 /// Each move keeps what the blocks are made for, and dead blocks stay dead.
@@ -31,4 +32,10 @@ pub fn runs_are_sound()
 #[tactic(auto, using(crate::proofs::Worlds::unit_is_safe))]
 pub fn silence_is_safe()
     ensures { SilenceIsSafe }
+{}
+
+/// A unit with a run that meets a fault isn't safe, whatever the fault and whichever activity meets it.
+#[tactic(auto, using(crate::proofs::Playing::faults_are_unsafe))]
+pub fn faults_are_unsafe()
+    ensures { FaultsAreUnsafe }
 {}

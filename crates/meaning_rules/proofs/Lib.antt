@@ -1,3 +1,4 @@
+pub mod Trees
 pub mod Elements
 pub mod Order
 pub mod MixedSpaces

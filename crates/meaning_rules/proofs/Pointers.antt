@@ -4,7 +4,9 @@ use Rattle.std.proofs.Math.Dec.{eqb-suc-zero}
 use Rattle.std.proofs.lemmas.Bool.{eqb-true, eq-eqb}
 use Rattle.meaning_types.specs.Types.{Flags, value_type}
 use Rattle.meaning_syntax.specs.Binding.{Declared}
-use Rattle.meaning_rules.specs.Typing.{behind_stars, int_with, declared_type, target_of, pointer_to}
+use Rattle.meaning_rules.specs.Bindings.{pointer_to}
+use Rattle.meaning_rules.specs.Expressions.{target_of}
+use Rattle.meaning_rules.specs.Typing.{behind_stars, int_with, declared_type}
 use Rattle.meaning_rules.specs.Judging.{int_flags, is_flagged_int, behind_pointer, address_of}
 
 -- an object with one star more than another has one star at least

@@ -4,8 +4,11 @@ use Rattle.meaning_types.specs.Types.{flags_of, has_flag, value_type}
 use Rattle.meaning_types.specs.Spaces.{MixSpaces}
 use Rattle.meaning_syntax.specs.Items.{Item, Statement, Assign, AssignThrough, AssignAddress, statement_spelled}
 use Rattle.meaning_syntax.specs.Binding.{Declared, object_of, have_equal_stars, has_one_star_more, statement_binds}
-use Rattle.meaning_rules.specs.Typing.{declared_type, target_of, pointer_to}
-use Rattle.meaning_rules.specs.Evaluation.{Access, Conversion, InAssignment, access_at, assignment_at, statement_accesses, statement_conversions}
+use Rattle.meaning_rules.specs.Bindings.{pointer_to}
+use Rattle.meaning_rules.specs.Expressions.{target_of}
+use Rattle.meaning_rules.specs.Typing.{declared_type}
+use Rattle.meaning_rules.specs.Evaluation.{Access, Conversion, InAssignment, access_at, assignment_at}
+use Rattle.meaning_rules.specs.Placed.{statement_accesses, statement_conversions}
 use Rattle.meaning_rules.specs.Failures.{Failure, access_failure, conversion_failure}
 use Rattle.meaning_rules.specs.Judging.{are_equal_flags, int_flags, is_flagged_int, judged_access, judged_assignment, behind_pointer, address_of, judged_assign, judged_assign_through, judged_assign_address, judged_objects, judged_statement}
 use Rattle.meaning_rules.proofs.Elements.{Contains-nil, Contains-cons_head, Contains-single, Contains-if, All-if}

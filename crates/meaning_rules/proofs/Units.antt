@@ -6,21 +6,16 @@ use Rattle.std.proofs.lemmas.List.Elements.{All-nil, All-cons, All-append, All-h
 use Rattle.std.specs.List.{list_all}
 use Rattle.meaning_syntax.specs.Items.{Item, Object, Function, Statement, statement_spelled, item_spelled}
 use Rattle.meaning_syntax.specs.Binding.{are_bound, item_statements, statement_binds}
-use Rattle.meaning_rules.specs.Evaluation.{Access, Conversion, Placed, placed_body, placed_behind, placed_in, tokens_before_body, statement_accesses, statement_conversions, accesses_in, conversions_in}
+use Rattle.meaning_rules.specs.Evaluation.{accesses_in, conversions_in}
+use Rattle.meaning_rules.specs.Placed.{Placed, placed_body, placed_behind, placed_in, tokens_before_body, placed_accesses, placed_conversions}
 use Rattle.meaning_rules.specs.Failures.{Fails}
 use Rattle.meaning_rules.specs.Judging.{judged_statement, judged_placed, failures_of}
+use Rattle.meaning_syntax.specs.Trees.{unit_tree}
 use Rattle.meaning_rules.specs.Laws.{ListingsExist, ListingsAreUnique}
 use Rattle.meaning_rules.proofs.Order.{AreOrdered-unique, StandIn, StandIn-nil, StandIn-append_texts, StandIn-wider}
 use Rattle.meaning_rules.proofs.Failing.{AreThose, AreThose-nil, AreThose-append}
+use Rattle.meaning_rules.proofs.Trees.{accesses_in-unit_tree, conversions_in-unit_tree}
 use Rattle.meaning_rules.proofs.Statements.{judged_statement-AreThose, judged_statement-StandIn}
-
--- what a placed statement reads and writes
-abbrev placed_accesses : Placed → List Access
-placed_accesses placed = statement_accesses placed.before placed.first placed.statement
-
--- what it converts
-abbrev placed_conversions : Placed → List Conversion
-placed_conversions placed = statement_conversions placed.before placed.first placed.statement
 
 -- Each placed statement binds
 
@@ -100,14 +95,16 @@ placed_behind-StandIn before first (item ∷ items) =
 
 -- the plain program gives a listing
 pub listings_exist : ListingsExist
-listings_exist unit bound = record {
+listings_exist items bound = record {
   sound = those.sound;
   complete = those.complete;
-  ordered = (placed_behind-StandIn [] 0 unit).ordered;
+  ordered = (placed_behind-StandIn [] 0 items).ordered;
 }
   where
-    those : AreThose (failures_of unit) (accesses_in unit) (conversions_in unit)
-    those = judged_placed-AreThose (placed_in unit) (placed_behind-Binds [] 0 unit bound)
+    those : AreThose (failures_of items) (accesses_in (unit_tree items)) (conversions_in (unit_tree items))
+    those =
+        rw (accesses_in-unit_tree items, conversions_in-unit_tree items)
+        (judged_placed-AreThose (placed_in items) (placed_behind-Binds [] 0 items bound))
 
 -- two listings hold the same failures, in the same order
 pub listings_are_unique : ListingsAreUnique

@@ -1,35 +1,26 @@
--- Which places a unit reads and writes, and which values it converts, by the syntax of its statements.
-use Rattle.std.specs.Prelude.{ℕ, ◌+◌, List, [], ◌∷◌, ◌++◌, Option, Some, None, length}
-use Rattle.std.specs.List.{flat_map}
+-- Which places a unit reads and writes, and which values it converts, by its tree.
+use Rattle.std.specs.Prelude.{ℕ, zero, ◌+◌, List, [], ◌∷◌, ◌++◌, Option, Some, None}
 use Rattle.meaning_types.specs.Types.{TypeTree}
-use Rattle.meaning_syntax.specs.Items.{Statement, Assign, AssignThrough, AssignAddress, Item, statement_spelled, item_spelled}
-use Rattle.meaning_syntax.specs.Binding.{item_statements}
-use Rattle.meaning_rules.specs.Typing.{type_of, value_type_of, target_type_of, address_type_of}
+use Rattle.meaning_tree.specs.Kinds.{NodeKind, TranslationUnit, Address, Assignment, Evaluated, Condition, TypePart, Unevaluated}
+use Rattle.meaning_tree.specs.Trees.{SyntaxTree, Node, NoParts, Part}
+use Rattle.meaning_syntax.specs.Trees.{SyntaxParts}
+use Rattle.meaning_rules.specs.Bindings.{Binding, bindings_of}
+use Rattle.meaning_rules.specs.Expressions.{Fact, row, facts_of}
 
--- a statement, what is declared before the function around it, and the index of its first token
-pub record Placed : Type 0 where
-  pub before : List Item
-  pub first : ℕ
-  pub statement : Statement
+-- What a node wants of a part
+pub data Want : Type 0 where
+  -- its value: a place is loaded (C11 6.3.2.1 p2)
+  ForValue : Want
+  -- the place that it designates, to store to it (6.5.16 p3)
+  ForStore : Want
+  -- that place alone (6.5.3.2 p3)
+  ForPlace : Want
 
--- statements that stand one behind the other
-abbrev pub placed_body : List Item → ℕ → List Statement → List Placed
-placed_body before first [] = []
-placed_body before first (statement ∷ statements) =
-    record { before = before; first = first; statement = statement } ∷ placed_body before (first + length (statement_spelled statement)) statements
-
--- a function's body begins behind `void NAME ( void ) {`
-abbrev pub tokens_before_body : ℕ
-tokens_before_body = 6
-
--- all statements of items that stand behind others
-abbrev pub placed_behind : List Item → ℕ → List Item → List Placed
-placed_behind before first [] = []
-placed_behind before first (item ∷ items) =
-    placed_body before (first + tokens_before_body) (item_statements item) ++ placed_behind (before ++ item ∷ []) (first + length (item_spelled item)) items
-
-abbrev pub placed_in : List Item → List Placed
-placed_in unit = placed_behind [] 0 unit
+-- by the kind of the node, and how many parts stand before this one
+abbrev pub want_of : NodeKind → ℕ → Want
+want_of Assignment zero = ForStore
+want_of Address before = ForPlace
+want_of kind before = ForValue
 
 -- a load from a place or a store to it, at the token of the place's node
 pub record Access : Type 0 where
@@ -48,38 +39,73 @@ pub record Conversion : Type 0 where
   pub to : TypeTree
   pub from : TypeTree
 
+-- an access to a place, where there is one
 abbrev pub access_at : ℕ → Option TypeTree → List Access
 access_at token None = []
 access_at token (Some place) = record { token = token; place = place } ∷ []
 
+-- what is wanted of a node that designates this place
+abbrev pub access_for : Want → ℕ → Option TypeTree → List Access
+access_for ForValue token place = access_at token place
+access_for ForStore token place = access_at token place
+access_for ForPlace token place = []
+
+-- the conversion of a value, where both types are known
 abbrev pub assignment_at : ℕ → Option TypeTree → Option TypeTree → List Conversion
 assignment_at token (Some to) (Some from) =
     record { token = token; position = InAssignment; to = to; from = from } ∷ []
 assignment_at token (Some to) None = []
 assignment_at token None from = []
 
--- An assignment stores to the place on its left and loads each object whose value it takes (6.5.16 p3,
--- 6.3.2.1 p2). The place behind a pointer stands at its `*`. Under `&` nothing is loaded (6.5.3.2 p3).
-abbrev pub statement_accesses : List Item → ℕ → Statement → List Access
-statement_accesses before first (Assign target source) =
-    access_at first (type_of before target) ++ access_at (first + 2) (type_of before source)
-statement_accesses before first (AssignThrough pointer source) =
-    access_at first (target_type_of before pointer)
-    ++ access_at (first + 1) (type_of before pointer)
-    ++ access_at (first + 3) (type_of before source)
-statement_accesses before first (AssignAddress target object) = access_at first (type_of before target)
+-- the right side of an assignment is converted to the type of the left one (6.5.16.1 p2)
+abbrev pub conversion_at : NodeKind → ℕ → List Fact → List Conversion
+conversion_at Assignment token (left ∷ right ∷ []) = assignment_at token left.place right.value
+conversion_at kind token facts = []
 
--- And it converts the value on its right to the type on its left, at the `=` (6.5.16.1 p2).
-abbrev pub statement_conversions : List Item → ℕ → Statement → List Conversion
-statement_conversions before first (Assign target source) =
-    assignment_at (first + 1) (type_of before target) (value_type_of before source)
-statement_conversions before first (AssignThrough pointer source) =
-    assignment_at (first + 2) (target_type_of before pointer) (value_type_of before source)
-statement_conversions before first (AssignAddress target object) =
-    assignment_at (first + 1) (type_of before target) (address_type_of before object)
+-- The accesses of a node of which this is wanted, and those of its evaluated parts; so many parts stand before
+abbrev mutual
+  pub accesses_of : List Binding → Want → SyntaxTree → List Access
+  accesses_of scope want (Node kind token name number parts) =
+      access_for want token (row scope kind name (facts_of scope parts)).place ++ parts_accesses scope kind 0 parts
 
-abbrev pub accesses_in : List Item → List Access
-accesses_in unit = flat_map (λ placed. statement_accesses placed.before placed.first placed.statement) (placed_in unit)
+  pub parts_accesses : List Binding → NodeKind → ℕ → SyntaxParts → List Access
+  parts_accesses scope kind before NoParts = []
+  parts_accesses scope kind before (Part Evaluated tree parts) =
+      accesses_of scope (want_of kind before) tree ++ parts_accesses scope kind (before + 1) parts
+  parts_accesses scope kind before (Part Condition tree parts) =
+      accesses_of scope ForValue tree ++ parts_accesses scope kind (before + 1) parts
+  parts_accesses scope kind before (Part TypePart tree parts) = parts_accesses scope kind (before + 1) parts
+  parts_accesses scope kind before (Part Unevaluated tree parts) = parts_accesses scope kind (before + 1) parts
 
-abbrev pub conversions_in : List Item → List Conversion
-conversions_in unit = flat_map (λ placed. statement_conversions placed.before placed.first placed.statement) (placed_in unit)
+-- the conversions of a node and of its parts
+abbrev mutual
+  pub conversions_of : List Binding → SyntaxTree → List Conversion
+  conversions_of scope (Node kind token name number parts) =
+      conversion_at kind token (facts_of scope parts) ++ parts_conversions scope parts
+
+  pub parts_conversions : List Binding → SyntaxParts → List Conversion
+  parts_conversions scope NoParts = []
+  parts_conversions scope (Part role tree parts) = conversions_of scope tree ++ parts_conversions scope parts
+
+-- The unit: each declaration and each function in the scope of those before it
+
+-- the declarations and functions of a unit
+abbrev pub external_parts : SyntaxTree → SyntaxParts
+external_parts (Node TranslationUnit token name number parts) = parts
+external_parts (Node kind token name number parts) = NoParts
+
+abbrev pub accesses_behind : List Binding → SyntaxParts → List Access
+accesses_behind scope NoParts = []
+accesses_behind scope (Part role tree parts) =
+    accesses_of scope ForValue tree ++ accesses_behind (scope ++ bindings_of tree) parts
+
+abbrev pub conversions_behind : List Binding → SyntaxParts → List Conversion
+conversions_behind scope NoParts = []
+conversions_behind scope (Part role tree parts) =
+    conversions_of scope tree ++ conversions_behind (scope ++ bindings_of tree) parts
+
+abbrev pub accesses_in : SyntaxTree → List Access
+accesses_in unit = accesses_behind [] (external_parts unit)
+
+abbrev pub conversions_in : SyntaxTree → List Conversion
+conversions_in unit = conversions_behind [] (external_parts unit)

@@ -1,22 +1,32 @@
 -- Worked examples: small files, with the failures and warnings that they have.
-use Rattle.std.specs.Prelude.{◌≡◌, ℕ, true, false, List, [], ◌∷◌, ◌++◌, codes, map}
-use Rattle.meaning_text.specs.Places.{start}
-use Rattle.meaning_text.specs.Lexing.{tokens_of}
+use Rattle.std.specs.Prelude.{◌≡◌, ℕ, true, false, List, [], ◌∷◌, ◌++◌, codes}
+use Rattle.meaning_text.specs.Tokens.{Tok}
+use Rattle.meaning_text.specs.Terminals.{terminals_of}
+use Rattle.meaning_text.specs.Lexing.{Lexed, Tokens, Refused, lexed_file}
 use Rattle.meaning_types.specs.Types.{NoSpace, NumberedSpace, NamedSpace, Flags, no_flags}
 use Rattle.meaning_types.specs.Spaces.{MixSpaces}
 use Rattle.meaning_syntax.specs.Items.{Word, Noderef, AddressSpace, Statement, Assign, AssignThrough, AssignAddress, Item, Object, Function}
 use Rattle.meaning_syntax.specs.Form.{IsUnit}
-use Rattle.meaning_rules.specs.Typing.{int_with, flagged, pointer_to}
+use Rattle.meaning_rules.specs.Bindings.{pointer_to}
+use Rattle.meaning_rules.specs.Typing.{int_with, flagged}
 use Rattle.meaning_rules.specs.Evaluation.{InAssignment}
 use Rattle.meaning_rules.specs.Failures.{Failure, SpacesMixed, FlaggedAccess}
 use Rattle.meaning_rules.specs.Judging.{failures_of}
-use Rattle.meaning_rules.specs.Text.{warnings_text}
+use Rattle.meaning_rules.specs.Text.{main_file, warnings_text}
+
+-- the tokens that were found, if no fault was
+abbrev pub tokens_found : Lexed → List Tok
+tokens_found (Tokens tokens) = tokens
+tokens_found (Refused fault) = []
+
+abbrev pub tokens_in : List ℕ → List Tok
+tokens_in text = tokens_found (lexed_file main_file text)
 
 -- The file `t.c` with this text is this unit, which has these failures and these warnings.
 pub record Warns (text : List ℕ) (unit : List Item) (failures : List Failure) (warnings : List ℕ) : Type 0 where
-  pub is_unit : IsUnit (map (λ token. token.text) (tokens_of start text)) unit
+  pub is_unit : IsUnit (terminals_of (tokens_in text)) unit
   pub listed : failures_of unit ≡ failures
-  pub warned : warnings_text (codes "t.c") (tokens_of start text) failures ≡ warnings
+  pub warned : warnings_text (codes "t.c") (tokens_in text) failures ≡ warnings
 
 -- What the examples are made of
 

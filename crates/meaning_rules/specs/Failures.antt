@@ -2,7 +2,7 @@
 use Rattle.std.specs.Prelude.{◌≡◌, ℕ, ◌<◌, true, List, [], ◌∷◌, All, Contains, ◌⊎◌}
 use Rattle.meaning_types.specs.Types.{TypeTree, flags_of, has_flag}
 use Rattle.meaning_types.specs.Spaces.{MixSpaces}
-use Rattle.meaning_syntax.specs.Items.{Item}
+use Rattle.meaning_tree.specs.Trees.{SyntaxTree}
 use Rattle.meaning_rules.specs.Evaluation.{Access, Conversion, Position, accesses_in, conversions_in}
 
 -- a rule that fails, with what its text names
@@ -30,17 +30,17 @@ conversion_failure conversion =
     record { token = conversion.token; part = 0; cause = SpacesMixed conversion.position conversion.to conversion.from }
 
 -- an access of the unit fails so
-abbrev pub FailsByAccess : List Item → Failure → Type 0
+abbrev pub FailsByAccess : SyntaxTree → Failure → Type 0
 FailsByAccess unit failure =
     (access : Access) × Contains (accesses_in unit) access × (has_flag (flags_of access.place) ≡ true) × (failure ≡ access_failure access)
 
 -- a conversion of the unit fails so
-abbrev pub FailsByConversion : List Item → Failure → Type 0
+abbrev pub FailsByConversion : SyntaxTree → Failure → Type 0
 FailsByConversion unit failure =
     (conversion : Conversion) × Contains (conversions_in unit) conversion × MixSpaces conversion.to conversion.from × (failure ≡ conversion_failure conversion)
 
 -- a rule fails so in the unit
-abbrev pub Fails : List Item → Failure → Type 0
+abbrev pub Fails : SyntaxTree → Failure → Type 0
 Fails unit failure = FailsByAccess unit failure ⊎ FailsByConversion unit failure
 
 -- by token, then by rule, then by part
@@ -55,7 +55,7 @@ AreOrdered [] = Unit {0}
 AreOrdered (failure ∷ failures) = All (IsBefore failure) failures × AreOrdered failures
 
 -- These are the unit's failures, each once, in order.
-pub record IsListing (unit : List Item) (failures : List Failure) : Type 0 where
+pub record IsListing (unit : SyntaxTree) (failures : List Failure) : Type 0 where
   pub sound : All (Fails unit) failures
   pub complete : (failure : Failure) → Fails unit failure → Contains failures failure
   pub ordered : AreOrdered failures

@@ -1,4 +1,5 @@
--- The plain program beside the listing: it judges statement by statement, by how objects are declared.
+-- The plain program beside the listing: it judges the items of the first form statement by statement, by how
+-- objects are declared.
 use Rattle.std.specs.Prelude.{ℕ, suc, ◌-◌, Bool, true, false, ◌+◌, ◌&&◌, List, [], ◌∷◌, ◌++◌, Option, Some, None, not, nat_eq, nat_lt, if◌then◌else◌}
 use Rattle.std.specs.List.{flat_map}
 use Rattle.std.specs.Str.{bytes_eq}
@@ -6,7 +7,8 @@ use Rattle.meaning_types.specs.Types.{Space, NoSpace, NumberedSpace, NamedSpace,
 use Rattle.meaning_syntax.specs.Items.{Statement, Assign, AssignThrough, AssignAddress, Item}
 use Rattle.meaning_syntax.specs.Binding.{Declared, object_of}
 use Rattle.meaning_rules.specs.Typing.{flagged, declared_type}
-use Rattle.meaning_rules.specs.Evaluation.{InAssignment, Placed, placed_in}
+use Rattle.meaning_rules.specs.Evaluation.{InAssignment}
+use Rattle.meaning_rules.specs.Placed.{Placed, placed_in}
 use Rattle.meaning_rules.specs.Failures.{Failure, SpacesMixed, FlaggedAccess}
 
 abbrev pub are_equal_spaces : Space → Space → Bool

@@ -1,7 +1,12 @@
-pub mod Typing
+pub mod Bindings
+pub mod Expressions
 pub mod Evaluation
 pub mod Failures
-pub mod Judging
 pub mod Text
+pub mod Typing
+pub mod Placed
+pub mod Judging
 pub mod Laws
 pub mod Examples
+pub mod TreeExamples
+pub mod OrderExamples

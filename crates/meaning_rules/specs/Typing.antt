@@ -1,11 +1,13 @@
--- The types that declarations give to names (C11 6.7.6).
-use Rattle.std.specs.Prelude.{ℕ, suc, zero, true, List, [], ◌∷◌, Option, Some, None, option_map, if◌then◌else◌}
+-- The types of objects that items of the first form declare.
+use Rattle.std.specs.Prelude.{ℕ, suc, zero, true, List, [], ◌∷◌, Option, option_map, if◌then◌else◌}
 use Rattle.std.specs.Option.{option_and_then}
 use Rattle.std.specs.Str.Parse.{digits_value}
-use Rattle.meaning_types.specs.Types.{Space, NumberedSpace, NamedSpace, IntKind, Flags, no_flags, no_qualifiers, TypeTree, Typed, IntegerTree, PointerTree, value_type}
+use Rattle.meaning_types.specs.Types.{Space, NumberedSpace, NamedSpace, IntKind, Flags, no_flags, no_qualifiers, TypeTree, Typed, IntegerTree, value_type}
 use Rattle.meaning_syntax.specs.Words.{is_identifier}
 use Rattle.meaning_syntax.specs.Items.{Word, Noderef, AddressSpace, Item}
 use Rattle.meaning_syntax.specs.Binding.{Declared, object_of}
+use Rattle.meaning_rules.specs.Bindings.{pointer_to}
+use Rattle.meaning_rules.specs.Expressions.{target_of}
 
 -- the space that an attribute names by an identifier or a number
 abbrev pub space_of : List ℕ → Space
@@ -20,7 +22,7 @@ flagged flags (AddressSpace id ∷ words) = flagged (record flags { space = spac
 -- a pointer to a pointer .. to the type, with so many stars (6.7.6.1 p1)
 abbrev pub behind_stars : ℕ → TypeTree → TypeTree
 behind_stars zero type_ = type_
-behind_stars (suc stars) type_ = Typed (PointerTree (behind_stars stars type_)) no_qualifiers no_flags
+behind_stars (suc stars) type_ = pointer_to (behind_stars stars type_)
 
 abbrev pub int_with : Flags → TypeTree
 int_with flags = Typed (IntegerTree IntKind) no_qualifiers flags
@@ -28,15 +30,6 @@ int_with flags = Typed (IntegerTree IntKind) no_qualifiers flags
 -- attributes among the specifiers belong to the specified type, `int` here
 abbrev pub declared_type : Declared → TypeTree
 declared_type declared = behind_stars declared.stars (int_with (flagged no_flags declared.words))
-
--- the type of the place to which a pointer of this type points (6.5.3.2 p4)
-abbrev pub target_of : TypeTree → Option TypeTree
-target_of (Typed (PointerTree target) qualifiers flags) = Some target
-target_of (Typed (IntegerTree kind) qualifiers flags) = None
-
--- the type of the address of a place of this type (6.5.3.2 p3)
-abbrev pub pointer_to : TypeTree → TypeTree
-pointer_to target = Typed (PointerTree target) no_qualifiers no_flags
 
 -- the type of an object that is declared before
 abbrev pub type_of : List Item → List ℕ → Option TypeTree

@@ -7,4 +7,4 @@
 
 mod listing;
 
-pub use listing::{each_unit_has_one_listing, worked_examples};
+pub use listing::{each_unit_has_one_listing, worked_examples, worked_trees};

@@ -1,4 +1,6 @@
 ghost use Rattle.meaning_rules.specs.Examples.{SpaceIsLost, SpaceBehindTwoStarsIsLost, TwoStarsMixSpaces, StarsAloneDoNotMix, NoderefIsAccessed, SpaceIsAccessed, NoderefIsToldBeforeSpace, LaterSpaceCounts, EqualFlagsPass, PlainIntsPass, NoderefIsStoredThrough, NoderefIsLostBehindPointer, LoadAloneWarns, AddressPasses};
+ghost use Rattle.meaning_rules.specs.TreeExamples.{DeclarationExamples, ExpressionExamples};
+ghost use Rattle.meaning_rules.specs.OrderExamples.{OrderExamples};
 ghost use Rattle.meaning_rules.specs.Laws.{ListingsExist, ListingsAreUnique};
 
 /// The failures of a unit can be listed in order in exactly one way.
@@ -23,4 +25,11 @@ pub fn worked_examples()
     ensures lost_behind_pointer { NoderefIsLostBehindPointer }
     ensures load_alone { LoadAloneWarns }
     ensures address { AddressPasses }
+    ensures ordered { OrderExamples }
+{}
+
+/// Single declarations and expressions bind, read, write and convert what one can tell by eye.
+pub fn worked_trees()
+    ensures declarations { DeclarationExamples }
+    ensures expressions { ExpressionExamples }
 {}

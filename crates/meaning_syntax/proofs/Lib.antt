@@ -2,3 +2,4 @@ pub mod Readers
 pub mod WordReading
 pub mod ItemReading
 pub mod UnitReading
+pub mod Derivations

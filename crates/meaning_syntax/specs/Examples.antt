@@ -1,7 +1,8 @@
 -- Worked examples: files whose items one can tell by eye, and the nearest ones that are refused.
-use Rattle.std.specs.Prelude.{◌≡◌, ℕ, true, List, [], ◌∷◌, ◌++◌, length, Some, None, codes, is_some, ◌==◌, if◌then◌else◌}
+use Rattle.std.specs.Prelude.{◌≡◌, ℕ, true, false, List, [], ◌∷◌, ◌++◌, length, Some, None, codes, is_some, ◌==◌, if◌then◌else◌}
+use Rattle.std.specs.List.{list_any}
 use Rattle.meaning_text.specs.Bytes.{space}
-use Rattle.meaning_syntax.specs.Words.{declaration_keywords, statement_keywords, underscore_keywords}
+use Rattle.meaning_syntax.specs.Words.{declaration_keywords, statement_keywords, underscore_keywords, is_name, is_space_id}
 use Rattle.meaning_syntax.specs.Items.{Item, Object, Function, Noderef, AddressSpace, Assign, AssignThrough, AssignAddress}
 use Rattle.meaning_syntax.specs.Reading.{Texts, read_items, read_unit}
 
@@ -40,6 +41,14 @@ IsNoSpace id = IsNoItems (pointer_in id)
 abbrev pub IsUnbound : Texts → Type 0
 IsUnbound texts = (is_some (read_items texts) ≡ true) × (read_unit texts ≡ None)
 
+-- all keywords, in the order of C11 6.4.1
+abbrev pub keywords_in_order : Texts
+keywords_in_order =
+    spaced
+    (codes "auto break case char const continue default do double else enum extern float for goto if inline int long register "
+    ++ codes "restrict return short signed sizeof static struct switch typedef union unsigned void volatile while _Alignas _Alignof "
+    ++ codes "_Atomic _Bool _Complex _Generic _Imaginary _Noreturn _Static_assert _Thread_local")
+
 -- what is read
 pub record ReadExamples : Type 0 where
   pub by_spaces : spaced (codes "p = u ;") ≡ codes "p" ∷ codes "=" ∷ codes "u" ∷ codes ";" ∷ []
@@ -65,6 +74,7 @@ pub record ReadExamples : Type 0 where
 -- what isn't spelled as items
 pub record MisspelledExamples : Type 0 where
   pub keyword_count : length (declaration_keywords ++ statement_keywords ++ underscore_keywords) ≡ 44
+  pub no_keyword_is_a_name : list_any is_name keywords_in_order ≡ false
   pub four_stars : IsNoItems (spaced (codes "extern int * * * * p ;"))
   pub keyword_as_name : IsNoItems (spaced (codes "extern int while ;"))
   pub two_underscores : IsNoItems (spaced (codes "extern int __x ;"))
@@ -83,9 +93,12 @@ pub record MisspelledExamples : Type 0 where
 pub record UnboundExamples : Type 0 where
   pub declared_twice : IsUnbound (spaced (codes "extern int p ; extern int p ;"))
   pub object_and_function : IsUnbound (spaced (codes "extern int p ; void p ( void ) { }"))
+  pub function_and_object : IsUnbound (spaced (codes "void p ( void ) { } extern int p ;"))
+  pub function_twice : IsUnbound (spaced (codes "void p ( void ) { } void p ( void ) { }"))
   pub used_before_declared : IsUnbound (spaced (codes "void f ( void ) { p = p ; } extern int p ;"))
   pub function_assigned : IsUnbound (spaced (codes "extern int p ; void f ( void ) { } void g ( void ) { p = f ; }"))
   pub unequal_stars : IsUnbound (spaced (codes "extern int * p ; extern int * * q ; void f ( void ) { p = q ; }"))
+  pub fewer_stars_at_source : IsUnbound (spaced (codes "extern int * p ; extern int * * q ; void f ( void ) { q = p ; }"))
   pub through_number : IsUnbound (spaced (codes "extern int x ; extern int y ; void f ( void ) { * x = y ; }"))
   pub through_two_stars_more : IsUnbound (spaced (codes "extern int * * p ; extern int x ; void f ( void ) { * p = x ; }"))
   pub through_function : IsUnbound (spaced (codes "extern int x ; void f ( void ) { } void g ( void ) { * f = x ; }"))
@@ -102,7 +115,8 @@ pub record SpaceExamples : Type 0 where
   pub leading_zero : IsNoSpace (codes "01")
   pub too_large : IsNoSpace (codes "4294967296")
   pub keyword : IsNoSpace (codes "int")
+  pub no_keyword : list_any is_space_id keywords_in_order ≡ false
   pub predefined_macro : IsNoSpace (codes "__LINE__")
-  pub predefined_file : IsNoSpace (codes "__FILE__")
-  pub predefined_counter : IsNoSpace (codes "__COUNTER__")
+  pub no_predefined_macro :
+      list_any is_space_id (spaced (codes "__CHECKER__ __STDC__ __STDC_VERSION__ __LP64__ __FILE__ __LINE__ __COUNTER__")) ≡ false
   pub digits_and_letters : IsNoSpace (codes "1u")

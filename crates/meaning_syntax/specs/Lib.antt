@@ -2,6 +2,8 @@ pub mod Words
 pub mod Items
 pub mod Binding
 pub mod Form
+pub mod Trees
 pub mod Reading
 pub mod Laws
 pub mod Examples
+pub mod TreeExamples

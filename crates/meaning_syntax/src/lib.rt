@@ -7,4 +7,6 @@
 
 mod form;
 
-pub use form::{each_token_list_is_at_most_one_unit, worked_examples};
+pub use form::{
+    each_token_list_derives_at_most_one_tree, each_token_list_is_at_most_one_unit, worked_examples,
+};

@@ -26,6 +26,7 @@ pub returns-clause-misspelled : goal.returns-clause-misspelled
 unfolding opened
 returns-clause-misspelled c = record {
   keyword_count = refl;
+  no_keyword_is_a_name = refl;
   four_stars = (refl, refl);
   keyword_as_name = (refl, refl);
   two_underscores = (refl, refl);
@@ -46,9 +47,12 @@ unfolding opened
 returns-clause-unbound c = record {
   declared_twice = (refl, refl);
   object_and_function = (refl, refl);
+  function_and_object = (refl, refl);
+  function_twice = (refl, refl);
   used_before_declared = (refl, refl);
   function_assigned = (refl, refl);
   unequal_stars = (refl, refl);
+  fewer_stars_at_source = (refl, refl);
   through_number = (refl, refl);
   through_two_stars_more = (refl, refl);
   through_function = (refl, refl);
@@ -67,8 +71,20 @@ returns-clause-spaces c = record {
   leading_zero = (refl, refl);
   too_large = (refl, refl);
   keyword = (refl, refl);
+  no_keyword = refl;
   predefined_macro = (refl, refl);
-  predefined_file = (refl, refl);
-  predefined_counter = (refl, refl);
+  no_predefined_macro = refl;
   digits_and_letters = (refl, refl);
+}
+
+pub returns-clause-trees : goal.returns-clause-trees
+returns-clause-trees c = record {
+  empty = refl;
+  whole = refl;
+  numbered_space = refl;
+  through = refl;
+  address = refl;
+  two_stars = refl;
+  word_behind_space = refl;
+  statements = refl;
 }

@@ -1,15 +1,13 @@
 -- What is found is what the definitions judge.
-use Rattle.std.proofs.Common.{◌≡◌, ℕ, ◌+◌, ◌-◌, ◌<◌, ◌≤◌, List, [], ◌∷◌, ◌++◌, All, map, nat_eq, nat_lt, refl, sym, ap, ◌∙◌, subst, Some, None, Option, arith, Bool, true, false, not, ◌&&◌, ◌||◌, if◌then◌else◌}
-use Rattle.std.specs.List.{flat_map, list_all, sum_by}
+use Rattle.std.proofs.Common.{◌≡◌, ℕ, ◌+◌, ◌-◌, ◌<◌, ◌≤◌, List, [], ◌∷◌, ◌++◌, length, nat_eq, nat_lt, refl, sym, ap, ◌∙◌, subst, Some, None, Option, arith, Bool, not, ◌&&◌, ◌||◌, if◌then◌else◌}
 use Rattle.std.proofs.lemmas.List.{map-append}
-use Rattle.std.proofs.lemmas.List.Elements.{All-append, All-cons, All-head, All-nil, All-tail}
-use Rattle.std.proofs.lemmas.List.Sums.{sum_by-cons}
+use Rattle.std.proofs.lemmas.List.Elements.{All-nil}
 use Rattle.c_tokens.specs.Seen.{IsKnown, text_of}
 use Rattle.c_tokens.specs.Spellings.{AreApart}
 use Rattle.meaning_types.specs.Types as types
 use Rattle.meaning_syntax.specs.Items as syntax
 use Rattle.meaning_syntax.specs.Binding as binding
-use Rattle.meaning_rules.specs.Evaluation.{InAssignment, placed_body}
+use Rattle.meaning_rules.specs.Evaluation.{InAssignment}
 use Rattle.meaning_rules.specs.Failures as rules
 use Rattle.meaning_rules.specs.Judging as judging
 use Rattle.meaning_rules.specs.Typing.{behind_stars, int_with}
@@ -24,13 +22,13 @@ use Rattle.first_form.specs.declared.failure.Failure.{Failure}
 use Rattle.first_form.specs.declared.scope.Binding.{Binding}
 use Rattle.first_form.specs.declared.scope.Binding.TheVariants as bindings
 use Rattle.first_form.specs.declared.scope.Scope.{Scope}
-use Rattle.first_form.specs.Counts.{statement_count}
 use Rattle.first_form.specs.Found as found
 use Rattle.first_form.specs.Known.{AreKnownFailures, IsKnownFailure, IsKnownObject, IsKnownSpace, IsKnownStatement}
 use Rattle.first_form.specs.Object.{address_of, target_of}
 use Rattle.first_form.specs.Scope.{IsDeclaredSo, IsScopeOf, StandsFor, binding_in, bound_object, object_in}
 use Rattle.first_form.specs.Seen.{failure_of, failures_of, flags_of, space_of, statement_of}
-use Rattle.first_form.proofs.CountLemmas.{length-statement}
+use Rattle.first_form.specs.View.{tokens_of}
+use Rattle.first_form.proofs.ListLemmas.{All-if, All-three, map-if}
 use Rattle.first_form.proofs.ScopeLemmas.{bytes_eq-text_of}
 
 -- Spaces and flags
@@ -59,11 +57,6 @@ are_equal_flags-flags_of names a b apart known_a known_b =
     ap (λ same. judging.are_equal_bools a.noderef b.noderef && same) (are_equal_spaces-space_of names a.space b.space apart known_a known_b)
 
 -- One statement
-
--- a map of one element or none
-map-if : {X Y : Type 0} (f : X → Y) (test : Bool) (x : X) → map f (if test then x ∷ [] else []) ≡ (if test then f x ∷ [] else [])
-map-if f true x = refl
-map-if f false x = refl
 
 -- what is judged of an access, by the parts of the place's type
 abbrev access_judged : ℕ → ℕ → types.Flags → List rules.Failure
@@ -157,7 +150,7 @@ failures_of-three names a b c x y z is_x is_y is_z =
     ∙ ap (λ back. x ++ y ++ back) is_z
 
 -- what is found of `target = source ;` is what is judged of it
-failures_of-assign : (names : List (List ℕ)) (first : ℕ) → AreApart names → (target source : ObjectType) (to from : binding.Declared) → IsDeclaredSo names target to → IsDeclaredSo names source from → failures_of names (found.assign_found first target source) ≡ judging.judged_assign first to from
+failures_of-assign : (names : List (List ℕ)) (first : ℕ) → AreApart names → (target source : ObjectType) (to from : binding.Declared) → IsDeclaredSo names target to → IsDeclaredSo names source from → failures_of names (found.assign_found (record { left = first; equals = first + 1; right = first + 2 }) target source) ≡ judging.judged_assign first to from
 failures_of-assign names first apart target source to from so_target so_source =
     failures_of-three names _ _ _ _ _ _
     (failures_of-access names first target to so_target)
@@ -165,7 +158,7 @@ failures_of-assign names first apart target source to from so_target so_source =
     (failures_of-access names (first + 2) source from so_source)
 
 -- the same of `* pointer = source ;`
-failures_of-assign_through : (names : List (List ℕ)) (first : ℕ) → AreApart names → (pointer source : ObjectType) (to from : binding.Declared) → IsDeclaredSo names pointer to → IsDeclaredSo names source from → failures_of names (found.assign_through_found first pointer source) ≡ judging.judged_assign_through first to from
+failures_of-assign_through : (names : List (List ℕ)) (first : ℕ) → AreApart names → (pointer source : ObjectType) (to from : binding.Declared) → IsDeclaredSo names pointer to → IsDeclaredSo names source from → failures_of names (found.assign_through_found (record { left = first; equals = first + 2; right = first + 3 }) pointer source) ≡ judging.judged_assign_through first to from
 failures_of-assign_through names first apart pointer source to from so_pointer so_source =
     let so_target = IsDeclaredSo-target names pointer to so_pointer in
     failures_of-three names _ _ _ _ _ _
@@ -174,7 +167,7 @@ failures_of-assign_through names first apart pointer source to from so_pointer s
     (failures_of-access names (first + 3) source from so_source)
 
 -- and of `target = & object ;`
-failures_of-assign_address : (names : List (List ℕ)) (first : ℕ) → AreApart names → (target object : ObjectType) (to from : binding.Declared) → IsDeclaredSo names target to → IsDeclaredSo names object from → failures_of names (found.assign_address_found first target object) ≡ judging.judged_assign_address first to from
+failures_of-assign_address : (names : List (List ℕ)) (first : ℕ) → AreApart names → (target object : ObjectType) (to from : binding.Declared) → IsDeclaredSo names target to → IsDeclaredSo names object from → failures_of names (found.assign_address_found (record { left = first; equals = first + 1; right = first + 2 }) target object) ≡ judging.judged_assign_address first to from
 failures_of-assign_address names first apart target object to from so_target so_object =
     failures_of-assignment names (first + 1) target (address_of object) to (judging.address_of from) apart so_target (IsDeclaredSo-address names object from so_object)
 
@@ -185,14 +178,14 @@ failures_of-both : (names : List (List ℕ)) (both : ObjectType → ObjectType �
 failures_of-both names both judged same =
     Agree-both names (λ left right to from. failures_of names (found.both_found both left right) ≡ judging.judged_objects judged to from) (λ _ _. refl) (λ _ _. refl) same
 
--- The statements of a body
+-- A statement
 
 -- the object of a name in a scope agrees with the one among the items before
 Agree-name : (names : List (List ℕ)) (before : List syntax.Item) (scope : Scope) (name : NameId) → IsScopeOf names before scope → IsKnown names name → Agree names (object_in scope name) (binding.object_of before (text_of names name))
 Agree-name names before scope name is_scope known = Agree-StandsFor names (binding_in scope name) _ _ (is_scope name known)
 
 -- a statement is bound where the definition binds it
-is_bound-statement : (names : List (List ℕ)) (before : List syntax.Item) (scope : Scope) (statement : Statement) → IsScopeOf names before scope → IsKnownStatement names statement → found.is_bound scope statement ≡ binding.statement_binds before (statement_of names statement)
+pub is_bound-statement : (names : List (List ℕ)) (before : List syntax.Item) (scope : Scope) (statement : Statement) → IsScopeOf names before scope → IsKnownStatement names statement → found.is_bound scope statement ≡ binding.statement_binds before (statement_of names statement)
 is_bound-statement names before scope (Assign target source) is_scope known =
     have_equal_stars-Agree names _ _ _ _ (Agree-name names before scope target is_scope known.0) (Agree-name names before scope source is_scope known.1)
 is_bound-statement names before scope (AssignThrough pointer source) is_scope known =
@@ -200,38 +193,16 @@ is_bound-statement names before scope (AssignThrough pointer source) is_scope kn
 is_bound-statement names before scope (AssignAddress target object) is_scope known =
     has_one_star_more-Agree names _ _ _ _ (Agree-name names before scope target is_scope known.0) (Agree-name names before scope object is_scope known.1)
 
--- the statements are bound where the definition binds them
-pub are_bound-body : (names : List (List ℕ)) (before : List syntax.Item) (scope : Scope) (statements : List Statement) → IsScopeOf names before scope → All (IsKnownStatement names) statements → list_all (found.is_bound scope) statements ≡ list_all (binding.statement_binds before) (map (statement_of names) statements)
-are_bound-body names before scope [] is_scope known = refl
-are_bound-body names before scope (statement ∷ statements) is_scope known =
-    ap (λ first. first && list_all (found.is_bound scope) statements) (is_bound-statement names before scope statement is_scope (All-head (IsKnownStatement names) statement statements known))
-    ∙ ap (λ others. binding.statement_binds before (statement_of names statement) && others) (are_bound-body names before scope statements is_scope (All-tail (IsKnownStatement names) statement statements known))
-
 -- what is found in a statement is what is judged of it
-failures_of-statement : (names : List (List ℕ)) (before : List syntax.Item) (scope : Scope) (first : ℕ) (statement : Statement) → AreApart names → IsScopeOf names before scope → IsKnownStatement names statement → failures_of names (found.statement_found scope first statement) ≡ judging.judged_statement before first (statement_of names statement)
+pub failures_of-statement : (names : List (List ℕ)) (before : List syntax.Item) (scope : Scope) (first : ℕ) (statement : Statement) → AreApart names → IsScopeOf names before scope → IsKnownStatement names statement → failures_of names (found.statement_found scope (tokens_of first (statement_of names statement)) statement) ≡ judging.judged_statement before first (statement_of names statement)
 failures_of-statement names before scope first (Assign target source) apart is_scope known =
-    failures_of-both names (found.assign_found first) (judging.judged_assign first) (failures_of-assign names first apart) _ _ _ _ (Agree-name names before scope target is_scope known.0) (Agree-name names before scope source is_scope known.1)
+    failures_of-both names (found.assign_found (record { left = first; equals = first + 1; right = first + 2 })) (judging.judged_assign first) (failures_of-assign names first apart) _ _ _ _ (Agree-name names before scope target is_scope known.0) (Agree-name names before scope source is_scope known.1)
 failures_of-statement names before scope first (AssignThrough pointer source) apart is_scope known =
-    failures_of-both names (found.assign_through_found first) (judging.judged_assign_through first) (failures_of-assign_through names first apart) _ _ _ _ (Agree-name names before scope pointer is_scope known.0) (Agree-name names before scope source is_scope known.1)
+    failures_of-both names (found.assign_through_found (record { left = first; equals = first + 2; right = first + 3 })) (judging.judged_assign_through first) (failures_of-assign_through names first apart) _ _ _ _ (Agree-name names before scope pointer is_scope known.0) (Agree-name names before scope source is_scope known.1)
 failures_of-statement names before scope first (AssignAddress target object) apart is_scope known =
-    failures_of-both names (found.assign_address_found first) (judging.judged_assign_address first) (failures_of-assign_address names first apart) _ _ _ _ (Agree-name names before scope target is_scope known.0) (Agree-name names before scope object is_scope known.1)
-
--- what is found in the statements is what is judged of them
-pub failures_of-body : (names : List (List ℕ)) (before : List syntax.Item) (scope : Scope) (first : ℕ) (statements : List Statement) → AreApart names → IsScopeOf names before scope → All (IsKnownStatement names) statements
-    → failures_of names (found.body_found scope first statements) ≡ flat_map judging.judged_placed (placed_body before first (map (statement_of names) statements))
-failures_of-body names before scope first [] apart is_scope known = refl
-failures_of-body names before scope first (statement ∷ statements) apart is_scope known =
-    map-append (failure_of names) (found.statement_found scope first statement) (found.body_found scope (first + statement_count statement) statements)
-    ∙ ap (λ front. front ++ failures_of names (found.body_found scope (first + statement_count statement) statements)) (failures_of-statement names before scope first statement apart is_scope (All-head (IsKnownStatement names) statement statements known))
-    ∙ ap (λ back. judging.judged_statement before first (statement_of names statement) ++ back) (failures_of-body names before scope (first + statement_count statement) statements apart is_scope (All-tail (IsKnownStatement names) statement statements known))
-    ∙ ap (λ count. judging.judged_statement before first (statement_of names statement) ++ flat_map judging.judged_placed (placed_body before (first + count) (map (statement_of names) statements))) (sym (length-statement names statement))
+    failures_of-both names (found.assign_address_found (record { left = first; equals = first + 1; right = first + 2 })) (judging.judged_assign_address first) (failures_of-assign_address names first apart) _ _ _ _ (Agree-name names before scope target is_scope known.0) (Agree-name names before scope object is_scope known.1)
 
 -- Where failures stand, and which spaces they name
-
--- what holds of the one element there may be holds of all
-All-if : {X : Type 0} (P : X → Type 0) (test : Bool) (x : X) → P x → All P (if test then x ∷ [] else [])
-All-if P true x holds = All-cons P x [] holds (All-nil P)
-All-if P false x holds = All-nil P
 
 -- what is found of an access stands at its token, and names a space of the table
 known-access : (names : List (List ℕ)) (count token : ℕ) (place : ObjectType) → token < count → IsKnownObject names place → AreKnownFailures names count (found.access_found token place)
@@ -241,12 +212,8 @@ known-access names count token place within known = All-if (IsKnownFailure names
 known-assignment : (names : List (List ℕ)) (count token : ℕ) (target source : ObjectType) → token < count → IsKnownObject names target → IsKnownObject names source → AreKnownFailures names count (found.assignment_found token target source)
 known-assignment names count token target source within known_target known_source = All-if (IsKnownFailure names count) _ _ (within, (known_target, known_source))
 
--- what holds of each of three lists holds of them one behind the other
-All-three : {X : Type 0} (P : X → Type 0) (a b c : List X) → All P a → All P b → All P c → All P (a ++ b ++ c)
-All-three P a b c all_a all_b all_c = All-append P (a ++ b) c (All-append P a b all_a all_b) all_c
-
 -- what is found of the objects in a statement stands in the statement, and names spaces of the table
-known-objects : (names : List (List ℕ)) (count first : ℕ) (statement : Statement) (left right : ObjectType) → first + statement_count statement ≤ count → IsKnownObject names left → IsKnownObject names right → AreKnownFailures names count (found.objects_found first statement left right)
+known-objects : (names : List (List ℕ)) (count first : ℕ) (statement : Statement) (left right : ObjectType) → first + length (syntax.statement_spelled (statement_of names statement)) ≤ count → IsKnownObject names left → IsKnownObject names right → AreKnownFailures names count (found.objects_found (tokens_of first (statement_of names statement)) statement left right)
 known-objects names count first (Assign target source) left right within known_left known_right =
     All-three (IsKnownFailure names count) _ _ _
     (known-access names count first left (omega arith) known_left)
@@ -267,18 +234,9 @@ known-sides names (AssignThrough pointer source) known = known
 known-sides names (AssignAddress target object) known = known
 
 -- what is found in a statement stands in it, and names spaces of the table
-known-statement : (names : List (List ℕ)) (before : List syntax.Item) (scope : Scope) (count first : ℕ) (statement : Statement) → first + statement_count statement ≤ count → IsScopeOf names before scope → IsKnownStatement names statement → AreKnownFailures names count (found.statement_found scope first statement)
+pub known-statement : (names : List (List ℕ)) (before : List syntax.Item) (scope : Scope) (count first : ℕ) (statement : Statement) → first + length (syntax.statement_spelled (statement_of names statement)) ≤ count → IsScopeOf names before scope → IsKnownStatement names statement → AreKnownFailures names count (found.statement_found scope (tokens_of first (statement_of names statement)) statement)
 known-statement names before scope count first statement within is_scope known =
     let sides = known-sides names statement known in
-    Agree-both names (λ left right to from. AreKnownFailures names count (found.both_found (found.objects_found first statement) left right)) (λ _ _. All-nil _) (λ _ _. All-nil _)
+    Agree-both names (λ left right to from. AreKnownFailures names count (found.both_found (found.objects_found (tokens_of first (statement_of names statement)) statement) left right)) (λ _ _. All-nil _) (λ _ _. All-nil _)
     (λ left right to from so_left so_right. known-objects names count first statement left right within so_left.known so_right.known)
     _ _ _ _ (Agree-name names before scope (found.left_of statement) is_scope sides.0) (Agree-name names before scope (found.right_of statement) is_scope sides.1)
-
--- what is found stands within the statements, and names spaces of the table
-pub known-body : (names : List (List ℕ)) (before : List syntax.Item) (scope : Scope) (count first : ℕ) (statements : List Statement) → first + sum_by statement_count statements ≤ count → IsScopeOf names before scope → All (IsKnownStatement names) statements → AreKnownFailures names count (found.body_found scope first statements)
-known-body names before scope count first [] within is_scope known = All-nil _
-known-body names before scope count first (statement ∷ statements) within is_scope known =
-    let sum = sum_by-cons statement_count statement statements in
-    All-append (IsKnownFailure names count) (found.statement_found scope first statement) (found.body_found scope (first + statement_count statement) statements)
-    (known-statement names before scope count first statement (omega (arith, within, sum)) is_scope (All-head (IsKnownStatement names) statement statements known))
-    (known-body names before scope count (first + statement_count statement) statements (omega (arith, within, sum)) is_scope (All-tail (IsKnownStatement names) statement statements known))

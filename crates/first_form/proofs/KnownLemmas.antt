@@ -1,7 +1,7 @@
 -- The names of known tokens, and of those behind them.
-use Rattle.std.proofs.Common.{◌≡◌, ℕ, List, [], ◌∷◌, ◌++◌, subst}
+use Rattle.std.proofs.Common.{◌≡◌, ℕ, List, ◌∷◌, subst}
 use Rattle.std.specs.List.{All}
-use Rattle.std.proofs.lemmas.List.Elements.{All-head, All-rest, All-push, All-same}
+use Rattle.std.proofs.lemmas.List.Elements.{All-head, All-rest}
 use Rattle.c_tokens.specs.Seen.{IsKnown}
 use Rattle.c_tokens.specs.declared.token.Token.{Token}
 use Rattle.first_form.specs.Reader.{AreKnownTokens}
@@ -11,7 +11,3 @@ pub AreKnownTokens-parts : (names : List (List ℕ)) (tokens : List Token) (firs
 AreKnownTokens-parts names tokens first rest at known =
     let IsKnownToken : Token → Type 0 = λ token. IsKnown names token.name in
     (All-head IsKnownToken first rest (subst (All IsKnownToken) at known), All-rest IsKnownToken first rest tokens at known)
-
--- what holds of each element, and of the one that joins them, holds of each
-pub All-pushed : {A : Type 0} (P : A → Type 0) (items more : List A) (x : A) → more ≡ items ++ x ∷ [] → All P items → P x → All P more
-All-pushed P items more x pushed all here = All-same P more (items ++ x ∷ []) pushed (All-push P items x all here)

@@ -1,6 +1,7 @@
 -- A scope and the items before, as one more item is declared.
 use Rattle.std.proofs.Common.{◌≡◌, ℕ, List, [], ◌∷◌, ◌++◌, slice_get, nat_eq, refl, sym, ap, ◌∙◌, subst, Some, None, Option, unwrap_or, is_some, Bool, true, false, ◌||◌, if◌then◌else◌, ⊎_elim}
 use Rattle.std.specs.Str.{bytes_eq}
+use Rattle.std.proofs.Math.Bool.{or-false}
 use Rattle.std.proofs.lemmas.Bool.{cases_Bool, eqb-true, eqb-false, false_from_ne_true, false≢true}
 use Rattle.std.proofs.lemmas.List.Folds.{list_any-append}
 use Rattle.std.proofs.lemmas.Option.{slice_get-get_or}
@@ -10,13 +11,9 @@ use Rattle.c_tokens.specs.Spellings.{AreApart}
 use Rattle.meaning_syntax.specs.Items as syntax
 use Rattle.meaning_syntax.specs.Binding.{Declared, is_declared, item_declared, item_name, object_of}
 use Rattle.sparse_model.specs.declared.ids.NameId.{NameId}
-use Rattle.first_form.specs.declared.item.Item.{Item}
-use Rattle.first_form.specs.declared.item.Item.TheVariants as items
 use Rattle.first_form.specs.declared.scope.Binding.{Binding}
 use Rattle.first_form.specs.declared.scope.Scope.{Scope}
-use Rattle.first_form.specs.Counts.{name_of}
-use Rattle.first_form.specs.Scope.{Declares, IsBindingOf, IsScopeOf, StandsFor, binding_in}
-use Rattle.first_form.specs.Seen.{item_of}
+use Rattle.first_form.specs.Scope.{Binds, IsBindingOf, IsScopeOf, StandsFor, binding_in}
 
 -- a known id has its spelling in the table
 slice_get-known : (names : List (List ℕ)) (id : NameId) → IsKnown names id → slice_get names id.0 ≡ Some (text_of names id)
@@ -37,11 +34,6 @@ bytes_eq-text_of names a b apart known_a known_b =
     false_from_ne_true _ unlike ∙ sym different)
     (cases_Bool (nat_eq a.0 b.0))
 
--- a disjunction with false is its left side
-or-false : (x : Bool) → (x || false) ≡ x
-or-false true = refl
-or-false false = refl
-
 -- an item more declares its name
 pub is_declared-push : (before : List syntax.Item) (item : syntax.Item) (name : List ℕ) → is_declared (before ++ item ∷ []) name ≡ (is_declared before name || bytes_eq (item_name item) name)
 is_declared-push before item name =
@@ -57,11 +49,6 @@ pub object_of-push : (before : List syntax.Item) (item : syntax.Item) (name : Li
 object_of-push [] item name = refl
 object_of-push (first ∷ before) item name =
     cond-or (bytes_eq (item_name first) name) (is_declared before name) _ _ _ _ (object_of-push before item name)
-
--- the item is seen with its name
-pub item_name-item_of : (names : List (List ℕ)) (item : Item) → item_name (item_of names item) ≡ text_of names (name_of item)
-item_name-item_of names (items.Object words stars name) = refl
-item_name-item_of names (items.Function name body) = refl
 
 -- what a name stands for says whether it is declared
 pub is_some-binding : (names : List (List ℕ)) (binding : Option Binding) (is_there : Bool) (declared : Option Declared) → StandsFor names binding is_there declared → is_some binding ≡ is_there
@@ -84,17 +71,18 @@ StandsFor-same names binding other is_there is_here declared found same_binding 
     (subst (λ (x : Bool). StandsFor names binding x found) (sym same_there)
     (subst (λ (x : Option Declared). StandsFor names binding is_there x) (sym same_declared) stands))
 
--- a scope that declares an item more is the scope of one item more
-pub IsScopeOf-push : (names : List (List ℕ)) (before : List syntax.Item) (item : Item) (old new : Scope) → AreApart names → IsKnown names (name_of item) → is_declared before (text_of names (name_of item)) ≡ false → IsScopeOf names before old → Declares names item old new → IsScopeOf names (before ++ item_of names item ∷ []) new
-IsScopeOf-push names before item old new apart known_item fresh scope declares =
-    λ name known.
-    let same = nat_eq (name_of item).0 name.0 in
-    let spelled : bytes_eq (item_name (item_of names item)) (text_of names name) ≡ same =
-    ap (λ text. bytes_eq text (text_of names name)) (item_name-item_of names item) ∙ bytes_eq-text_of names (name_of item) name apart known_item known in
-    let unlike : same ≡ true → is_declared before (text_of names name) ≡ false =
-    λ equal. ap (λ number. is_declared before (unwrap_or (slice_get names number) [])) (sym (eqb-true (name_of item).0 name.0 equal)) ∙ fresh in
+-- a scope that has an item's name besides is the scope of one item more
+pub IsScopeOf-push : (names : List (List ℕ)) (before : List syntax.Item) (item : syntax.Item) (name : NameId) (binding : Binding) (old new : Scope) → AreApart names → IsKnown names name → text_of names name ≡ item_name item → is_declared before (item_name item) ≡ false
+    → IsScopeOf names before old → IsBindingOf names binding (item_declared item) → Binds old new name binding → IsScopeOf names (before ++ item ∷ []) new
+IsScopeOf-push names before item name binding old new apart known_name named fresh scope is_binding binds =
+    λ other known.
+    let same = nat_eq name.0 other.0 in
+    let spelled : bytes_eq (item_name item) (text_of names other) ≡ same =
+    ap (λ text. bytes_eq text (text_of names other)) (sym named) ∙ bytes_eq-text_of names name other apart known_name known in
+    let unlike : same ≡ true → is_declared before (text_of names other) ≡ false =
+    λ equal. ap (λ number. is_declared before (unwrap_or (slice_get names number) [])) (sym (eqb-true name.0 other.0 equal)) ∙ ap (is_declared before) named ∙ fresh in
     StandsFor-same names _ _ _ _ _ _
-    (declares.2 name)
-    (is_declared-push before (item_of names item) (text_of names name) ∙ ap (λ last. is_declared before (text_of names name) || last) spelled)
-    (object_of-push before (item_of names item) (text_of names name) ∙ ap (λ last. if is_declared before (text_of names name) then object_of before (text_of names name) else (if last then item_declared (item_of names item) else None)) spelled)
-    (StandsFor-push names same declares.0 (binding_in old name) _ _ _ (scope name known) declares.1 unlike)
+    (binds other)
+    (is_declared-push before item (text_of names other) ∙ ap (λ last. is_declared before (text_of names other) || last) spelled)
+    (object_of-push before item (text_of names other) ∙ ap (λ last. if is_declared before (text_of names other) then object_of before (text_of names other) else (if last then item_declared item else None)) spelled)
+    (StandsFor-push names same binding (binding_in old other) _ _ _ (scope other known) is_binding unlike)

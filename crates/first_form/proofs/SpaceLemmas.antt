@@ -14,9 +14,9 @@ use Rattle.first_form.proofs.NumberLemmas.{digits, digits_are_text}
 
 -- A number that can stand for a space.
 pub record IsNumber (spelling : List ℕ) : Type 0 where
-  all_digits : list_all is_ascii_digit spelling ≡ true
-  not_empty : 0 < length spelling
-  small : digits_value 10 spelling < 2 ^ 32
+  pub all_digits : list_all is_ascii_digit spelling ≡ true
+  pub not_empty : 0 < length spelling
+  pub small : digits_value 10 spelling < 2 ^ 32
 
 -- what a number that can stand for a space is made of
 number_parts : (spelling : List ℕ) → is_space_number spelling ≡ true → IsNumber spelling

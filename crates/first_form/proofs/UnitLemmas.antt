@@ -1,152 +1,144 @@
 -- How far a unit is judged, item by item.
-use Rattle.std.proofs.Common.{◌≡◌, ℕ, ◌+◌, ◌<◌, ◌≤◌, List, [], ◌∷◌, ◌++◌, All, length, length-append, map, refl, sym, ap, ◌∙◌, subst, is_some, arith, Bool, true, false, not, ◌&&◌, append_assoc, drop, slice_index_or, take}
-use Rattle.std.specs.List.{flat_map, list_all, sum_by}
+use Rattle.std.proofs.Common.{◌≡◌, ℕ, ◌+◌, ◌-◌, ◌≤◌, List, [], ◌∷◌, ◌++◌, length, length-append, append-nil, append_assoc, refl, sym, ap, subst, ◌∙◌, true, false, ◌&&◌, arith}
+use Rattle.std.specs.List.{flat_map, list_all}
 use Rattle.std.proofs.lemmas.Bool.{and_parts}
-use Rattle.std.proofs.lemmas.List.{drop_more, map-append, take_more}
+use Rattle.std.proofs.lemmas.List.{length-map}
 use Rattle.std.proofs.lemmas.List.Concat.{flat_map-append}
-use Rattle.std.proofs.lemmas.List.Elements.{All-append, All-nil, All-weaker}
-use Rattle.c_tokens.specs.Seen.{IsKnown, text_of}
-use Rattle.c_tokens.specs.Spellings.{AreApart}
+use Rattle.std.proofs.lemmas.List.Elements.{All-nil, All-weaker}
+use Rattle.meaning_tree.specs.Kinds.{Evaluated}
+use Rattle.meaning_tree.specs.Trees.{parts_of}
+use Rattle.meaning_tree.specs.Nodes.{NodeList, end_of}
 use Rattle.meaning_syntax.specs.Items as syntax
-use Rattle.meaning_syntax.specs.Binding as binding
-use Rattle.meaning_rules.specs.Evaluation.{placed_behind, placed_body}
+use Rattle.meaning_syntax.specs.Binding.{are_bound, item_statements}
+use Rattle.meaning_syntax.specs.Trees.{item_tree, item_trees, unit_tree}
+use Rattle.meaning_rules.specs.Placed.{placed_behind, placed_body, tokens_before_body}
 use Rattle.meaning_rules.specs.Failures as rules
 use Rattle.meaning_rules.specs.Judging as judging
-use Rattle.first_form.specs.declared.item.Item.{Item}
-use Rattle.first_form.specs.declared.item.Item.TheVariants as items
+use Rattle.sparse_model.specs.declared.ids.NameId.{NameId}
 use Rattle.first_form.specs.declared.failure.Failure.{Failure}
 use Rattle.first_form.specs.declared.scope.Scope.{Scope}
-use Rattle.first_form.specs.Counts.{name_of, statement_count, statements_of, token_count}
-use Rattle.first_form.specs.Found as found
-use Rattle.first_form.specs.Known.{AreKnownFailures, IsKnownFailure, IsKnownItem, IsKnownStatement}
-use Rattle.first_form.specs.Scope.{Declares, IsScopeOf, binding_in}
-use Rattle.first_form.specs.Seen.{failure_of, failures_of, item_of, items_of, statement_of}
-use Rattle.first_form.proofs.CountLemmas.{length-item}
-use Rattle.first_form.proofs.JudgeLemmas.{are_bound-body, failures_of-body, known-body}
-use Rattle.first_form.proofs.ScopeLemmas.{IsScopeOf-push, is_some-binding, item_name-item_of}
+use Rattle.first_form.specs.Judged.{IsItemAt, IsItemJudged, is_item_bound}
+use Rattle.first_form.specs.Known.{AreKnownFailures, IsKnownFailure}
+use Rattle.first_form.specs.Nodes.{IsUnitOf, spelled_node}
+use Rattle.first_form.specs.Scope.{IsScopeOf}
+use Rattle.first_form.specs.Seen.{failures_of}
+use Rattle.first_form.specs.View.{IsTableOf, Shows, ShowParts}
 
--- The items before are judged, and the rest is still to be judged from the token `first` on.
-pub record IsJudgedTo (names : List (List ℕ)) (all before rest : List Item) (scope : Scope) (first : ℕ) (failures : List Failure) : Type 0 where
-  pub scope_of : IsScopeOf names (items_of names before) scope
-  pub counted : first + length (flat_map syntax.item_spelled (items_of names rest)) ≡ length (flat_map syntax.item_spelled (items_of names all))
-  pub bound : binding.are_bound (items_of names before) (items_of names rest) ≡ binding.are_bound [] (items_of names all)
-  pub found_of : failures_of names failures ++ flat_map judging.judged_placed (placed_behind (items_of names before) first (items_of names rest)) ≡ judging.failures_of (items_of names all)
-  pub known : AreKnownFailures names first failures
-
--- the item is seen with its statements
-statements-item_of : (names : List (List ℕ)) (item : Item) → binding.item_statements (item_of names item) ≡ map (statement_of names) (statements_of item)
-statements-item_of names (items.Object attribute stars name) = refl
-statements-item_of names (items.Function name body) = refl
-
--- the name of an item of known ids is known
-known_name : (names : List (List ℕ)) (item : Item) → IsKnownItem names item → IsKnown names (name_of item)
-known_name names (items.Object attribute stars name) known = known.1
-known_name names (items.Function name body) known = known.0
-
--- and so are the names in its statements
-known_statements : (names : List (List ℕ)) (item : Item) → IsKnownItem names item → All (IsKnownStatement names) (statements_of item)
-known_statements names (items.Object attribute stars name) known = All-nil _
-known_statements names (items.Function name body) known = known.1
-
--- the statements are within the item
-pub statements_within : (item : Item) → sum_by statement_count (statements_of item) ≤ token_count item
-statements_within (items.Object attribute stars name) = omega arith
-statements_within (items.Function name body) = omega arith
-
--- the item's name is new, and its statements are bound
-abbrev pub binds_item : Scope → Item → Bool
-binds_item scope item = not (is_some (binding_in scope (name_of item))) && list_all (found.is_bound scope) (statements_of item)
-
--- the scope has the name of an item where it is declared before
-is_declared-name : (names : List (List ℕ)) (before : List syntax.Item) (scope : Scope) (item : Item) → IsKnownItem names item → IsScopeOf names before scope → is_some (binding_in scope (name_of item)) ≡ binding.is_declared before (text_of names (name_of item))
-is_declared-name names before scope item known is_scope = is_some-binding names _ _ _ (is_scope (name_of item) (known_name names item known))
-
--- an item is bound where the definition binds it
-binds_item-item_of : (names : List (List ℕ)) (before : List syntax.Item) (scope : Scope) (item : Item) → IsKnownItem names item → IsScopeOf names before scope
-    → binds_item scope item ≡ (not (binding.is_declared before (binding.item_name (item_of names item))) && list_all (binding.statement_binds before) (binding.item_statements (item_of names item)))
-binds_item-item_of names before scope item known is_scope =
-    ap (λ declared. not declared && list_all (found.is_bound scope) (statements_of item)) (is_declared-name names before scope item known is_scope ∙ ap (binding.is_declared before) (sym (item_name-item_of names item)))
-    ∙ ap (λ bound. not (binding.is_declared before (binding.item_name (item_of names item))) && bound) (are_bound-body names before scope (statements_of item) is_scope (known_statements names item known) ∙ ap (list_all (binding.statement_binds before)) (sym (statements-item_of names item)))
+-- the last node shows the tree of the unit
+pub Shows-root : (names : List (List ℕ)) (unit : NodeList NameId) (items : List syntax.Item) (count : ℕ) → IsUnitOf names unit items → count ≡ end_of unit → Shows names unit (count - 1) (unit_tree items)
+Shows-root names unit items count form is_end =
+    subst (λ (handle : ℕ). Shows names unit handle (unit_tree items)) (omega (arith, is_end, length-map unit.nodes (spelled_node names))) form.is_tree.1
 
 -- what is judged of items behind others
-abbrev judged_behind : List (List ℕ) → List syntax.Item → ℕ → List Item → List rules.Failure
-judged_behind names before first rest = flat_map judging.judged_placed (placed_behind before first (items_of names rest))
+abbrev pub judged_behind : List syntax.Item → ℕ → List syntax.Item → List rules.Failure
+judged_behind before first items = flat_map judging.judged_placed (placed_behind before first items)
 
--- what is found in an item, before what is judged behind it
-judged-item : (names : List (List ℕ)) (before : List syntax.Item) (scope : Scope) (first : ℕ) (item : Item) (rest : List Item) → AreApart names → IsKnownItem names item → IsScopeOf names before scope
-    → failures_of names (found.body_found scope (first + 6) (statements_of item)) ++ judged_behind names (before ++ item_of names item ∷ []) (first + token_count item) rest ≡ judged_behind names before first (item ∷ rest)
-judged-item names before scope first item rest apart known is_scope =
-    ap (λ front. front ++ judged_behind names (before ++ item_of names item ∷ []) (first + token_count item) rest) (failures_of-body names before scope (first + 6) (statements_of item) apart is_scope (known_statements names item known) ∙ ap (λ statements. flat_map judging.judged_placed (placed_body before (first + 6) statements)) (sym (statements-item_of names item)))
-    ∙ ap (λ count. flat_map judging.judged_placed (placed_body before (first + 6) (binding.item_statements (item_of names item))) ++ judged_behind names (before ++ item_of names item ∷ []) (first + count) rest) (sym (length-item names item))
-    ∙ sym (flat_map-append judging.judged_placed (placed_body before (first + 6) (binding.item_statements (item_of names item))) (placed_behind (before ++ item_of names item ∷ []) (first + length (syntax.item_spelled (item_of names item))) (items_of names rest)))
+-- The items before are judged, and the rest is still to be judged from the token `first` on.
+pub record IsJudgedTo (names : List (List ℕ)) (all before rest : List syntax.Item) (scope : Scope) (first : ℕ) (failures : List Failure) : Type 0 where
+  pub scope_of : IsScopeOf names before scope
+  pub fits : list_all syntax.item_fits rest ≡ true
+  pub counted : first + length (flat_map syntax.item_spelled rest) ≡ length (flat_map syntax.item_spelled all)
+  pub bound : are_bound before rest ≡ are_bound [] all
+  pub found_of : failures_of names failures ++ judged_behind before first rest ≡ judging.failures_of all
+  pub known : AreKnownFailures names first failures
 
--- what is found in an item stands in it, and names spaces of the table
-known-item : (names : List (List ℕ)) (before : List syntax.Item) (scope : Scope) (first : ℕ) (item : Item) → IsKnownItem names item → IsScopeOf names before scope → AreKnownFailures names (first + token_count item) (found.body_found scope (first + 6) (statements_of item))
-known-item names before scope first (items.Object attribute stars name) known is_scope = All-nil _
-known-item names before scope first (items.Function name body) known is_scope =
-    known-body names before scope (first + token_count (items.Function name body)) (first + 6) body.items (omega arith) is_scope known.1
+-- The children are the rest.
+pub record IsUnitJudgedTo (names : List (List ℕ)) (unit : NodeList NameId) (all : List syntax.Item) (children : List (ℕ × ℕ)) (scope : Scope) (failures : List Failure) : Type 0 where
+  pub before : List syntax.Item
+  pub rest : List syntax.Item
+  pub first : ℕ
+  pub show : ShowParts names unit children (parts_of Evaluated (item_trees first rest))
+  pub judged : IsJudgedTo names all before rest scope first failures
 
--- an item more is seen as one more
-items_of-push : (names : List (List ℕ)) (before : List Item) (item : Item) → items_of names (before ++ item ∷ []) ≡ items_of names before ++ item_of names item ∷ []
-items_of-push names before item = map-append (item_of names) before (item ∷ [])
+-- The first child is an item, and the others are those behind it.
+pub record IsNextItem (names : List (List ℕ)) (unit : NodeList NameId) (all : List syntax.Item) (child : ℕ) (children : List (ℕ × ℕ)) (scope : Scope) (failures : List Failure) : Type 0 where
+  pub before : List syntax.Item
+  pub item : syntax.Item
+  pub others : List syntax.Item
+  pub first : ℕ
+  pub shows : Shows names unit child (item_tree first item)
+  pub show : ShowParts names unit children (parts_of Evaluated (item_trees (first + length (syntax.item_spelled item)) others))
+  pub judged : IsJudgedTo names all before (item ∷ others) scope first failures
 
--- what is not true is false
-not-true : (x : Bool) → not x ≡ true → x ≡ false
-not-true true is = sym is
-not-true false is = refl
+-- before the first item all are left
+pub IsUnitJudgedTo-begin : (names : List (List ℕ)) (unit : NodeList NameId) (all : List syntax.Item) (children : List (ℕ × ℕ)) (scope : Scope) (failures : List Failure) → failures ≡ [] → IsScopeOf names [] scope → list_all syntax.item_fits all ≡ true → ShowParts names unit children (parts_of Evaluated (item_trees 0 all))
+    → IsUnitJudgedTo names unit all children scope failures
+IsUnitJudgedTo-begin names unit all children scope failures none is_scope fits show =
+    subst (λ (f : List Failure). IsUnitJudgedTo names unit all children scope f) (sym none)
+    (record {
+      before = [];
+      rest = all;
+      first = 0;
+      show = show;
+      judged = record { scope_of = is_scope; fits = fits; counted = omega arith; bound = refl; found_of = refl; known = All-nil _ };
+    })
 
--- where an item isn't bound, the unit isn't
-IsJudgedTo-unbound : (names : List (List ℕ)) (all before rest : List Item) (item : Item) (scope : Scope) (first : ℕ) (failures : List Failure) → IsKnownItem names item → IsJudgedTo names all before (item ∷ rest) scope first failures → binds_item scope item ≡ false → binding.are_bound [] (items_of names all) ≡ false
-IsJudgedTo-unbound names all before rest item scope first failures known judged unbound =
-    sym judged.bound ∙ ap (λ bound. bound && binding.are_bound (items_of names before ++ item_of names item ∷ []) (items_of names rest)) (sym (binds_item-item_of names (items_of names before) scope item known judged.scope_of) ∙ unbound)
+-- a child that is left is an item
+pub IsUnitJudgedTo-next : (names : List (List ℕ)) (unit : NodeList NameId) (all : List syntax.Item) (list children : List (ℕ × ℕ)) (child : ℕ × ℕ) (scope : Scope) (failures : List Failure) → list ≡ child ∷ children → IsUnitJudgedTo names unit all list scope failures
+    → IsNextItem names unit all child.0 children scope failures
+IsUnitJudgedTo-next names unit all list children child scope failures begins judged =
+    next judged.rest (subst (λ (l : List (ℕ × ℕ)). ShowParts names unit l (parts_of Evaluated (item_trees judged.first judged.rest))) begins judged.show) judged.judged
+  where
+    next : (rest : List syntax.Item) → ShowParts names unit (child ∷ children) (parts_of Evaluated (item_trees judged.first rest)) → IsJudgedTo names all judged.before rest scope judged.first failures → IsNextItem names unit all child.0 children scope failures
+    next [] show to = absurd show
+    next (item ∷ others) show to = record { before = judged.before; item = item; others = others; first = judged.first; shows = show.1; show = show.2; judged = to }
 
--- an item that is bound is judged and declared
-IsJudgedTo-more : (names : List (List ℕ)) (all before rest : List Item) (item : Item) (old new : Scope) (first : ℕ) (failures later : List Failure) → AreApart names → IsKnownItem names item → IsJudgedTo names all before (item ∷ rest) old first failures → binds_item old item ≡ true → later ≡ failures ++ found.body_found old (first + 6) (statements_of item) → Declares names item old new
-    → IsJudgedTo names all (before ++ item ∷ []) rest new (first + token_count item) later
-IsJudgedTo-more names all before rest item old new first failures later apart known judged bound is_later declares =
-    let counts = length-item names item in
-    let push = items_of-push names before item in
-    let fresh : binding.is_declared (items_of names before) (text_of names (name_of item)) ≡ false =
-    sym (is_declared-name names (items_of names before) old item known judged.scope_of) ∙ not-true _ (and_parts _ _ bound).0 in
-    record {
-      scope_of = subst (λ (b : List syntax.Item). IsScopeOf names b new) (sym push) (IsScopeOf-push names (items_of names before) item old new apart (known_name names item known) fresh judged.scope_of declares);
-      counted = omega (arith, length-append (syntax.item_spelled (item_of names item)) (flat_map syntax.item_spelled (items_of names rest)), judged.counted, counts);
-      bound = ap (λ b. binding.are_bound b (items_of names rest)) push ∙ sym (ap (λ here. here && binding.are_bound (items_of names before ++ item_of names item ∷ []) (items_of names rest)) (sym (binds_item-item_of names (items_of names before) old item known judged.scope_of) ∙ bound)) ∙ judged.bound;
-      found_of = ap (λ all_found. failures_of names all_found ++ judged_behind names (items_of names (before ++ item ∷ [])) (first + token_count item) rest) is_later
-          ∙ ap (λ front. front ++ judged_behind names (items_of names (before ++ item ∷ [])) (first + token_count item) rest) (map-append (failure_of names) failures (found.body_found old (first + 6) (statements_of item)))
-          ∙ append_assoc (failures_of names failures) (failures_of names (found.body_found old (first + 6) (statements_of item))) (judged_behind names (items_of names (before ++ item ∷ [])) (first + token_count item) rest)
-          ∙ ap (λ b. failures_of names failures ++ (failures_of names (found.body_found old (first + 6) (statements_of item)) ++ judged_behind names b (first + token_count item) rest)) push
-          ∙ ap (λ behind. failures_of names failures ++ behind) (judged-item names (items_of names before) old first item rest apart known judged.scope_of)
-          ∙ judged.found_of;
-      known = subst (λ (all_found : List Failure). AreKnownFailures names (first + token_count item) all_found) (sym is_later)
-          (All-append (IsKnownFailure names (first + token_count item)) failures (found.body_found old (first + 6) (statements_of item))
-          (All-weaker (IsKnownFailure names first) (IsKnownFailure names (first + token_count item)) (λ failure is_known. (omega (arith, is_known.0), is_known.1)) failures judged.known)
-          (known-item names (items_of names before) old first item known judged.scope_of));
-    }
+-- where no child is left, all items are judged
+pub IsUnitJudgedTo-end : (names : List (List ℕ)) (unit : NodeList NameId) (all : List syntax.Item) (list : List (ℕ × ℕ)) (scope : Scope) (failures : List Failure) → list ≡ [] → IsUnitJudgedTo names unit all list scope failures
+    → (are_bound [] all ≡ true) × (failures_of names failures ≡ judging.failures_of all) × AreKnownFailures names (length (flat_map syntax.item_spelled all)) failures
+IsUnitJudgedTo-end names unit all list scope failures empty judged =
+    ends judged.rest (subst (λ (l : List (ℕ × ℕ)). ShowParts names unit l (parts_of Evaluated (item_trees judged.first judged.rest))) empty judged.show) judged.judged
+  where
+    ends : (rest : List syntax.Item) → ShowParts names unit [] (parts_of Evaluated (item_trees judged.first rest)) → IsJudgedTo names all judged.before rest scope judged.first failures
+        → (are_bound [] all ≡ true) × (failures_of names failures ≡ judging.failures_of all) × AreKnownFailures names (length (flat_map syntax.item_spelled all)) failures
+    ends [] show to = (
+      sym to.bound,
+      sym (append-nil (failures_of names failures)) ∙ to.found_of,
+      subst (λ (count : ℕ). AreKnownFailures names count failures) (omega (arith, to.counted)) to.known,
+    )
+    ends (item ∷ others) show to = absurd show
 
--- The same by the index of the item
+-- the first child is the item that is to be judged next
+pub IsItemAt-next : (names : List (List ℕ)) (unit : NodeList NameId) (all : List syntax.Item) (child : ℕ) (children : List (ℕ × ℕ)) (scope : Scope) (failures : List Failure) → IsTableOf names unit → (next : IsNextItem names unit all child children scope failures) → IsItemAt names unit scope next.before child next.first next.item
+IsItemAt-next names unit all child children scope failures table next =
+    record { table = table; scope_of = next.judged.scope_of; fits = (and_parts _ _ next.judged.fits).0; shows = next.shows }
 
--- the rest begins with the item at the index
-IsJudgedTo-at : (names : List (List ℕ)) (all : List Item) (i : ℕ) (item : Item) (scope : Scope) (first : ℕ) (failures : List Failure) → i < length all → item ≡ slice_index_or all i item → IsJudgedTo names all (take i all) (drop i all) scope first failures
-    → IsJudgedTo names all (take i all) (item ∷ drop (i + 1) all) scope first failures
-IsJudgedTo-at names all i item scope first failures inside is judged =
-    subst (λ (rest : List Item). IsJudgedTo names all (take i all) rest scope first failures) (drop_more all i item inside ∙ ap (λ x. x ∷ drop (i + 1) all) (sym is)) judged
+-- where it isn't bound, the unit isn't
+pub unit-unbound : (names : List (List ℕ)) (all before others : List syntax.Item) (item : syntax.Item) (scope : Scope) (first : ℕ) (failures : List Failure) → IsJudgedTo names all before (item ∷ others) scope first failures → false ≡ is_item_bound before item → are_bound [] all ≡ false
+unit-unbound names all before others item scope first failures judged unbound =
+    sym judged.bound ∙ ap (λ bound. bound && are_bound (before ++ item ∷ []) others) (sym unbound)
 
--- the item is within the tokens of the unit
-pub within_at : (names : List (List ℕ)) (all : List Item) (i : ℕ) (item : Item) (scope : Scope) (first : ℕ) (failures : List Failure) → i < length all → item ≡ slice_index_or all i item → IsJudgedTo names all (take i all) (drop i all) scope first failures
-    → first + token_count item ≤ length (flat_map syntax.item_spelled (items_of names all))
-within_at names all i item scope first failures inside is judged =
-    omega (arith, length-append (syntax.item_spelled (item_of names item)) (flat_map syntax.item_spelled (items_of names (drop (i + 1) all))), (IsJudgedTo-at names all i item scope first failures inside is judged).counted, length-item names item)
-
--- where the item isn't bound, the unit isn't
-pub unbound_at : (names : List (List ℕ)) (all : List Item) (i : ℕ) (item : Item) (scope : Scope) (first : ℕ) (failures : List Failure) → i < length all → item ≡ slice_index_or all i item → IsKnownItem names item → IsJudgedTo names all (take i all) (drop i all) scope first failures
-    → binds_item scope item ≡ false → binding.are_bound [] (items_of names all) ≡ false
-unbound_at names all i item scope first failures inside is known judged unbound =
-    IsJudgedTo-unbound names all (take i all) (drop (i + 1) all) item scope first failures known (IsJudgedTo-at names all i item scope first failures inside is judged) unbound
+-- failures that stand before a token stand before a later one
+known-later : (names : List (List ℕ)) (count more : ℕ) (failures : List Failure) → count ≤ more → AreKnownFailures names count failures → AreKnownFailures names more failures
+known-later names count more failures later known =
+    All-weaker (IsKnownFailure names count) (IsKnownFailure names more) (λ failure is_known. (omega (arith, later, is_known.0), is_known.1)) failures known
 
 -- and where it is, the items up to it are judged
-pub more_at : (names : List (List ℕ)) (all : List Item) (i : ℕ) (item : Item) (old new : Scope) (first : ℕ) (failures later : List Failure) → AreApart names → i < length all → item ≡ slice_index_or all i item → IsKnownItem names item → IsJudgedTo names all (take i all) (drop i all) old first failures
-    → binds_item old item ≡ true → later ≡ failures ++ found.body_found old (first + 6) (statements_of item) → Declares names item old new → IsJudgedTo names all (take (i + 1) all) (drop (i + 1) all) new (first + token_count item) later
-more_at names all i item old new first failures later apart inside is known judged bound is_later declares =
-    subst (λ (before : List Item). IsJudgedTo names all before (drop (i + 1) all) new (first + token_count item) later) (sym (take_more all i item inside ∙ ap (λ x. take i all ++ x ∷ []) (sym is)))
-    (IsJudgedTo-more names all (take i all) (drop (i + 1) all) item old new first failures later apart known (IsJudgedTo-at names all i item old first failures inside is judged) bound is_later declares)
+IsJudgedTo-more : (names : List (List ℕ)) (all before others : List syntax.Item) (item : syntax.Item) (old new : Scope) (first : ℕ) (failures later : List Failure) → IsJudgedTo names all before (item ∷ others) old first failures → true ≡ is_item_bound before item → IsItemJudged names before first item failures later new
+    → IsJudgedTo names all (before ++ item ∷ []) others new (first + length (syntax.item_spelled item)) later
+IsJudgedTo-more names all before others item old new first failures later judged bound more =
+    let next : ℕ = first + length (syntax.item_spelled item) in
+    let here = placed_body before (first + tokens_before_body) (item_statements item) in
+    record {
+      scope_of = more.scope_of;
+      fits = (and_parts _ _ judged.fits).1;
+      counted = omega (arith, judged.counted, length-append (syntax.item_spelled item) (flat_map syntax.item_spelled others));
+      bound = ap (λ b. b && are_bound (before ++ item ∷ []) others) bound ∙ judged.bound;
+      found_of = ap (λ front. front ++ judged_behind (before ++ item ∷ []) next others) more.found_of
+          ∙ append_assoc (failures_of names failures) (flat_map judging.judged_placed here) (judged_behind (before ++ item ∷ []) next others)
+          ∙ ap (λ behind. failures_of names failures ++ behind) (sym (flat_map-append judging.judged_placed here (placed_behind (before ++ item ∷ []) next others)))
+          ∙ judged.found_of;
+      known = more.known next (omega arith) (known-later names first next failures (omega arith) judged.known);
+    }
+
+-- so the item is judged
+pub IsUnitJudgedTo-more : (names : List (List ℕ)) (unit : NodeList NameId) (all : List syntax.Item) (child : ℕ) (children : List (ℕ × ℕ)) (old new : Scope) (failures later : List Failure) → (next : IsNextItem names unit all child children old failures) → true ≡ is_item_bound next.before next.item → IsItemJudged names next.before next.first next.item failures later new
+    → IsUnitJudgedTo names unit all children new later
+IsUnitJudgedTo-more names unit all child children old new failures later next bound more =
+    record {
+      before = next.before ++ next.item ∷ [];
+      rest = next.others;
+      first = next.first + length (syntax.item_spelled next.item);
+      show = next.show;
+      judged = IsJudgedTo-more names all next.before next.others next.item old new next.first failures later next.judged bound more;
+    }

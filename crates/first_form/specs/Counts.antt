@@ -1,23 +1,12 @@
--- The parts of an item, and how many tokens it has.
+-- How many tokens an item has.
 use Rattle.std.specs.Prelude.{ℕ, ◌+◌, List, [], ◌∷◌}
 use Rattle.std.specs.List.{sum_by}
-use Rattle.sparse_model.specs.declared.ids.NameId.{NameId}
 use Rattle.first_form.specs.declared.item.Word.{Word}
 use Rattle.first_form.specs.declared.item.Word.TheVariants.{Noderef, AddressSpace}
 use Rattle.first_form.specs.declared.item.Statement.{Statement}
 use Rattle.first_form.specs.declared.item.Statement.TheVariants.{Assign, AssignThrough, AssignAddress}
 use Rattle.first_form.specs.declared.item.Item.{Item}
 use Rattle.first_form.specs.declared.item.Item.TheVariants.{Object, Function}
-
--- the name that an item declares
-abbrev pub name_of : Item → NameId
-name_of (Object words stars name) = name
-name_of (Function name body) = name
-
--- the statements of an item's body
-abbrev pub statements_of : Item → List Statement
-statements_of (Object words stars name) = []
-statements_of (Function name body) = body.items
 
 -- `noderef` or `address_space ( ID )`, with the comma before it
 abbrev pub further_word_count : Word → ℕ

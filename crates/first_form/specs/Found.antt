@@ -10,7 +10,7 @@ use Rattle.first_form.specs.declared.object.ObjectType.{ObjectType}
 use Rattle.first_form.specs.declared.failure.Cause.TheVariants.{SpacesMixed, FlaggedAccess}
 use Rattle.first_form.specs.declared.failure.Failure.{Failure}
 use Rattle.first_form.specs.declared.scope.Scope.{Scope}
-use Rattle.first_form.specs.Counts.{statement_count}
+use Rattle.first_form.specs.declared.view.AssignmentTokens.{AssignmentTokens}
 use Rattle.first_form.specs.Object.{address_of, target_of}
 use Rattle.first_form.specs.Scope.{object_in}
 
@@ -45,26 +45,26 @@ assignment_found token target source =
     else []
 
 -- of `target = source ;`
-abbrev pub assign_found : ℕ → ObjectType → ObjectType → List Failure
-assign_found first target source =
-    access_found first target ++ assignment_found (first + 1) target source ++ access_found (first + 2) source
+abbrev pub assign_found : AssignmentTokens → ObjectType → ObjectType → List Failure
+assign_found at target source =
+    access_found at.left target ++ assignment_found at.equals target source ++ access_found at.right source
 
 -- of `* pointer = source ;`, where the pointer itself has no flag
-abbrev pub assign_through_found : ℕ → ObjectType → ObjectType → List Failure
-assign_through_found first pointer source =
-    access_found first (target_of pointer)
-    ++ assignment_found (first + 2) (target_of pointer) source
-    ++ access_found (first + 3) source
+abbrev pub assign_through_found : AssignmentTokens → ObjectType → ObjectType → List Failure
+assign_through_found at pointer source =
+    access_found at.left (target_of pointer)
+    ++ assignment_found at.equals (target_of pointer) source
+    ++ access_found at.right source
 
 -- of `target = & object ;`, where the target is a pointer and has no flag itself
-abbrev pub assign_address_found : ℕ → ObjectType → ObjectType → List Failure
-assign_address_found first target object = assignment_found (first + 1) target (address_of object)
+abbrev pub assign_address_found : AssignmentTokens → ObjectType → ObjectType → List Failure
+assign_address_found at target object = assignment_found at.equals target (address_of object)
 
 -- of a statement with these objects on the left and on the right of its `=`
-abbrev pub objects_found : ℕ → Statement → ObjectType → ObjectType → List Failure
-objects_found first (Assign target source) left right = assign_found first left right
-objects_found first (AssignThrough pointer source) left right = assign_through_found first left right
-objects_found first (AssignAddress target object) left right = assign_address_found first left right
+abbrev pub objects_found : AssignmentTokens → Statement → ObjectType → ObjectType → List Failure
+objects_found at (Assign target source) left right = assign_found at left right
+objects_found at (AssignThrough pointer source) left right = assign_through_found at left right
+objects_found at (AssignAddress target object) left right = assign_address_found at left right
 
 -- the name on the left of a statement's `=`
 abbrev pub left_of : Statement → NameId
@@ -84,15 +84,9 @@ both_found found (Some left) (Some right) = found left right
 both_found found (Some left) None = []
 both_found found None right = []
 
-abbrev pub statement_found : Scope → ℕ → Statement → List Failure
-statement_found scope first statement =
-    both_found (objects_found first statement) (object_in scope (left_of statement)) (object_in scope (right_of statement))
-
--- of statements that stand one behind the other
-abbrev pub body_found : Scope → ℕ → List Statement → List Failure
-body_found scope first [] = []
-body_found scope first (statement ∷ statements) =
-    statement_found scope first statement ++ body_found scope (first + statement_count statement) statements
+abbrev pub statement_found : Scope → AssignmentTokens → Statement → List Failure
+statement_found scope at statement =
+    both_found (objects_found at statement) (object_in scope (left_of statement)) (object_in scope (right_of statement))
 
 -- the first can point to the second: it has one star more
 abbrev pub can_point_to : ObjectType → ObjectType → Bool

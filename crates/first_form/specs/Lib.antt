@@ -1,7 +1,11 @@
+pub mod Building
 pub mod Counts
 pub mod Found
+pub mod Judged
 pub mod Known
+pub mod Nodes
 pub mod Object
 pub mod Reader
 pub mod Scope
 pub mod Seen
+pub mod View

@@ -3,17 +3,15 @@ use Rattle.std.specs.Prelude.{◌≡◌, ℕ, Bool, true, false, List, Option, S
 use Rattle.indexmap.specs.IndexMap.{get}
 use Rattle.c_tokens.specs.Seen.{IsKnown, text_of}
 use Rattle.meaning_syntax.specs.Items as syntax
-use Rattle.meaning_syntax.specs.Binding.{Declared, is_declared, item_declared, object_of}
+use Rattle.meaning_syntax.specs.Binding.{Declared, is_declared, object_of}
 use Rattle.meaning_rules.specs.Judging.{int_flags}
 use Rattle.sparse_model.specs.declared.ids.NameId.{NameId}
-use Rattle.first_form.specs.declared.item.Item.{Item}
 use Rattle.first_form.specs.declared.object.ObjectType.{ObjectType}
 use Rattle.first_form.specs.declared.scope.Binding.{Binding}
 use Rattle.first_form.specs.declared.scope.Binding.TheVariants.{Function, Object}
 use Rattle.first_form.specs.declared.scope.Scope.{Scope}
-use Rattle.first_form.specs.Counts.{name_of}
 use Rattle.first_form.specs.Known.{IsKnownObject}
-use Rattle.first_form.specs.Seen.{flags_of, item_of}
+use Rattle.first_form.specs.Seen.{flags_of}
 
 -- what a name stands for
 abbrev pub binding_in : Scope → NameId → Option Binding
@@ -55,8 +53,3 @@ StandsFor names (Some binding) is_there declared = (is_there ≡ true) × IsBind
 abbrev pub IsScopeOf : List (List ℕ) → List syntax.Item → Scope → Type 0
 IsScopeOf names before scope =
     (name : NameId) → IsKnown names name → StandsFor names (binding_in scope name) (is_declared before (text_of names name)) (object_of before (text_of names name))
-
--- the new scope has the item's name besides
-abbrev pub Declares : List (List ℕ) → Item → Scope → Scope → Type 0
-Declares names item old new =
-    (binding : Binding) × IsBindingOf names binding (item_declared (item_of names item)) × Binds old new (name_of item) binding

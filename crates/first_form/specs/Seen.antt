@@ -1,7 +1,8 @@
 -- How the values of this crate are seen by the definitions of syntax and rules, through a table of names.
 use Rattle.std.specs.Prelude.{ℕ, List, map}
-use Rattle.c_tokens.specs.Seen.{text_of}
+use Rattle.c_tokens.specs.Seen.{text_of, toks_of}
 use Rattle.c_tokens.specs.declared.token.Token.{Token}
+use Rattle.meaning_text.specs.Terminals.{terminals_of}
 use Rattle.meaning_types.specs.Types as types
 use Rattle.meaning_syntax.specs.Items as syntax
 use Rattle.meaning_rules.specs.Typing.{int_with, behind_stars}
@@ -20,9 +21,9 @@ use Rattle.first_form.specs.declared.failure.Cause.{Cause}
 use Rattle.first_form.specs.declared.failure.Cause.TheVariants as causes
 use Rattle.first_form.specs.declared.failure.Failure.{Failure}
 
--- the spellings of tokens
+-- what the grammar sees of tokens
 abbrev pub spellings_of : List (List ℕ) → List Token → List (List ℕ)
-spellings_of names tokens = map (λ token. text_of names token.name) tokens
+spellings_of names tokens = terminals_of (toks_of names tokens)
 
 abbrev pub word_of : List (List ℕ) → Word → syntax.Word
 word_of names words.Noderef = syntax.Noderef

@@ -3,7 +3,8 @@ use crate::object::ObjectType;
 /// What a rule is broken by, with the types that its warning names.
 #[derive(Clone, Copy, Debug, PartialEq, Eq)]
 pub enum Cause {
-    /// The types of an assignment's target and source are pointers into different address spaces.
+    /// A value is assigned to a pointer whose target has other flags: the types of the target and of
+    /// the source, as objects.
     SpacesMixed(ObjectType, ObjectType),
     /// A place with a flag is read or written.
     FlaggedAccess(ObjectType),

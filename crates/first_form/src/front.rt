@@ -1,14 +1,28 @@
-ghost use Rattle.c_tokens.specs.Seen.{IsKnown, text_of};
+ghost use Rattle.c_tokens.specs.Seen.{IsKnown, text_of, tok_of};
 ghost use Rattle.first_form.specs.Reader.{AreKnownTokens, IsKnownFound, found_of};
 ghost use Rattle.first_form.specs.Seen.{spellings_of};
+ghost use Rattle.meaning_text.specs.Terminals.{terminal_of};
 ghost use Rattle.meaning_syntax.specs.Reading.{read_passing, read_text};
 ghost use Rattle.meaning_syntax.specs.Words.{is_name, is_space_id};
 ghost use Rattle.std.specs.Option.{option_map};
+ghost use Rattle.std.specs.Str.{bytes_eq};
 ghost use Rattle.std.specs.Prelude.{◌≡◌, IfSome};
 
 use crate::words::{is_name, is_space_id};
-use c_tokens::{Names, Token};
+use c_tokens::{Names, Token, punctuator};
 use sparse_model::NameId;
+
+// Whether the grammar sees a token as this text: a digraph is the punctuator that it stands for
+// (C11 6.4.6 p3).
+fn is_seen_as(names: &Names, token: Token, wanted: &[u8]) -> bool
+    requires { IsKnown names.now token.name }
+    ensures { result ≡ bytes_eq (terminal_of (tok_of names.now token)) wanted.now }
+{
+    match punctuator(token.kind) {
+        Some(spelling) => spelling == wanted,
+        None => names.spelling(token.name) == wanted,
+    }
+}
 
 // The tokens behind this text.
 pub(crate) fn text<'t>(names: &Names, tokens: &'t [Token], wanted: &[u8]) -> Option<&'t [Token]>
@@ -18,7 +32,7 @@ pub(crate) fn text<'t>(names: &Names, tokens: &'t [Token], wanted: &[u8]) -> Opt
     ensures known { IfSome result (λ rest. AreKnownTokens names.now rest.now) }
 {
     let (first, rest) = tokens.split_first()?;
-    if names.spelling(first.name) == wanted {
+    if is_seen_as(names, *first, wanted) {
         Some(rest)
     } else {
         None
@@ -33,6 +47,9 @@ pub(crate) fn name<'t>(names: &Names, tokens: &'t [Token]) -> Option<(NameId, &'
     ensures known { IfSome result (IsKnownFound names.now (IsKnown names.now)) }
 {
     let (first, rest) = tokens.split_first()?;
+    if punctuator(first.kind).is_some() {
+        return None;
+    }
     if is_name(names.spelling(first.name)) {
         Some((first.name, rest))
     } else {
@@ -48,6 +65,9 @@ pub(crate) fn space_id<'t>(names: &Names, tokens: &'t [Token]) -> Option<(NameId
     ensures known { IfSome result (IsKnownFound names.now (IsKnown names.now)) }
 {
     let (first, rest) = tokens.split_first()?;
+    if punctuator(first.kind).is_some() {
+        return None;
+    }
     if is_space_id(names.spelling(first.name)) {
         Some((first.name, rest))
     } else {

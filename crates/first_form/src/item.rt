@@ -46,26 +46,6 @@ pub enum Item {
 }
 
 impl Item {
-    /// The name that it declares.
-    pub(crate) fn name(&self) -> NameId
-        ensures { result ≡ counts.name_of self.now }
-    {
-        match self {
-            Item::Object(_, _, name) => *name,
-            Item::Function(name, _) => *name,
-        }
-    }
-
-    /// The statements of its body; an object has none.
-    pub(crate) fn statements(&self) -> &[Statement]
-        ensures { result.now ≡ counts.statements_of self.now }
-    {
-        match self {
-            Item::Object(_, _, _) => &[],
-            Item::Function(_, body) => body.as_slice(),
-        }
-    }
-
     /// How many tokens it is spelled with.
     pub(crate) fn token_count(&self) -> u32
         requires { counts.token_count self.now < 2 ^ 30 }
@@ -79,7 +59,7 @@ impl Item {
 }
 
 // How many tokens an attribute with these words is spelled with.
-fn attribute_count(words: &[Word]) -> u32
+pub(crate) fn attribute_count(words: &[Word]) -> u32
     requires { counts.attribute_count words.now < 2 ^ 30 }
     ensures { result ≡ counts.attribute_count words.now }
 {
@@ -94,7 +74,7 @@ fn attribute_count(words: &[Word]) -> u32
 }
 
 // How many tokens a word is spelled with, and the comma before it.
-fn further_word_count(word: Word) -> u32
+pub(crate) fn further_word_count(word: Word) -> u32
     ensures { result ≡ counts.further_word_count word }
 {
     match word {

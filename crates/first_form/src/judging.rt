@@ -1,147 +1,142 @@
-ghost use Rattle.std.specs.Prelude.{◌≡◌, ◌<◌, ◌+◌, ◌^◌, [], ◌++◌, ◌&&◌, false, true, IfNone, IfOk, IfSome, OnOk, is_some, length, not};
-ghost use Rattle.std.specs.List.{flat_map, list_all, sum_by};
-ghost use Rattle.meaning_syntax.specs.Binding.{are_bound, item_declared};
+ghost use Rattle.std.specs.Prelude.{◌≡◌, ◌<◌, ◌+◌, [], ℕ, ◌++◌, IfNone, IfOk, IfSome, List, OnOk, false, is_some, length, not, true};
+ghost use Rattle.std.specs.List.{flat_map, list_all};
+ghost use Rattle.meaning_syntax.specs.Binding.{are_bound, statement_binds};
 ghost use Rattle.meaning_syntax.specs.Items as syntax;
 ghost use Rattle.meaning_rules.specs.Judging as judging;
-ghost use Rattle.first_form.specs.Counts.{name_of, statement_count, statements_of};
 ghost use Rattle.first_form.specs.Found as found;
-ghost use Rattle.first_form.specs.Known.{AreKnown, AreKnownFailures, IsKnownItem};
-ghost use Rattle.first_form.specs.Scope.{Declares, IsBindingOf, binding_in};
-ghost use Rattle.first_form.specs.Seen.{failures_of, item_of, items_of};
+ghost use Rattle.first_form.specs.Judged.{AreJudged, IsBodyAt, IsItemAt, IsItemJudged, is_item_bound};
+ghost use Rattle.first_form.specs.Known.{AreKnownFailures};
+ghost use Rattle.first_form.specs.Nodes.{AreKnownNodes, IsNode, IsUnitOf};
+ghost use Rattle.first_form.specs.Scope.{Binds, binding_in};
+ghost use Rattle.first_form.specs.Seen.{failures_of};
 
 use crate::failure::{Cause, Failure};
-use crate::item::{Item, Statement};
+use crate::item::Statement;
 use crate::object::ObjectType;
 use crate::scope::{Binding, Scope};
+use crate::view::{AssignmentTokens, External, children_of, external_at, statement_at};
 use c_tokens::Names;
-use sparse_model::NameId;
+use c_tree::{Handle, Unit};
+use sparse_model::{NameId, NodeKind};
 use std::alloc::{AllocError, Global};
-
-// The tokens of a function before its body: `void NAME ( void ) {`.
-const TOKENS_BEFORE_BODY: u32 = 6;
 
 /// The failures of a unit in order, or None where a name is declared twice, not declared before its
 /// use, no object, or the two sides of an assignment have unequal stars.
-pub fn judge(
-    alloc: Global,
-    names: &Names,
-    items: &[Item],
-) -> Result<Option<Vec<Failure>>, AllocError>
-    requires known { AreKnown names.now items.now }
-    requires few { length (flat_map syntax.item_spelled (items_of names.now items.now)) < 2 ^ 30 }
-    requires fits { list_all syntax.item_fits (items_of names.now items.now) ≡ true }
-    ensures bound { IfOk result (λ found. IfSome found
-        (λ _. are_bound [] (items_of names.now items.now) ≡ true)) }
-    ensures failures { IfOk result (λ found. IfSome found
-        (λ failures. failures_of names.now failures.items
-        ≡ judging.failures_of (items_of names.now items.now))) }
-    ensures none { IfOk result (λ found. IfNone found
-        (are_bound [] (items_of names.now items.now) ≡ false)) }
+pub fn judge(alloc: Global, names: &Names, unit: &Unit) -> Result<Option<Vec<Failure>>, AllocError>
+    requires known { AreKnownNodes names.now unit.now }
+
+    // The unit is that of some items of the first form.
+    requires form { (items : List syntax.Item) × IsUnitOf names.now unit.now items }
+    ensures bound { (items : List syntax.Item) → IsUnitOf names.now unit.now items
+        → IfOk result (λ found. IfSome found (λ _. are_bound [] items ≡ true)) }
+    ensures failures { (items : List syntax.Item) → IsUnitOf names.now unit.now items
+        → IfOk result (λ found. IfSome found
+        (λ failures. failures_of names.now failures.items ≡ judging.failures_of items)) }
+    ensures none { (items : List syntax.Item) → IsUnitOf names.now unit.now items
+        → IfOk result (λ found. IfNone found (are_bound [] items ≡ false)) }
 
     // The failures stand at tokens of the items, and name spaces of the table.
-    ensures known { IfOk result (λ found. IfSome found
+    ensures known { (items : List syntax.Item) → IsUnitOf names.now unit.now items
+        → IfOk result (λ found. IfSome found
         (λ failures. AreKnownFailures names.now
-        (length (flat_map syntax.item_spelled (items_of names.now items.now))) failures.items)) }
+        (length (flat_map syntax.item_spelled items)) failures.items)) }
 {
     // Each spelling has one id, so ids are compared in place of names.
     names.apart();
+    let Some(items) = children_of(unit, unit.len() - 1, NodeKind::TranslationUnit) else {
+        return Ok(None);
+    };
     let mut scope = Scope::new(alloc);
     let mut failures = Vec::new(alloc);
-    let mut first = 0;
-    for item in items {
-        if !judge_item(names, &mut scope, item, first, &mut failures)? {
+    for (item, _) in items.iter() {
+        if !judge_item(unit, &mut scope, item, &mut failures)? {
             return Ok(None);
         }
-        first += item.token_count();
     }
     Ok(Some(failures))
 }
 
-// Judges an item that begins at this token, and declares it, unless it isn't bound.
+// Judges an item, and declares it, unless it isn't bound.
 fn judge_item(
-    names: &Names,
+    unit: &Unit,
     scope: &mut Scope,
-    item: &Item,
-    first: u32,
+    node: Handle,
     failures: &mut Vec<Failure>,
 ) -> Result<bool, AllocError>
-    requires known { IsKnownItem names.now item.now }
-    requires fits { syntax.item_fits (item_of names.now item.now) ≡ true }
-    requires few { first + sum_by statement_count (statements_of item.now) < 2 ^ 31 }
-    ensures bound { IfOk result (λ is_bound. is_bound
-        ≡ (not (is_some (binding_in scope.old (name_of item.now)))
-        && list_all (found.is_bound scope.old) (statements_of item.now))) }
-    ensures found { IfOk result (λ is_bound. is_bound ≡ true
-        → failures.new.items
-        ≡ failures.old.items ++ found.body_found scope.old (first + 6) (statements_of item.now)) }
-    ensures declares { IfOk result (λ is_bound. is_bound ≡ true
-        → Declares names.now item.now scope.old scope.new) }
+    requires { IsNode unit.now node }
+    ensures bound { (names : List (List ℕ)) (before : List syntax.Item) (first : ℕ) (item : syntax.Item)
+        → IsItemAt names unit.now scope.old before node first item
+        → IfOk result (λ is_bound. is_bound ≡ is_item_bound before item) }
+    ensures judged { (names : List (List ℕ)) (before : List syntax.Item) (first : ℕ) (item : syntax.Item)
+        → IsItemAt names unit.now scope.old before node first item
+        → IfOk result (λ is_bound. is_bound ≡ true
+        → IsItemJudged names before first item failures.old.items failures.new.items scope.new) }
 {
-    if scope.is_declared(item.name()) {
+    match external_at(unit, node) {
+        Some(External::Object(name, object)) => declare(scope, name, Binding::Object(object)),
+        Some(External::Function(name, body)) => {
+            if !judge_body(unit, scope, body, failures)? {
+                return Ok(false);
+            }
+            declare(scope, name, Binding::Function)
+        }
+        None => Ok(false),
+    }
+}
+
+// Declares a name, unless it is declared before.
+fn declare(scope: &mut Scope, name: NameId, binding: Binding) -> Result<bool, AllocError>
+    ensures new { IfOk result (λ is_new. is_new ≡ not (is_some (binding_in scope.old name))) }
+    ensures binds { IfOk result (λ is_new. is_new ≡ true → Binds scope.old scope.new name binding) }
+{
+    if scope.is_declared(name) {
         return Ok(false);
     }
-    if !judge_body(
-        scope,
-        item.statements(),
-        first + TOKENS_BEFORE_BODY,
-        failures,
-    )? {
-        return Ok(false);
-    }
-    scope.declare(item.name(), binding_of(names, item))?;
+    scope.declare(name, binding)?;
     Ok(true)
 }
 
-// What the item's name stands for.
-fn binding_of(names: &Names, item: &Item) -> Binding
-    requires known { IsKnownItem names.now item.now }
-    requires fits { syntax.item_fits (item_of names.now item.now) ≡ true }
-    ensures { IsBindingOf names.now result (item_declared (item_of names.now item.now)) }
-{
-    match item {
-        Item::Object(words, stars, _) => {
-            Binding::Object(ObjectType::declared(names, words.as_slice(), *stars))
-        }
-        Item::Function(_, _) => Binding::Function,
-    }
-}
-
-// Judges the statements from this token on, up to one that isn't bound.
+// Judges the statements of a body, up to one that isn't bound.
 fn judge_body(
+    unit: &Unit,
     scope: &Scope,
-    statements: &[Statement],
-    first: u32,
+    body: Handle,
     failures: &mut Vec<Failure>,
 ) -> Result<bool, AllocError>
-    requires few { first + sum_by statement_count statements.now < 2 ^ 32 }
-    ensures bound { IfOk result (λ is_bound. is_bound
-        ≡ list_all (found.is_bound scope.now) statements.now) }
-    ensures found { IfOk result (λ is_bound. is_bound ≡ true
-        → failures.new.items
-        ≡ failures.old.items ++ found.body_found scope.now first statements.now) }
+    requires { IsNode unit.now body }
+    ensures bound { (names : List (List ℕ)) (before : List syntax.Item) (first : ℕ) (statements : List syntax.Statement)
+        → IsBodyAt names unit.now scope.now before body first statements
+        → IfOk result (λ is_bound. is_bound ≡ list_all (statement_binds before) statements) }
+    ensures judged { (names : List (List ℕ)) (before : List syntax.Item) (first : ℕ) (statements : List syntax.Statement)
+        → IsBodyAt names unit.now scope.now before body first statements
+        → IfOk result (λ is_bound. is_bound ≡ true
+        → AreJudged names before first statements failures.old.items failures.new.items) }
 {
-    let mut at = first;
-    for statement in statements {
-        if !judge_statement(scope, *statement, at, failures)? {
+    let Some(statements) = children_of(unit, body, NodeKind::CompoundStatement) else {
+        return Ok(false);
+    };
+    for (node, _) in statements.iter() {
+        let Some((at, statement)) = statement_at(unit, node) else {
+            return Ok(false);
+        };
+        if !judge_statement(scope, at, statement, failures)? {
             return Ok(false);
         }
-        at += statement.token_count();
     }
     Ok(true)
 }
 
-// Judges the statement at this token, unless it isn't bound.
+// Judges the statement at these tokens, unless it isn't bound.
 fn judge_statement(
     scope: &Scope,
+    at: AssignmentTokens,
     statement: Statement,
-    first: u32,
     failures: &mut Vec<Failure>,
 ) -> Result<bool, AllocError>
-    requires few { first + statement_count statement < 2 ^ 32 }
     ensures bound { IfOk result (λ is_bound. is_bound ≡ found.is_bound scope.now statement) }
     ensures found { IfOk result (λ is_bound. is_bound ≡ true
         → failures.new.items
-        ≡ failures.old.items ++ found.statement_found scope.now first statement) }
+        ≡ failures.old.items ++ found.statement_found scope.now at statement) }
 {
     let (left, right) = sides(statement);
     let Some(left) = scope.object(left) else {
@@ -153,7 +148,7 @@ fn judge_statement(
     if !stars_fit(statement, left, right) {
         return Ok(false);
     }
-    judge_objects(first, statement, left, right, failures)?;
+    judge_objects(at, statement, left, right, failures)?;
     Ok(true)
 }
 
@@ -180,76 +175,71 @@ fn stars_fit(statement: Statement, left: ObjectType, right: ObjectType) -> bool
     }
 }
 
-// Judges the statement at this token, with these objects in it.
+// Judges the statement at these tokens, with these objects in it.
 fn judge_objects(
-    first: u32,
+    at: AssignmentTokens,
     statement: Statement,
     left: ObjectType,
     right: ObjectType,
     failures: &mut Vec<Failure>,
 ) -> Result<(), AllocError>
-    requires few { first + statement_count statement < 2 ^ 32 }
-    requires fit { found.stars_fit statement left right ≡ true }
+    requires { found.stars_fit statement left right ≡ true }
     ensures { OnOk result (failures.new.items
-        ≡ failures.old.items ++ found.objects_found first statement left right) }
+        ≡ failures.old.items ++ found.objects_found at statement left right) }
 {
     match statement {
-        Statement::Assign(_, _) => judge_assign(first, left, right, failures),
-        Statement::AssignThrough(_, _) => judge_assign_through(first, left, right, failures),
-        Statement::AssignAddress(_, _) => judge_assign_address(first, left, right, failures),
+        Statement::Assign(_, _) => judge_assign(at, left, right, failures),
+        Statement::AssignThrough(_, _) => judge_assign_through(at, left, right, failures),
+        Statement::AssignAddress(_, _) => judge_assign_address(at, left, right, failures),
     }
 }
 
 // Judges `target = source;`.
 fn judge_assign(
-    first: u32,
+    at: AssignmentTokens,
     target: ObjectType,
     source: ObjectType,
     failures: &mut Vec<Failure>,
 ) -> Result<(), AllocError>
-    requires few { first + 4 < 2 ^ 32 }
     ensures { OnOk result (failures.new.items
-        ≡ failures.old.items ++ found.assign_found first target source) }
+        ≡ failures.old.items ++ found.assign_found at target source) }
 {
-    judge_access(first, target, failures)?;
-    judge_assignment(first + 1, target, source, failures)?;
-    judge_access(first + 2, source, failures)?;
+    judge_access(at.left, target, failures)?;
+    judge_assignment(at.equals, target, source, failures)?;
+    judge_access(at.right, source, failures)?;
     Ok(())
 }
 
 // Judges `*pointer = source;`. A pointer has no flags, so the load from it breaks no rule.
 fn judge_assign_through(
-    first: u32,
+    at: AssignmentTokens,
     pointer: ObjectType,
     source: ObjectType,
     failures: &mut Vec<Failure>,
 ) -> Result<(), AllocError>
-    requires few { first + 5 < 2 ^ 32 }
-    requires fit { found.can_point_to pointer source ≡ true }
+    requires { found.can_point_to pointer source ≡ true }
     ensures { OnOk result (failures.new.items
-        ≡ failures.old.items ++ found.assign_through_found first pointer source) }
+        ≡ failures.old.items ++ found.assign_through_found at pointer source) }
 {
     let place = pointer.target();
-    judge_access(first, place, failures)?;
-    judge_assignment(first + 2, place, source, failures)?;
-    judge_access(first + 3, source, failures)?;
-    Ok(())
+    judge_access(at.left, place, failures)?;
+    judge_assignment(at.equals, place, source, failures)?;
+    judge_access(at.right, source, failures)
 }
 
 // Judges `target = &object;`. A pointer has no flags, so the store to it breaks no rule, and `&` reads
 // no object.
 fn judge_assign_address(
-    first: u32,
+    at: AssignmentTokens,
     target: ObjectType,
     object: ObjectType,
     failures: &mut Vec<Failure>,
 ) -> Result<(), AllocError>
-    requires few { first + 5 < 2 ^ 32 }
-    requires fit { found.can_point_to target object ≡ true }
+    requires { found.can_point_to target object ≡ true }
     ensures { OnOk result (failures.new.items
-        ≡ failures.old.items ++ found.assign_address_found first target object) }
+        ≡ failures.old.items ++ found.assign_address_found at target object) }
 {
-    judge_assignment(first + 1, target, object.address(), failures)?;
+    judge_assignment(at.equals, target, object.address(), failures)?;
     Ok(())
 }
 

@@ -1,19 +1,8 @@
-ghost use Rattle.std.specs.Prelude.{◌≡◌, ◌<◌, ◌+◌, ◌^◌, All, IfNone, IfSome, map, true};
-ghost use Rattle.std.specs.List.{list_all};
-ghost use Rattle.c_tokens.specs.Seen.{IsKnown, text_of};
-ghost use Rattle.meaning_types.specs.Types.{NamedSpace, NumberedSpace, no_flags};
-ghost use Rattle.meaning_syntax.specs.Items.{word_fits};
-ghost use Rattle.meaning_syntax.specs.Words as words;
-ghost use Rattle.meaning_rules.specs.Typing as typing;
+ghost use Rattle.std.specs.Prelude.{◌≡◌, ◌<◌, ◌+◌, ◌^◌};
 ghost use Rattle.first_form.specs.Found as found;
-ghost use Rattle.first_form.specs.Known.{IsKnownObject, IsKnownSpace, IsKnownWord};
 ghost use Rattle.first_form.specs.Object.{address_of, outermost_of, target_of, value_of};
-ghost use Rattle.first_form.specs.Seen.{flags_of, space_of, word_of};
 
-use crate::item::Word;
-use c_tokens::Names;
-use sparse_model::{NameId, Space};
-use std::str;
+use sparse_model::Space;
 
 /// The type of an object: an `int` with flags, behind so many stars.
 #[derive(Clone, Copy, Debug, PartialEq, Eq)]
@@ -25,35 +14,11 @@ pub struct ObjectType {
 
 impl ObjectType {
     // An int without flags.
-    const INT: ObjectType = ObjectType {
+    pub(crate) const INT: ObjectType = ObjectType {
         stars: 0,
         noderef: false,
         space: Space::None,
     };
-
-    /// The type of an object that is declared with these words in its attribute. Of several spaces the last one counts.
-    pub(crate) fn declared(names: &Names, words: &[Word], stars: u32) -> Self
-        requires known { All (IsKnownWord names.now) words.now }
-        requires fits { list_all word_fits (map (word_of names.now) words.now) ≡ true }
-        ensures stars { result.stars ≡ stars }
-        ensures flags { flags_of names.now result
-            ≡ typing.flagged no_flags (map (word_of names.now) words.now) }
-        ensures known { IsKnownObject names.now result }
-    {
-        let mut noderef = false;
-        let mut space = Space::None;
-        for word in words {
-            match *word {
-                Word::Noderef => noderef = true,
-                Word::AddressSpace(id) => space = space_named(names, id),
-            }
-        }
-        ObjectType {
-            stars,
-            noderef,
-            space,
-        }
-    }
 
     /// The type of a value that is loaded from the object: the flags of an int stay with it (C11 6.3.2.1 p2).
     pub(crate) fn value(self) -> ObjectType
@@ -120,34 +85,5 @@ fn is_space(space: Space) -> bool
         Space::None => false,
         Space::Number(_) => true,
         Space::Named(_) => true,
-    }
-}
-
-// The space that a word of an attribute names.
-fn space_named(names: &Names, id: NameId) -> Space
-    requires known { IsKnown names.now id }
-    requires fits { words.is_space_id (text_of names.now id) ≡ true }
-    ensures space { space_of names.now result ≡ typing.space_of (text_of names.now id) }
-    ensures known { IsKnownSpace names.now result }
-{
-    match number_of(names.spelling(id)) {
-        Some(number) => Space::Number(number),
-        None => Space::Named(id),
-    }
-}
-
-// The number that a token is which can stand for a space, and which is an identifier otherwise.
-#[tactic(auto, unfolding(meaning_syntax::specs::Words::is_space_id, meaning_syntax::specs::Words::is_space_name, meaning_syntax::specs::Words::is_space_number))]
-fn number_of(spelling: &[u8]) -> Option<u32>
-    requires { words.is_space_id spelling.now ≡ true }
-    ensures number { IfSome result (λ number. typing.space_of spelling.now ≡ NumberedSpace number) }
-    ensures name { IfNone result (typing.space_of spelling.now ≡ NamedSpace spelling.now) }
-{
-    let Ok(text) = str::from_utf8(spelling) else {
-        return None;
-    };
-    match text.parse::<u32>() {
-        Ok(number) => Some(number),
-        Err(_) => None,
     }
 }

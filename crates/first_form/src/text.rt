@@ -95,7 +95,8 @@ fn write_mixed(
     Ok(())
 }
 
-fn write_place(text: &mut Vec<u8>, path: &[u8], at: Place) -> Result<(), AllocError>
+/// Appends `FILE:LINE:COLUMN:`.
+pub fn write_place(text: &mut Vec<u8>, path: &[u8], at: Place) -> Result<(), AllocError>
     ensures { OnOk result (text.new.items
         ≡ text.old.items ++ rules.place_text path.now (at_of at)) }
 {

@@ -4,9 +4,9 @@ use Rattle.meaning_syntax.specs.Reading.{read_further_word}
 use Rattle.meaning_syntax.proofs.WordReading.{read_further_word-Shrinks}
 use Rattle.first_form.specs.Known.{IsKnownWord}
 use Rattle.first_form.specs.Seen.{word_of}
-use Rattle.first_form.proofs.KnownLemmas.{All-pushed}
 use Rattle.first_form.proofs.ManyLemmas.{LeadsTo-more, LeadsTo-end}
 use Rattle.first_form.proofs.attribute.words_from.Goals as goal
+use Rattle.first_form.proofs.ListLemmas.{All-pushed}
 
 pub words-preserved : goal.words-preserved
 words-preserved c =

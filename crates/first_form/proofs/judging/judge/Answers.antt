@@ -1,40 +1,53 @@
-use Rattle.std.proofs.Common.{ℕ, ◌+◌, arith, drop, subst, sym, take, ◌∙◌}
-use Rattle.std.proofs.lemmas.List.Elements.{All-get_or}
-use Rattle.meaning_syntax.specs.Items.{item_fits}
-use Rattle.first_form.specs.Known.{IsKnownItem}
-use Rattle.first_form.specs.Seen.{item_of}
-use Rattle.first_form.proofs.ListLemmas.{passes_mapped_at}
-use Rattle.first_form.proofs.UnitLemmas.{IsJudgedTo, more_at, statements_within, unbound_at, within_at}
+use Rattle.std.proofs.Common.{◌≡◌, ℕ, List, [], Option, None, false, refl, sym, subst, ◌∙◌}
+use Rattle.std.proofs.lemmas.List.Elements.{All-rest}
+use Rattle.meaning_tree.specs.Kinds.{Evaluated}
+use Rattle.meaning_tree.specs.Trees.{parts_of}
+use Rattle.meaning_syntax.specs.Trees.{item_trees}
+use Rattle.first_form.specs.declared.scope.Binding.{Binding}
+use Rattle.first_form.specs.Scope.{StandsFor}
+use Rattle.first_form.specs.View.{ShowParts}
+use Rattle.first_form.proofs.UnitLemmas.{IsItemAt-next, IsUnitJudgedTo-begin, IsUnitJudgedTo-end, IsUnitJudgedTo-more, IsUnitJudgedTo-next, Shows-root, unit-unbound}
 use Rattle.first_form.proofs.judging.judge.Goals as goal
+use Rattle.first_form.specs.Nodes.{AreNodes, IsNode}
 
-pub judge_item-requires-clause-fits : goal.judge_item-requires-clause-fits
-judge_item-requires-clause-fits c =
-    passes_mapped_at item_fits (item_of c.args.names.now) c.args.items.now c.loop-item.item-index c.item-item.result c.item-item.result c.requires.fits c.loop-item-test.true (sym c.item-item.is)
+pub returns-in_default-clause-none : goal.returns-in_default-clause-none
+returns-in_default-clause-none c =
+    λ items form. absurd (c.in_default.ensures.parts c.args.names.now 0 [] 0 (parts_of Evaluated (item_trees 0 items)) (Shows-root c.args.names.now c.args.unit.now items c.len.result form c.len.ensures.value))
 
-pub judge_item-requires-clause-few : goal.judge_item-requires-clause-few
-judge_item-requires-clause-few c =
-    let within = within_at c.args.names.now c.args.items.now c.loop-item.item-index c.item-item.result c.loop-item.scope c.loop-item.first c.loop-item.failures.items c.loop-item-test.true c.item-item.is c.loop-item.invariant in
-    omega (arith, within, statements_within c.item-item.result, c.requires.few)
+pub loop-item-init : goal.loop-item-init
+loop-item-init c =
+    let same : c.into_iter-item-iterator.result ≡ c.in-Some.items.now = c.into_iter-item-iterator.ensures.into_iter_gives ∙ c.iter-item-items.ensures.pairs in
+    record {
+      inside = subst (AreNodes c.args.unit.now) (sym same) c.in-Some.ensures.inside;
+      judged = λ items form.
+          IsUnitJudgedTo-begin c.args.names.now c.args.unit.now items _ _ _ c.new-failures.ensures.items (λ name known. subst (λ (binding : Option Binding). StandsFor c.args.names.now binding false None) (sym (c.new-scope.ensures name)) (refl, refl)) form.fits
+          (subst (λ (children : List (ℕ × ℕ)). ShowParts c.args.names.now c.args.unit.now children (parts_of Evaluated (item_trees 0 items))) (sym same) (c.in-Some.ensures.parts c.args.names.now 0 [] 0 (parts_of Evaluated (item_trees 0 items)) (Shows-root c.args.names.now c.args.unit.now items c.len.result form c.len.ensures.value)));
+    }
 
 pub returns-then-not-branch-clause-none : goal.returns-then-not-branch-clause-none
 returns-then-not-branch-clause-none c =
-    let known = All-get_or (IsKnownItem c.args.names.now) c.args.items.now c.loop-item.item-index c.item-item.result c.loop-item-test.true c.requires.known in
-    unbound_at c.args.names.now c.args.items.now c.loop-item.item-index c.item-item.result c.loop-item.scope c.loop-item.first c.loop-item.failures.items c.loop-item-test.true c.item-item.is (subst (IsKnownItem c.args.names.now) (sym c.item-item.is) known) c.loop-item.invariant
-    (sym c.in_ok-judge_item.ensures.bound ∙ c.if-not-branch.true)
-
-pub token_count-requires : goal.token_count-requires
-token_count-requires c =
-    let within = within_at c.args.names.now c.args.items.now c.loop-item.item-index c.item-item.result c.loop-item.scope c.loop-item.first c.loop-item.failures.items c.loop-item-test.true c.item-item.is c.loop-item.invariant in
-    omega (arith, within, c.requires.few)
-
-pub overflow_add-first : goal.overflow_add-first
-overflow_add-first c =
-    let within = within_at c.args.names.now c.args.items.now c.loop-item.item-index c.item-item.result c.loop-item.scope c.loop-item.first c.loop-item.failures.items c.loop-item-test.true c.item-item.is c.loop-item.invariant in
-    omega (arith, within, c.requires.few, c.token_count.ensures)
+    λ items form.
+    let next = IsUnitJudgedTo-next c.args.names.now c.args.unit.now items _ _ _ _ _ c.in-Some-2.ensures.steps (c.loop-item.invariant.judged items form) in
+    unit-unbound c.args.names.now items next.before next.others next.item _ next.first _ next.judged
+    (sym c.if-not-branch.true ∙ c.in_ok-judge_item.ensures.bound c.args.names.now next.before next.first next.item (IsItemAt-next c.args.names.now c.args.unit.now items _ _ _ _ (record { apart = c.apart.ensures.apart; empty = c.apart.ensures.empty; known = c.requires.known }) next))
 
 pub loop-item-preserved : goal.loop-item-preserved
 loop-item-preserved c =
-    let known = All-get_or (IsKnownItem c.args.names.now) c.args.items.now c.loop-item.item-index c.item-item.result c.loop-item-test.true c.requires.known in
-    subst (λ (first : ℕ). IsJudgedTo c.args.names.now c.args.items.now (take (c.loop-item.item-index + 1) c.args.items.now) (drop (c.loop-item.item-index + 1) c.args.items.now) c.judge_item.new.scope (c.loop-item.first + first) c.judge_item.new.failures.items) (sym c.token_count.ensures)
-    (more_at c.args.names.now c.args.items.now c.loop-item.item-index c.item-item.result c.loop-item.scope c.judge_item.new.scope c.loop-item.first c.loop-item.failures.items c.judge_item.new.failures.items c.apart.ensures.apart c.loop-item-test.true c.item-item.is (subst (IsKnownItem c.args.names.now) (sym c.item-item.is) known) c.loop-item.invariant
-    (sym c.in_ok-judge_item.ensures.bound ∙ c.if-not-branch.false) (c.in_ok-judge_item.ensures.found c.if-not-branch.false) (c.in_ok-judge_item.ensures.declares c.if-not-branch.false))
+    record {
+      inside = All-rest (λ child. IsNode c.args.unit.now child.0) _ _ _ c.in-Some-2.ensures.steps c.loop-item.invariant.inside;
+      judged = λ items form.
+          let next = IsUnitJudgedTo-next c.args.names.now c.args.unit.now items _ _ _ _ _ c.in-Some-2.ensures.steps (c.loop-item.invariant.judged items form) in
+          let at = IsItemAt-next c.args.names.now c.args.unit.now items _ _ _ _ (record { apart = c.apart.ensures.apart; empty = c.apart.ensures.empty; known = c.requires.known }) next in
+          IsUnitJudgedTo-more c.args.names.now c.args.unit.now items _ _ _ _ _ _ next
+          (sym c.if-not-branch.false ∙ c.in_ok-judge_item.ensures.bound c.args.names.now next.before next.first next.item at)
+          (c.in_ok-judge_item.ensures.judged c.args.names.now next.before next.first next.item at c.if-not-branch.false);
+    }
+
+pub returns-clause-bound : goal.returns-clause-bound
+returns-clause-bound c = λ items form. (IsUnitJudgedTo-end c.args.names.now c.args.unit.now items _ _ _ c.in-None.ensures.steps.0 (c.loop-item.invariant.judged items form)).0
+
+pub returns-clause-failures : goal.returns-clause-failures
+returns-clause-failures c = λ items form. (IsUnitJudgedTo-end c.args.names.now c.args.unit.now items _ _ _ c.in-None.ensures.steps.0 (c.loop-item.invariant.judged items form)).1
+
+pub returns-clause-known : goal.returns-clause-known
+returns-clause-known c = λ items form. (IsUnitJudgedTo-end c.args.names.now c.args.unit.now items _ _ _ c.in-None.ensures.steps.0 (c.loop-item.invariant.judged items form)).2

@@ -1,7 +1,12 @@
-use Rattle.std.proofs.Common.{drop, take}
-use Rattle.first_form.proofs.UnitLemmas.{IsJudgedTo}
+use Rattle.std.proofs.Common.{List}
+use Rattle.meaning_syntax.specs.Items.{Item}
+use Rattle.first_form.specs.Nodes.{AreNodes, IsUnitOf}
+use Rattle.first_form.proofs.UnitLemmas.{IsUnitJudgedTo}
 use Rattle.first_form.proofs.judging.judge.Given as goal
 
 abbrev pub invariant-loop-item : goal.invariant-loop-item
 invariant-loop-item l =
-    IsJudgedTo l.names l.items (take l.item-index l.items) (drop l.item-index l.items) l.scope l.first l.failures.items
+    record {
+      inside : AreNodes l.unit l.item-iterator;
+      judged : (items : List Item) → IsUnitOf l.names l.unit items → IsUnitJudgedTo l.names l.unit items l.item-iterator l.scope l.failures.items;
+    }

@@ -1,13 +1,13 @@
-use Rattle.std.proofs.Common.{◌≡◌, ◌+◌, ◌++◌, drop, take}
-use Rattle.std.specs.List.{list_all, sum_by}
-use Rattle.first_form.specs.Counts.{statement_count}
-use Rattle.first_form.specs.Found.{body_found, is_bound}
+use Rattle.std.proofs.Common.{ℕ, List}
+use Rattle.meaning_syntax.specs.Items.{Item, Statement}
+use Rattle.first_form.specs.Judged.{IsBodyAt}
+use Rattle.first_form.proofs.BodyLemmas.{IsBodyJudgedTo}
 use Rattle.first_form.proofs.judging.judge_body.Given as goal
+use Rattle.first_form.specs.Nodes.{AreNodes}
 
-abbrev pub invariant-loop-statement : goal.invariant-loop-statement
-invariant-loop-statement l =
+abbrev pub invariant-loop-node : goal.invariant-loop-node
+invariant-loop-node l =
     record {
-      at : l.at ≡ l.first + sum_by statement_count (take l.statement-index l.statements);
-      bound : list_all (is_bound l.scope) (drop l.statement-index l.statements) ≡ list_all (is_bound l.scope) l.statements;
-      found : l.failures.items ++ body_found l.scope l.at (drop l.statement-index l.statements) ≡ l.fn.failures.items ++ body_found l.scope l.first l.statements;
+      inside : AreNodes l.unit l.node-iterator;
+      judged : (names : List (List ℕ)) (before : List Item) (first : ℕ) (statements : List Statement) → IsBodyAt names l.unit l.scope before l.fn.body first statements → IsBodyJudgedTo names l.unit before first statements l.fn.failures.items l.node-iterator l.failures.items;
     }

@@ -8,9 +8,9 @@ use Rattle.meaning_syntax.proofs.ItemReading.{read_item-Shrinks}
 use Rattle.first_form.specs.Reader.{IsKnownFound, found_of}
 use Rattle.first_form.specs.Known.{IsKnownItem}
 use Rattle.first_form.specs.Seen.{item_of}
-use Rattle.first_form.proofs.KnownLemmas.{All-pushed}
 use Rattle.first_form.proofs.ManyLemmas.{LeadsTo-more, LeadsTo-end, if_whole-all, if_whole-left}
 use Rattle.first_form.proofs.read.read_items.Goals as goal
+use Rattle.first_form.proofs.ListLemmas.{All-pushed}
 
 pub items-preserved : goal.items-preserved
 items-preserved c =

@@ -4,9 +4,9 @@ use Rattle.meaning_syntax.specs.Reading.{read_statement}
 use Rattle.meaning_syntax.proofs.WordReading.{read_statement-Shrinks}
 use Rattle.first_form.specs.Known.{IsKnownStatement}
 use Rattle.first_form.specs.Seen.{statement_of}
-use Rattle.first_form.proofs.KnownLemmas.{All-pushed}
 use Rattle.first_form.proofs.ManyLemmas.{LeadsTo-more, LeadsTo-end}
 use Rattle.first_form.proofs.read.statements.Goals as goal
+use Rattle.first_form.proofs.ListLemmas.{All-pushed}
 
 pub statements-preserved : goal.statements-preserved
 statements-preserved c =

@@ -1,28 +1,32 @@
 -- A right reply that ends clean is to words that name a safe file.
 use Rattle.std.proofs.Common.{◌≡◌, ℕ, List, [], ◌∷◌, Option, Some, None, IsSomeAnd, sym, ◌∙◌, ap, subst, refl, inl, inr}
 use Rattle.meaning_outside.specs.Files.{FileMap, file_at}
-use Rattle.meaning_text.specs.Places.{start}
-use Rattle.meaning_text.specs.Tokens.{Tok, Lexes}
-use Rattle.meaning_text.proofs.Lexing.{tokens_of-unique}
-use Rattle.meaning_syntax.specs.Items.{Item}
-use Rattle.meaning_syntax.specs.Form.{IsUnit}
-use Rattle.meaning_syntax.specs.Reading.{read_unit}
-use Rattle.meaning_syntax.proofs.UnitReading.{read_unit-IsUnit}
+use Rattle.meaning_text.specs.Logical.{logical_text}
+use Rattle.meaning_text.specs.Tokens.{Tok, AtLineStart, LexesFile}
+use Rattle.meaning_text.specs.Terminals.{terminals_of}
+use Rattle.meaning_text.proofs.Lexing.{tokens_are_unique}
+use Rattle.meaning_tree.specs.Trees.{SyntaxTree}
+use Rattle.meaning_syntax.specs.Trees.{Derives}
+use Rattle.meaning_syntax.proofs.Derivations.{derived_trees_are_unique, derived_trees_are_in_first_form}
 use Rattle.meaning_rules.specs.Failures.{Failure, IsListing}
+use Rattle.meaning_rules.specs.Text.{main_file}
 use Rattle.meaning_answer.specs.Reply.{Reply, Clean}
 use Rattle.meaning_answer.specs.Command.{Request, BadWord, MissingFile, Check, request_of}
-use Rattle.meaning_answer.specs.Answer.{texts_of, warned, IsChecked, IsTextReply, IsFileReply, IsRequestReply}
+use Rattle.meaning_answer.specs.Answer.{warned, IsChecked, IsTextReply, IsFileReply, IsRequestReply}
 use Rattle.meaning_answer.specs.Delivery.{IsRight}
 use Rattle.meaning_machine.specs.Laws.{SilenceIsSafe}
 use Rattle.ksparse.specs.Safe.{IsSafeText, NamesSafeFile, IsSafeIfClean}
 
 -- a text is at most one unit
-one_unit : (text : List ℕ) (tokens others : List Tok) (unit other : List Item) → Lexes start text tokens → IsUnit (texts_of tokens) unit → Lexes start text others → IsUnit (texts_of others) other → unit ≡ other
-one_unit text tokens others unit other lexes is_unit other_lexes is_other =
-    let same_tokens : tokens ≡ others = tokens_of-unique start text tokens lexes ∙ sym (tokens_of-unique start text others other_lexes) in
-    let read : read_unit (texts_of others) ≡ Some unit = subst (λ (ts : List Tok). read_unit (texts_of ts) ≡ Some unit) same_tokens (read_unit-IsUnit (texts_of tokens) unit is_unit) in
-    let other_read : read_unit (texts_of others) ≡ Some other = read_unit-IsUnit (texts_of others) other is_other in
-    cc
+one_unit :
+    (text : List ℕ) (tokens others : List Tok) (unit other : SyntaxTree) → LexesFile main_file text tokens → Derives (terminals_of tokens) unit →
+    LexesFile main_file text others → Derives (terminals_of others) other → unit ≡ other
+one_unit text tokens others unit other lexes derives other_lexes other_derives =
+    let here = tokens_are_unique AtLineStart (logical_text main_file text) tokens lexes in
+    let there = tokens_are_unique AtLineStart (logical_text main_file text) others other_lexes in
+    let same : tokens ≡ others = cc in
+    let also : Derives (terminals_of others) unit = subst (λ (ts : List Tok). Derives (terminals_of ts) unit) same derives in
+    derived_trees_are_unique (terminals_of others) unit other also other_derives
 
 -- only a text without failures is answered by silence
 no_failures : (path : List ℕ) (tokens : List Tok) (failures : List Failure) → (warned path tokens failures).ending ≡ Clean → failures ≡ []
@@ -31,12 +35,12 @@ no_failures path tokens (failure ∷ failures) is = cc
 
 module _ (law : SilenceIsSafe) where
   -- a text that was checked without failures is safe
-  checked_safe : (text : List ℕ) (tokens : List Tok) (unit : List Item) → IsChecked text tokens unit [] → IsSafeText text
+  checked_safe : (text : List ℕ) (tokens : List Tok) (unit : SyntaxTree) → IsChecked text tokens unit [] → IsSafeText text
   checked_safe text tokens unit checked =
       record {
-        in_form = (tokens, unit, checked.lexes, checked.is_unit);
-        safe = λ others other lexes is_unit. law other is_unit.bound
-            (subst (λ (u : List Item). IsListing u []) (one_unit text tokens others unit other checked.lexes checked.is_unit lexes is_unit) checked.is_listing);
+        in_form = (tokens, unit, checked.lexes, checked.derives);
+        safe = λ others other lexes derives. law other (derived_trees_are_in_first_form (terminals_of others) other derives)
+            (subst (λ (u : SyntaxTree). IsListing u []) (one_unit text tokens others unit other checked.lexes checked.derives lexes derives) checked.is_listing);
       }
 
   text_safe : (path text : List ℕ) (reply : Reply) → IsTextReply path text reply → reply.ending ≡ Clean → IsSafeText text
@@ -44,7 +48,8 @@ module _ (law : SilenceIsSafe) where
       let none : tells.2 ≡ [] = no_failures path tells.0 tells.2 (sym (ap (λ (r : Reply). r.ending) tells.5) ∙ is) in
       checked_safe text tells.0 tells.1 (subst (λ (failures : List Failure). IsChecked text tells.0 tells.1 failures) none tells.3)
   text_safe path text reply (inr (inl tells)) is = let ending = ap (λ (r : Reply). r.ending) tells.5 in cc
-  text_safe path text reply (inr (inr tells)) is = let ending = ap (λ (r : Reply). r.ending) tells.1 in cc
+  text_safe path text reply (inr (inr (inl tells))) is = let ending = ap (λ (r : Reply). r.ending) tells.3 in cc
+  text_safe path text reply (inr (inr (inr tells))) is = let ending = ap (λ (r : Reply). r.ending) tells.2 in cc
 
   file_safe : (path : List ℕ) (found : Option (List ℕ)) (reply : Reply) → IsFileReply path found reply → reply.ending ≡ Clean → IsSomeAnd found IsSafeText
   file_safe path None reply answer is = let ending = ap (λ (r : Reply). r.ending) answer in cc

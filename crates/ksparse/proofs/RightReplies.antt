@@ -22,8 +22,10 @@ text_no_usage path text reply (inl tells) is =
     warned_no_usage path tells.0 tells.2 (sym (ap (λ (r : Reply). r.ending) tells.5) ∙ is)
 text_no_usage path text reply (inr (inl tells)) is =
     let ending = ap (λ (r : Reply). r.ending) tells.5 in cc
-text_no_usage path text reply (inr (inr tells)) is =
-    let ending = ap (λ (r : Reply). r.ending) tells.1 in cc
+text_no_usage path text reply (inr (inr (inl tells))) is =
+    let ending = ap (λ (r : Reply). r.ending) tells.3 in cc
+text_no_usage path text reply (inr (inr (inr tells))) is =
+    let ending = ap (λ (r : Reply). r.ending) tells.2 in cc
 
 -- a file that was loaded whole
 module _ (path text : List ℕ) (reply : Reply) (is : IsTextReply path text reply) where

@@ -1,24 +1,23 @@
--- Tokens, their spellings, and the items that they are.
-use Rattle.std.proofs.Common.{◌≡◌, ℕ, List, [], ◌∷◌, Some, true, length, sym, ◌∙◌, ap, refl}
+-- Items that were read of tokens.
+use Rattle.std.proofs.Common.{◌≡◌, ℕ, List, Some, true, length, sym, ◌∙◌, ap}
 use Rattle.std.specs.List.{flat_map, list_all}
 use Rattle.std.proofs.lemmas.List.{length-map}
-use Rattle.c_tokens.specs.Seen.{text_of, toks_of}
+use Rattle.c_tokens.specs.Seen.{tok_of, toks_of}
 use Rattle.c_tokens.specs.declared.token.Token.{Token}
+use Rattle.meaning_text.specs.Terminals.{terminal_of}
 use Rattle.meaning_syntax.specs.Items.{Item, item_spelled, item_fits}
 use Rattle.meaning_syntax.specs.Reading.{read_items}
 use Rattle.meaning_syntax.proofs.UnitReading.{IsSpelled-read_items}
-use Rattle.meaning_answer.specs.Answer.{texts_of}
 use Rattle.first_form.specs.Seen.{spellings_of}
 
--- the spellings of tokens, seen as tokens or at once
-pub texts_of-toks_of : (names : List (List ℕ)) (tokens : List Token) → texts_of (toks_of names tokens) ≡ spellings_of names tokens
-texts_of-toks_of names [] = refl
-texts_of-toks_of names (token ∷ tokens) = ap (λ (texts : List (List ℕ)). text_of names token.name ∷ texts) (texts_of-toks_of names tokens)
-
--- items that were read have as many tokens as there are
-pub length-item_spelled : (names : List (List ℕ)) (tokens : List Token) (items : List Item) → read_items (spellings_of names tokens) ≡ Some items → length (flat_map item_spelled items) ≡ length tokens
+-- they have as many tokens as there are
+pub length-item_spelled :
+    (names : List (List ℕ)) (tokens : List Token) (items : List Item) → read_items (spellings_of names tokens) ≡ Some items →
+    length (flat_map item_spelled items) ≡ length tokens
 length-item_spelled names tokens items read =
-    sym (ap length (IsSpelled-read_items (spellings_of names tokens) items read).spelled) ∙ length-map tokens (λ (token : Token). text_of names token.name)
+    sym (ap length (IsSpelled-read_items (spellings_of names tokens) items read).spelled)
+    ∙ length-map (toks_of names tokens) terminal_of
+    ∙ length-map tokens (tok_of names)
 
 -- and fit
 pub item_fits-read : (names : List (List ℕ)) (tokens : List Token) (items : List Item) → read_items (spellings_of names tokens) ≡ Some items → list_all item_fits items ≡ true

@@ -1,6 +1,5 @@
 pub mod Ending
 pub mod Words
-pub mod Replied
 pub mod Safe
 pub mod Sinks
 pub mod Written

@@ -1,19 +1,24 @@
-ghost use Rattle.std.specs.Prelude.{◌≡◌, ◌≤◌, ◌<◌, ◌^◌, IfOk, Some, length};
-ghost use Rattle.c_tokens.specs.Seen.{toks_of};
+ghost use Rattle.std.specs.Prelude.{◌≡◌, ◌≤◌, ◌++◌, [], IfNone, IfOk, IfSome, Some, false, length, true};
+ghost use Rattle.std.specs.List.{flat_map, list_all};
+ghost use Rattle.c_tokens.specs.Seen.{at_of, toks_of};
+ghost use Rattle.meaning_syntax.specs.Binding.{are_bound};
+ghost use Rattle.meaning_syntax.specs.Items.{item_fits, item_spelled};
 ghost use Rattle.meaning_syntax.specs.Reading.{read_items, read_unit};
-ghost use Rattle.meaning_answer.specs.Answer.{IsTextReply, not_built_text, texts_of};
-ghost use Rattle.meaning_answer.specs.Answering.{bounded_reply};
+ghost use Rattle.meaning_rules.specs.Judging as judged;
+ghost use Rattle.meaning_rules.specs.Text.{place_text};
+ghost use Rattle.meaning_answer.specs.Answer.{IsTextReply, not_built_text};
+ghost use Rattle.meaning_answer.specs.Answering.{bounded_reply, unit_reply};
 ghost use Rattle.meaning_answer.specs.Reply.{Refused, line};
 ghost use Rattle.first_form.specs.Known.{AreKnown, AreKnownFailures};
 ghost use Rattle.first_form.specs.Reader.{AreKnownTokens};
 ghost use Rattle.first_form.specs.Seen.{failures_of, items_of, spellings_of};
-ghost use Rattle.ksparse.specs.Replied.{replied};
 ghost use Rattle.ksparse.specs.Written.{reply_of};
 
 use crate::exit::Exit;
 use crate::reply::Written;
-use c_tokens::{Names, PlainFault, Token, lex_plain};
-use first_form::{Failure, Item, judge, read_items, write_warnings};
+use c_tokens::{LexFault, Names, Token, lex};
+use first_form::{Failure, Item, build, judge, read_items, write_place, write_warnings};
+use sparse_model::Place;
 use std::alloc::{AllocError, Global};
 
 /// The number of the checked file. Number 0 is that of the file `<command>`.
@@ -28,11 +33,26 @@ pub fn report(alloc: Global, path: &[u8], text: &[u8]) -> Result<Written, AllocE
     ensures { IfOk result (λ written. IsTextReply path.now text.now (reply_of written)) }
 {
     let mut names = Names::new(alloc)?;
-    match lex_plain(alloc, &mut names, MAIN_FILE, text) {
+    match lex(alloc, &mut names, MAIN_FILE, text) {
         Ok(tokens) => report_tokens(alloc, path, &names, tokens.as_slice()),
-        Err(PlainFault::NotBuilt) => not_built(alloc, path),
-        Err(PlainFault::Memory) => Err(AllocError),
+        Err(LexFault::OpenComment(place)) => {
+            opening(alloc, path, place, b" error[3]: unterminated comment")
+        }
+        Err(LexFault::OpenLiteral(place)) => {
+            opening(alloc, path, place, b" error[4]: unterminated literal")
+        }
+        Err(LexFault::Memory) => Err(AllocError),
     }
+}
+
+// The line for what opens here and is never closed.
+fn opening(alloc: Global, path: &[u8], place: Place, fault: &[u8]) -> Result<Written, AllocError>
+    ensures { IfOk result (λ written. reply_of written
+        ≡ line Refused (place_text path.now (at_of place) ++ fault.now)) }
+{
+    let mut front = Vec::new(alloc);
+    write_place(&mut front, path, place)?;
+    Written::line(alloc, Exit::Refused, front.as_slice(), fault)
 }
 
 fn not_built(alloc: Global, path: &[u8]) -> Result<Written, AllocError>
@@ -54,10 +74,10 @@ fn report_tokens(
     tokens: &[Token],
 ) -> Result<Written, AllocError>
     requires known { AreKnownTokens names.now tokens.now }
-    requires few { length tokens.now < 2 ^ 30 }
+    requires few { length tokens.now ≤ 8388608 }
     ensures { IfOk result (λ written. reply_of written
-        ≡ replied path.now (toks_of names.now tokens.now)
-        (read_unit (texts_of (toks_of names.now tokens.now)))) }
+        ≡ unit_reply path.now (toks_of names.now tokens.now)
+        (read_unit (spellings_of names.now tokens.now))) }
 {
     match read_items(alloc, names, tokens)? {
         Some(items) => report_items(alloc, path, names, tokens, items.as_slice()),
@@ -74,16 +94,40 @@ fn report_items(
     items: &[Item],
 ) -> Result<Written, AllocError>
     requires known { AreKnown names.now items.now }
-    requires few { length tokens.now < 2 ^ 30 }
+    requires few { length tokens.now ≤ 8388608 }
     requires read { read_items (spellings_of names.now tokens.now) ≡ Some (items_of names.now items.now) }
     ensures { IfOk result (λ written. reply_of written
-        ≡ replied path.now (toks_of names.now tokens.now)
-        (read_unit (texts_of (toks_of names.now tokens.now)))) }
+        ≡ unit_reply path.now (toks_of names.now tokens.now)
+        (read_unit (spellings_of names.now tokens.now))) }
 {
-    match judge(alloc, names, items)? {
+    match judge_tree(alloc, names, items)? {
         Some(failures) => report_failures(alloc, path, names, tokens, failures.as_slice()),
         None => not_built(alloc, path),
     }
+}
+
+// The failures of the tree of these items, or None where a name in them isn't bound as it must be.
+fn judge_tree(
+    alloc: Global,
+    names: &Names,
+    items: &[Item],
+) -> Result<Option<Vec<Failure>>, AllocError>
+    requires known { AreKnown names.now items.now }
+    requires fits { list_all item_fits (items_of names.now items.now) ≡ true }
+    requires few { length (flat_map item_spelled (items_of names.now items.now)) ≤ 8388608 }
+    ensures bound { IfOk result (λ found. IfSome found
+        (λ _. are_bound [] (items_of names.now items.now) ≡ true)) }
+    ensures failures { IfOk result (λ found. IfSome found
+        (λ failures. failures_of names.now failures.items
+        ≡ judged.failures_of (items_of names.now items.now))) }
+    ensures none { IfOk result (λ found. IfNone found
+        (are_bound [] (items_of names.now items.now) ≡ false)) }
+    ensures known { IfOk result (λ found. IfSome found
+        (λ failures. AreKnownFailures names.now
+        (length (flat_map item_spelled (items_of names.now items.now))) failures.items)) }
+{
+    let unit = build(alloc, names, items)?;
+    judge(alloc, names, &unit)
 }
 
 // The reply to a file whose failures these are.

@@ -1,32 +1,27 @@
 //! The program `ksparse`: the top call over the files of the system, standard output and standard error.
 #![tactic(auto)]
 
-use ksparse::ksparse;
+use ksparse::{Exit, ksparse};
 use sparse_outside::{RealFiles, RealSink, Words};
 use std::env;
 use std::io::{self, ErrorKind};
 use std::process::ExitCode;
 
-/// The status where there is no memory for the words.
-const NO_MEMORY: u8 = 6;
-
-/// The status where a word isn't text, so that no word can be got at.
-const USAGE: u8 = 3;
-
 fn main(rt: HostRuntime) -> ExitCode {
-    let words = match command_words(&rt) {
+    ExitCode::from(check(&rt).status())
+}
+
+// Does what the words of the command say, and says how it ended.
+fn check(rt: &HostRuntime) -> Exit {
+    let words = match command_words(rt) {
         Ok(words) => words,
-        Err(error) if error.kind() == ErrorKind::InvalidData => {
-            let _ = eprintln!(rt; "ksparse: bad word: not UTF-8");
-            return ExitCode::from(USAGE);
-        }
-        Err(_) => return ExitCode::from(NO_MEMORY),
+        Err(error) if error.kind() == ErrorKind::InvalidData => return tell_not_utf8(rt),
+        Err(_) => return Exit::NoMemory,
     };
-    let mut files = RealFiles::new(&rt);
+    let mut files = RealFiles::new(rt);
     let mut out = RealSink::new(rt.stdout());
     let mut err = RealSink::new(rt.stderr());
-    let exit = ksparse(rt.alloc(), &words, &mut files, &mut out, &mut err);
-    ExitCode::from(exit.status())
+    ksparse(rt.alloc(), &words, &mut files, &mut out, &mut err)
 }
 
 // The words behind the program's name.
@@ -36,4 +31,12 @@ fn command_words(rt: &HostRuntime) -> io::Result<Words> {
         words.push(word.as_bytes())?;
     }
     Ok(words)
+}
+
+// Where a word isn't text no word can be got at, so the line names none.
+fn tell_not_utf8(rt: &HostRuntime) -> Exit {
+    match eprintln!(rt; "ksparse: bad word: not UTF-8") {
+        Ok(()) => Exit::Usage,
+        Err(_) => Exit::WriteFault,
+    }
 }

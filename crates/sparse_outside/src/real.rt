@@ -72,7 +72,20 @@ fn load_from<R: rt::Files>(system: &R, path: &[u8], max: usize, into: &mut Vec<u
         Err(error) if error.kind() == ErrorKind::NotFound => return Load::Missing,
         Err(_) => return Load::Failed,
     };
-    let answer = read_whole(&mut file, max, into);
+    read_or_clear(&mut file, max, into)
+}
+
+// Reads all that is left of a file into the buffer, or leaves the buffer empty.
+fn read_or_clear<F: Read>(file: &mut F, max: usize, into: &mut Vec<u8>) -> Load
+    requires { into.old.items ≡ [] }
+    ensures buffer { LeavesBuffer max result into.new.items }
+    ensures whole { result ≡ Load.Whole →
+        IfSome (F.remaining file.old) (λ bytes. into.new.items ≡ bytes) }
+    ensures too_long { result ≡ Load.TooLong →
+        IfSome (F.remaining file.old) (λ bytes. max < length bytes) }
+    ensures found { result ≢ Load.Missing }
+{
+    let answer = read_whole(file, max, into);
     if answer != Load::Whole {
         into.clear();
     }

@@ -37,6 +37,7 @@ fn files_are_loaded_and_pieces_are_put(rt: HostRuntime) -> Result<(), Fail> {
         ("an empty file", "/dev/null", 0, Load::Whole, ""),
         ("bytes without end", "/dev/zero", 100_000, Load::TooLong, ""),
         ("a directory", "/", 6, Load::Failed, ""),
+        ("a path through a file", "/dev/null/a.c", 6, Load::Failed, ""),
         ("no such file", "/dev/no such file", 6, Load::Missing, ""),
     ]);
 

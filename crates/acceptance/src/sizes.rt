@@ -13,7 +13,8 @@ fn a_file_may_have_so_many_bytes(rt: HostRuntime) -> Result<(), Fail> {
     assert_eq!(rt; ran.exit, Exit::Clean);
     assert_eq!(rt; ran.err.bytes(), b"".as_slice());
 
-    text.push(b' ')?;
+    // A literal opens in the byte too many, and the size goes before it.
+    text.push(b'"')?;
     let ran = check(rt.alloc(), text.as_slice())?;
     assert_eq!(rt; ran.exit, Exit::Limit);
     assert_eq!(rt; ran.err.bytes(), b"ksparse: limit: file size\n".as_slice());
@@ -43,6 +44,13 @@ fn a_unit_may_have_so_many_tokens(rt: HostRuntime) -> Result<(), Fail> {
             "2,000,001 tokens",
             "extern int **p;",
             "}",
+            limit,
+            Exit::Limit,
+        ),
+        (
+            "2,000,009 tokens and a rule that fails",
+            "extern int __attribute__((noderef))b;",
+            "b=a;}",
             limit,
             Exit::Limit,
         ),

@@ -10,7 +10,7 @@ struct Warned {
 }
 
 #[rattlefmt::skip]
-const WARNED: [Warned; 9] = [
+const WARNED: [Warned; 11] = [
     Warned {
         case: "a __user pointer becomes a plain one",
         text: "extern int *p;\nextern int __attribute__((noderef, address_space(__user))) *u;\nvoid f(void) { p = u; }\n",
@@ -56,6 +56,43 @@ const WARNED: [Warned; 9] = [
         text: "extern int __attribute__((noderef)) *u;\nextern int x;\nvoid f(void) { *u = x; u = &x; }\n",
         warnings: "t.c:3:16: warning: dereference of noderef expression\nt.c:3:26: warning: incorrect type in assignment (different address spaces)\nt.c:3:26:    expected int noderef *\nt.c:3:26:    got int *\n",
     },
+    Warned {
+        case: "columns are those of the lines as they are written",
+        text: "extern int __attribute__((noderef)) x;\nextern int y; /* a\n*/ void f(void) { y = \\\n  x; }\n",
+        warnings: "t.c:4:3: warning: dereference of noderef expression\n",
+    },
+    Warned {
+        case: "a word that is cut has the place of its first byte",
+        text: "extern int __attribute__((noderef)) word; extern int y;\nvoid f(void) { y = wo\\\nrd; }\n",
+        warnings: "t.c:2:20: warning: dereference of noderef expression\n",
+    },
+];
+
+// A text that opens what it never closes: what it shows, its text, and the line that is told.
+struct Opening {
+    case: &'static str,
+    text: &'static str,
+    err: &'static str,
+}
+
+#[rattlefmt::skip]
+const OPENINGS: [Opening; 16] = [
+    Opening { case: "a comment", text: "/* a", err: "t.c:1:1: error[3]: unterminated comment\n" },
+    Opening { case: "a comment with its opening alone", text: "extern int x;\n /*/", err: "t.c:2:2: error[3]: unterminated comment\n" },
+    Opening { case: "a comment behind another", text: "/* a */ /* b", err: "t.c:1:9: error[3]: unterminated comment\n" },
+    Opening { case: "a comment whose end is cut by a space", text: "/* a * /", err: "t.c:1:1: error[3]: unterminated comment\n" },
+    Opening { case: "a string literal", text: "char *s = \"a", err: "t.c:1:11: error[4]: unterminated literal\n" },
+    Opening { case: "a string literal at the end of its line", text: "x \"a\n\"", err: "t.c:1:3: error[4]: unterminated literal\n" },
+    Opening { case: "a character constant", text: "x + 'a", err: "t.c:1:5: error[4]: unterminated literal\n" },
+    Opening { case: "a quotation mark behind an empty one", text: "'''", err: "t.c:1:3: error[4]: unterminated literal\n" },
+    Opening { case: "a quotation mark behind a backslash", text: "\"a\\\"", err: "t.c:1:1: error[4]: unterminated literal\n" },
+    Opening { case: "a literal with a prefix", text: "L\"a", err: "t.c:1:2: error[4]: unterminated literal\n" },
+    Opening { case: "a literal with a prefix of two", text: "u8\"a", err: "t.c:1:3: error[4]: unterminated literal\n" },
+    Opening { case: "a literal over two lines that are joined", text: "\"a\\\nb", err: "t.c:1:1: error[4]: unterminated literal\n" },
+    Opening { case: "behind joined lines", text: "x\\\n 'a", err: "t.c:2:2: error[4]: unterminated literal\n" },
+    Opening { case: "behind an include", text: "#include <a'>\n'", err: "t.c:2:1: error[4]: unterminated literal\n" },
+    Opening { case: "the first of two", text: "'a\n/* b", err: "t.c:1:1: error[4]: unterminated literal\n" },
+    Opening { case: "what isn't in the form before it", text: "double d; /* a", err: "t.c:1:11: error[3]: unterminated comment\n" },
 ];
 
 // A text: what it shows, and its bytes.
@@ -66,7 +103,7 @@ struct Text {
 
 // Units without failures.
 #[rattlefmt::skip]
-const CLEAN: [Text; 9] = [
+const CLEAN: [Text; 17] = [
     Text { case: "an empty file", text: "" },
     Text { case: "equal flags in another order", text: "extern int __attribute__((noderef, address_space(2))) *p; extern int __attribute__((address_space(2),noderef,noderef)) *u; void f(void) { p = u; u = p; }" },
     Text { case: "of two spaces the later one counts", text: "extern int __attribute__((address_space(1), address_space(2))) *p; extern int __attribute__((address_space(2))) *u; void f(void) { p = u; }" },
@@ -76,15 +113,27 @@ const CLEAN: [Text; 9] = [
     Text { case: "a name with one", text: "extern int _x;" },
     Text { case: "a store through a pointer", text: "extern int *p; extern int x; void f(void) { *p = x; }" },
     Text { case: "an address", text: "extern int *p; extern int x; void f(void) { p = &x; }" },
+    Text { case: "a comment alone", text: "/* x */" },
+    Text { case: "a comment to the end of the file", text: "extern int x; // y" },
+    Text { case: "comments between all tokens", text: "/**/extern/**/int/***/*/*/*/p/* ' \" */;/* // */" },
+    Text { case: "a quotation mark in a comment", text: "// it's\nextern int x;" },
+    Text { case: "vertical tabs and form feeds", text: "extern\u{b}int\u{c}x;" },
+    Text { case: "a word over three lines", text: "ext\\\ner\\\nn int x;" },
+    Text { case: "a comment whose opening is over two lines", text: "/\\\n* x *\\\n/ extern int x;" },
+    Text { case: "braces as digraphs", text: "void f(void) <% %>" },
 ];
 
 // Texts that aren't in the first form.
 #[rattlefmt::skip]
-const NOT_IN_FORM: [Text; 34] = [
+const NOT_IN_FORM: [Text; 38] = [
     Text { case: "a second declarator", text: "extern int x, y;" },
     Text { case: "a directive", text: "#define X 1" },
-    Text { case: "a comment", text: "/* x */" },
     Text { case: "a carriage return", text: "extern int x;\r\n" },
+    Text { case: "a backslash before a carriage return", text: "extern int x\\\r\n;" },
+    Text { case: "a backslash as the last byte", text: "extern int x;\\" },
+    Text { case: "a literal", text: "char *s = \"a\";" },
+    Text { case: "a bracket, spelled as a digraph", text: "extern int x<:1:>;" },
+    Text { case: "an operator of two bytes", text: "extern int x; void f(void) { x += x; }" },
     Text { case: "a name declared twice", text: "extern int x; extern int x;" },
     Text { case: "a function with an object's name", text: "extern int x; void x(void) { }" },
     Text { case: "a name used before its declaration", text: "void f(void) { x = x; } extern int x;" },
@@ -124,6 +173,18 @@ fn failures_are_warned_of(rt: HostRuntime) -> Result<(), Fail> {
         let ran = check(rt.alloc(), unit.text.as_bytes())?;
         assert_eq!(rt; ran.exit, Exit::Warned, "{case}");
         assert_eq!(rt; ran.err.bytes(), unit.warnings.as_bytes(), "{case}");
+        assert_eq!(rt; ran.out.bytes(), b"".as_slice(), "{case}");
+    }
+    Ok(())
+}
+
+#[test]
+fn what_is_never_closed_is_told_at_its_opening(rt: HostRuntime) -> Result<(), Fail> {
+    for opening in &OPENINGS {
+        let case = opening.case;
+        let ran = check(rt.alloc(), opening.text.as_bytes())?;
+        assert_eq!(rt; ran.exit, Exit::Refused, "{case}");
+        assert_eq!(rt; ran.err.bytes(), opening.err.as_bytes(), "{case}");
         assert_eq!(rt; ran.out.bytes(), b"".as_slice(), "{case}");
     }
     Ok(())

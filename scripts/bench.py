@@ -3,11 +3,13 @@
 
 usage: bench.py PROGRAM
 
-Prints for each file its size, the time and the peak memory of a check, and the ratio of the time to that
-of the file before. Exits 1 where ten times the input takes more than eleven times the time, once a check
-takes long enough to be measured, or where a largest file takes more than five seconds.
+Prints for each file its bytes and tokens, the time of a check, also by the token, and the peak memory, also
+by the token, above that of a check of an empty file. Exits 1 where ten times the input takes more than
+eleven times the time, once a check takes long enough to be measured, or where a largest file takes more
+than five seconds.
 """
 import os
+import re
 import resource
 import subprocess
 import sys
@@ -22,8 +24,8 @@ MOST_BYTES = 8388608
 MOST_TOKENS = 2000000
 
 
-def statements(count):
-    """A unit with this many statements of all forms, two in five of which break a rule."""
+def statements(tokens):
+    """A unit of about so many tokens, with statements of all forms, two in five of which break a rule."""
     lines = [
         "extern int *p;\n",
         "extern int *q;\n",
@@ -31,8 +33,9 @@ def statements(count):
         "extern int __attribute__((noderef, address_space(__user))) *u;\n",
         "void f(void) {\n",
     ]
+    # The lines around have 37 tokens, five statements 23.
     body = ["  p = u;\n", "  *u = x;\n", "  p = q;\n", "  p = &x;\n", "  *p = x;\n"]
-    lines += [body[number % len(body)] for number in range(count)]
+    lines += body * ((tokens - 37) // 23)
     lines.append("}\n")
     return "".join(lines).encode()
 
@@ -64,6 +67,16 @@ def distinct_names():
         number += 1
 
 
+def most_bytes_of(piece, end=b""):
+    """A largest file of this piece."""
+    return piece * ((MOST_BYTES - len(end)) // len(piece)) + end
+
+
+def tokens_in(text):
+    """How many tokens a file of the first form without comments has."""
+    return len(re.findall(rb"[A-Za-z0-9_]+|[^A-Za-z0-9_\s]", text))
+
+
 def check(program, text):
     """The seconds and the peak kilobytes of a check, the least time of three."""
     with tempfile.TemporaryDirectory() as folder:
@@ -76,29 +89,46 @@ def check(program, text):
             _, status, usage = os.wait4(child.pid, 0)
             seconds = time.perf_counter() - begin
             status = os.waitstatus_to_exitcode(status)
-            if status not in (0, 1, 7):
-                sys.exit(f"bench: status {status} on a file of the first form")
+            if status not in (0, 1, 2, 7):
+                sys.exit(f"bench: status {status}")
             best = (seconds, usage.ru_maxrss) if best is None else min(best, (seconds, usage.ru_maxrss))
         return best
+
+
+def print_row(name, text, tokens, seconds, memory, floor):
+    """A line of the table; by the token where the file has tokens."""
+    by_token = f"{seconds / tokens * 1e9:9.0f} {(memory - floor) * 1024 / tokens:10.0f}" if tokens else ""
+    print(f"{name:26} {len(text):9} {tokens:9} {seconds:8.3f} {memory:9} {by_token}")
 
 
 def main():
     program = os.path.abspath(sys.argv[1])
     failed = False
-    print(f"{'file':24} {'bytes':>9} {'seconds':>8} {'peak KiB':>9} {'ratio':>6}")
+    print(f"{'file':26} {'bytes':>9} {'tokens':>9} {'seconds':>8} {'peak KiB':>9} {'ns/token':>9} {'bytes/token':>10}")
+    _, floor = check(program, b"")
     before = None
-    for count in (1000, 10000, 100000):
+    for count in (10000, 100000, 1000000):
         text = statements(count)
         seconds, memory = check(program, text)
-        ratio = seconds / before if before else 0
-        print(f"{f'{count} statements':24} {len(text):9} {seconds:8.3f} {memory:9} {ratio:6.1f}")
-        if before and before >= MEASURABLE and ratio > MOST_RATIO:
+        print_row("statements", text, tokens_in(text), seconds, memory, floor)
+        if before and before >= MEASURABLE and seconds / before > MOST_RATIO:
             failed = True
         before = seconds
-    largest = (("most tokens", most_tokens()), ("too many tokens", too_many_tokens()), ("distinct names", distinct_names()))
+    largest = (
+        ("most tokens", most_tokens()),
+        ("too many tokens", too_many_tokens()),
+        ("distinct names", distinct_names()),
+        ("not in the form", most_bytes_of(b"a+")),
+        ("one comment", b"/" + most_bytes_of(b"*")[2:] + b"/"),
+        ("comments of one line", most_bytes_of(b"//\n")),
+        ("lines joined in a word", most_bytes_of(b"a\\\n")),
+        ("one string literal", b'"' + most_bytes_of(b"a")[:-2] + b'"'),
+        ("a literal never closed", most_bytes_of(b'"')),
+        ("quotes behind include", most_bytes_of(b'#include "\n')),
+    )
     for name, text in largest:
         seconds, memory = check(program, text)
-        print(f"{name:24} {len(text):9} {seconds:8.3f} {memory:9} {'':>6}")
+        print_row(name, text, tokens_in(text) if name.endswith(("tokens", "names")) else 0, seconds, memory, floor)
         if seconds > MOST_SECONDS:
             failed = True
     return 1 if failed else 0

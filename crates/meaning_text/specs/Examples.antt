@@ -9,6 +9,7 @@ use Rattle.meaning_text.specs.Punctuators.{PunctuatorRow, plain_punctuators, dig
 use Rattle.meaning_text.specs.Kinds.{Kind, Identifier, Number, Character, String, HeaderName, Punctuator, Stray, kind_in}
 use Rattle.meaning_text.specs.Tokens.{Tok, LexFault, OpenComment, OpenLiteral}
 use Rattle.meaning_text.specs.Fronts.{AtToken, front_of}
+use Rattle.meaning_text.specs.Terminals.{terminals_of}
 use Rattle.meaning_text.specs.Lexing.{Lexed, Tokens, Refused, lexed_file}
 
 -- the number of the file in each example
@@ -61,6 +62,14 @@ IsSpelled text tokens = spelled_tokens (lexed_file example_file text) ≡ Some t
 abbrev pub HasTokens : List ℕ → List Tok → Type 0
 HasTokens text tokens = lexed_file example_file text ≡ Tokens tokens
 
+abbrev pub found_terminals : Lexed → Option (List (List ℕ))
+found_terminals (Tokens tokens) = Some (terminals_of tokens)
+found_terminals (Refused fault) = None
+
+-- the grammar sees these
+abbrev pub HasTerminals : List ℕ → List (List ℕ) → Type 0
+HasTerminals text terminals = found_terminals (lexed_file example_file text) ≡ Some terminals
+
 -- it has this fault
 abbrev pub HasFault : List ℕ → LexFault → Type 0
 HasFault text fault = lexed_file example_file text ≡ Refused fault
@@ -107,7 +116,9 @@ pub record SpellingExamples : Type 0 where
       IsOfKind (codes "1e-5") Number × IsOfKind (codes "1E+5") Number × IsOfKind (codes "0x1p-3") Number × IsOfKind (codes "0x1P+3") Number
   pub sign_in_number : IsNoToken (codes "1+2") × IsNoToken (codes "1e+-") × IsNoToken (codes ".e5")
   -- a sign stands behind an exponent letter, which a digit of a universal character name isn't
-  pub sign_behind_universal : IsNoToken (codes "1\\u000e+") × IsOfKind (codes "1\\u0000e+") Number
+  pub sign_behind_universal :
+      IsNoToken (codes "1\\u000e+") × IsOfKind (codes "1\\u0000e+") Number
+      × IsNoToken (codes "1\\U0000000e+") × IsOfKind (codes "1\\U00000000e+") Number
   pub characters :
       IsOfKind (codes "''") Character × IsOfKind (codes "L''") Character × IsOfKind (codes "u'\\''") Character
       × IsOfKind (codes "'\"/*'") Character × IsOfKind (codes "U'ab'") Character
@@ -144,6 +155,8 @@ pub record TextExamples : Type 0 where
   pub other_file :
       lexed_file 7 (codes "a")
       ≡ Tokens (record { kind = Identifier; text = codes "a"; at = record { file = 7; line = 1; column = 1 }; space_before = false; line_start = true } ∷ [])
+  -- a new-line is white space
+  pub next_line : HasTokens (codes "a\nb") (first_token false Identifier (codes "a") 1 1 ∷ first_token true Identifier (codes "b") 2 1 ∷ [])
   -- a comment alone parts tokens as a space does
   pub comment_is_space : HasTokens (codes "a/**/b") (first_token false Identifier (codes "a") 1 1 ∷ next_token true Identifier (codes "b") 1 6 ∷ [])
   -- one token begins the line
@@ -175,11 +188,17 @@ pub record TextExamples : Type 0 where
       ∷ name (codes "d") ∷ [])
   -- a digraph keeps its spelling
   pub digraph :
-      HasTokens (codes "a<::>%:%:%:")
+      HasTokens (codes "a<::><%%>%:%:%:")
       (first_token false Identifier (codes "a") 1 1 ∷ next_token false (Punctuator (codes "[")) (codes "<:") 1 2
       ∷ next_token false (Punctuator (codes "]")) (codes ":>") 1 4
-      ∷ next_token false (Punctuator (codes "##")) (codes "%:%:") 1 6
-      ∷ next_token false (Punctuator (codes "#")) (codes "%:") 1 10 ∷ [])
+      ∷ next_token false (Punctuator (codes "{")) (codes "<%") 1 6
+      ∷ next_token false (Punctuator (codes "}")) (codes "%>") 1 8
+      ∷ next_token false (Punctuator (codes "##")) (codes "%:%:") 1 10
+      ∷ next_token false (Punctuator (codes "#")) (codes "%:") 1 14 ∷ [])
+  -- but the grammar sees what it stands for
+  pub terminals :
+      HasTerminals (codes "#include <a>\na<:'b'%>1\"c\" $")
+      (codes "#" ∷ codes "include" ∷ codes "<a>" ∷ codes "a" ∷ codes "[" ∷ codes "'b'" ∷ codes "}" ∷ codes "1" ∷ codes "\"c\"" ∷ codes "$" ∷ [])
   pub comments :
       IsSpelled (codes "a/**/b/***/c/*/*/d") (name (codes "a") ∷ name (codes "b") ∷ name (codes "c") ∷ name (codes "d") ∷ [])
   pub no_comment : IsSpelled (codes "\"/*\"a/ /b") ((String, codes "\"/*\"") ∷ name (codes "a") ∷ mark (codes "/") ∷ mark (codes "/") ∷ name (codes "b") ∷ [])
@@ -224,6 +243,11 @@ row_spellings = map (λ (row : PunctuatorRow). row.spelling) punctuators
 
 pub record TableFacts : Type 0 where
   pub count : (length plain_punctuators ≡ 48) × (length digraphs ≡ 6) × (length punctuators ≡ 54)
+  -- as 6.4.6 p1 lists them
+  pub listed :
+      IsSpelled
+      (codes "[ ] ( ) { } . -> ++ -- & * + - ~ ! / % << >> < > <= >= == != ^ | && || ? : ; ... = *= /= %= += -= <<= >>= &= ^= |= , # ##")
+      (map mark plain_punctuators)
   pub once : each_once row_spellings ≡ true
   pub short : list_all (λ spelling. nat_le (length spelling) 4) row_spellings ≡ true
   -- what a row stands for is a punctuator that stands for itself

@@ -7,8 +7,8 @@ pub mod Comments
 pub mod Punctuators
 pub mod Kinds
 pub mod Tokens
+pub mod Terminals
 pub mod Fronts
 pub mod Lexing
 pub mod Laws
 pub mod Examples
-pub mod Terminals

@@ -136,6 +136,7 @@ impl Unit {
         ensures trees { EachStandsForOneTree self.now }
         ensures finished { IsFinished self.now }
     {
+        // What always holds of a unit is known where a field is used.
         let _count = self.nodes.len();
     }
 }

@@ -1,7 +1,7 @@
 -- Worked examples: a few nodes, written out, and their trees.
-use Rattle.std.specs.Prelude.{ℕ, List, [], ◌∷◌, codes}
-use Rattle.meaning_tree.specs.Kinds.{NodeKind, ExpressionStatement, Assignment, Name, Evaluated}
-use Rattle.meaning_tree.specs.Trees.{SyntaxTree, Node, Parts, NoParts, Part}
+use Rattle.std.specs.Prelude.{◌≡◌, ℕ, List, [], ◌∷◌, map, codes}
+use Rattle.meaning_tree.specs.Kinds.{NodeKind, ExpressionStatement, Assignment, Name, Evaluated, Condition, TypePart, Unevaluated, tag_of}
+use Rattle.meaning_tree.specs.Trees.{SyntaxTree, Node, Parts, NoParts, Part, with_parts, parts_of}
 use Rattle.meaning_tree.specs.Nodes.{TreeNode, NodeList, IsTreeOf, ChildrenStandBefore, joined}
 
 -- a node whose children have the role Evaluated
@@ -21,12 +21,19 @@ assignment_nodes = record {
 abbrev pub evaluated : SyntaxTree → Parts (List ℕ) → Parts (List ℕ)
 evaluated = Part Evaluated
 
+-- the two names
+abbrev pub a_leaf : SyntaxTree
+a_leaf = Node Name 0 (codes "a") 0 NoParts
+
+abbrev pub b_leaf : SyntaxTree
+b_leaf = Node Name 2 (codes "b") 0 NoParts
+
 abbrev pub assignment_tree : SyntaxTree
 assignment_tree =
     Node ExpressionStatement 0 [] 0
     (evaluated
     (Node Assignment 1 [] 0
-    (evaluated (Node Name 0 (codes "a") 0 NoParts) (evaluated (Node Name 2 (codes "b") 0 NoParts) NoParts)))
+    (evaluated a_leaf (evaluated b_leaf NoParts)))
     NoParts)
 
 -- the same nodes in two lists: the names first, and a part that begins behind them
@@ -38,6 +45,14 @@ statement_nodes = record {
   first = 2;
   nodes = node_at Assignment 1 [] ((0, 0) ∷ (1, 0) ∷ []) ∷ node_at ExpressionStatement 0 [] ((2, 0) ∷ []) ∷ [];
 }
+
+-- parts keep the order of their trees
+pub record PartExamples : Type 0 where
+  pub of_one_role : parts_of TypePart (a_leaf ∷ b_leaf ∷ []) ≡ Part TypePart a_leaf (Part TypePart b_leaf NoParts)
+  pub behind_others :
+      with_parts (Part Condition a_leaf NoParts) (Part Evaluated b_leaf NoParts) ≡ Part Condition a_leaf (Part Evaluated b_leaf NoParts)
+  -- the tags by which lists of children keep roles
+  pub tags : map tag_of (Evaluated ∷ Condition ∷ TypePart ∷ Unevaluated ∷ []) ≡ 0 ∷ 1 ∷ 2 ∷ 3 ∷ []
 
 -- a short list of nodes
 pub record NodeExamples : Type 0 where

@@ -1,4 +1,4 @@
-ghost use Rattle.meaning_tree.specs.Examples.{NodeExamples};
+ghost use Rattle.meaning_tree.specs.Examples.{NodeExamples, PartExamples};
 ghost use Rattle.meaning_tree.specs.Laws.{AddedNodeGrows, AddedNodeStands, AddedNodeStandsBehind, FurtherChildStands, GrowthIsReflexive, GrowthIsTransitive, JoinedPartGrows, JoinedStandBefore, NoTreesCome, NothingStandsBefore, PartsAreUnique, PartsStay, TagsKeepRoles, TreesAreUnique, TreesExist, TreesStay, TreesStayBehind, TreesStayInFront};
 
 /// A list of children keeps the role of each of them.
@@ -47,7 +47,8 @@ pub fn order_is_kept<Spelling>()
     ensures part { JoinedStandBefore Spelling }
 {}
 
-/// A short list of nodes stands for the tree that one can tell by eye.
+/// A short list of nodes stands for the tree that one can tell by eye, and parts keep their order.
 pub fn worked_examples()
-    ensures { NodeExamples }
+    ensures nodes { NodeExamples }
+    ensures parts { PartExamples }
 {}

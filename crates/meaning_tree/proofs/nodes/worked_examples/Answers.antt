@@ -23,8 +23,15 @@ assignment_order =
     (All-cons (before 2) (0, 0) ((1, 0) ∷ []) (omega arith, omega arith) (All-cons (before 2) (1, 0) [] (omega arith, omega arith) (All-nil (before 2)))))
     (All-cons (before 3) (2, 0) [] (omega arith, omega arith) (All-nil (before 3)))
 
-pub returns : goal.returns
-returns c = record {
+pub returns-clause-parts : goal.returns-clause-parts
+returns-clause-parts c = record {
+  of_one_role = refl;
+  behind_others = refl;
+  tags = refl;
+}
+
+pub returns-clause-nodes : goal.returns-clause-nodes
+returns-clause-nodes c = record {
   tree = (omega arith, ((2, 0) ∷ [], (omega arith, refl), (refl, ((0, 0) ∷ (1, 0) ∷ [], (omega arith, refl), (refl, ([], (omega arith, refl), tt), (refl, ([], (omega arith, refl), tt), tt))), tt)));
   in_order = assignment_order;
   in_two_parts = (omega arith, ((2, 0) ∷ [], (omega arith, refl), (refl, ((0, 0) ∷ (1, 0) ∷ [], (omega arith, refl), (refl, ([], (omega arith, refl), tt), (refl, ([], (omega arith, refl), tt), tt))), tt)));

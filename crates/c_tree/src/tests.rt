@@ -105,3 +105,34 @@ fn a_part_is_taken_in(rt: HostRuntime) -> Result<(), Fail> {
     assert_eq!(rt; unit.len(), 4);
     Ok(())
 }
+
+// Each round drops the nodes before its part, so that a million of them stand in memory at once.
+#[test]
+fn a_full_unit_hands_a_node_back(rt: HostRuntime) -> Result<(), Fail> {
+    let mut unit = Unit::new(rt.alloc());
+    for _round in 0..16 {
+        unit = unit.part(rt.alloc());
+        for _node in 0..1_000_000 {
+            add_name(&rt, rt.alloc(), &mut unit, 7)?;
+        }
+    }
+    assert_eq!(rt; unit.len(), 16_000_000);
+    let node = Node {
+        kind: NodeKind::Assignment,
+        token: 9,
+        name: NameId(8),
+        number: 5,
+        children: TagList::new(rt.alloc()),
+    };
+    let Err((fault, node)) = unit.add(node) else {
+        return Err(Fail::new("a full unit took a node"));
+    };
+    assert_eq!(rt; fault, AddFault::Limit);
+    assert_eq!(rt;
+        (node.kind, node.token, node.name),
+        (NodeKind::Assignment, 9, NameId(8))
+    );
+    assert_eq!(rt; (node.number, node.children.len()), (5, 0));
+    assert_eq!(rt; unit.len(), 16_000_000);
+    Ok(())
+}

@@ -3,9 +3,9 @@
 
 usage: fuzz.py PROGRAM [COUNT [SEED]]
 
-A run must end by itself within ten seconds with one of the stated statuses, write nothing to standard
-output, and write to standard error only lines of the stated forms, which fit the status. Where a file
-opens a comment or a literal that it never closes, a plain scanner here says which line must be told.
+A run must end by itself within ten seconds, write nothing to standard output, and give for a file the
+status and the bytes on standard error that `rules.py` works out from the rules alone. For words it must
+give one of the stated statuses, with lines of the stated form.
 """
 import os
 import random
@@ -14,19 +14,8 @@ import subprocess
 import sys
 import tempfile
 
-PLACE = rb"t\.c:[1-9][0-9]*:[1-9][0-9]*:"
-TYPE = rb"int(?: noderef)?(?: address_space\([A-Za-z0-9_]+\))?(?: \*){0,3}"
-WARNING = re.compile(
-    rb"(?:" + PLACE + rb" warning: (?:"
-    rb"incorrect type in assignment \(different address spaces\)\n"
-    + PLACE + rb"    expected " + TYPE + rb"\n"
-    + PLACE + rb"    got " + TYPE + rb"\n"
-    rb"|dereference of noderef expression\n"
-    rb"|dereference in address space [A-Za-z0-9_]+\n"
-    rb"))+"
-)
-REFUSAL = re.compile(rb"t\.c:1:1: error\[29\]: form not built\n")
-OPENING = re.compile(PLACE + rb" error\[(?:3\]: unterminated comment|4\]: unterminated literal)\n")
+import rules
+
 USAGE = re.compile(rb"ksparse: (?:bad word: .*|missing file)\n", re.DOTALL)
 MISSING = re.compile(rb"ksparse: error\[1\]: no such file: .*\n", re.DOTALL)
 
@@ -37,66 +26,11 @@ PIECES = [
     "%:", "<%", "%>", "...", ".5", "1e+", "\\u00e9", "\r", "\0", "\x80", "\xff", "x" * 300,
 ]
 
-# The tokens of C11 6.4, each regular expression for the bytes of one logical line.
-UNIVERSAL = rb"\\u[0-9A-Fa-f]{4}|\\U[0-9A-Fa-f]{8}"
-HEADER = re.compile(rb'<[^\n>]+>|"[^\n"]+"')
-LITERAL = re.compile(rb"""(?:u8|[LuU])?"(?:[^"\\\n]|\\[^\n])*"|[LuU]?'(?:[^'\\\n]|\\[^\n])*'""")
-WORD = re.compile(rb"(?:[A-Za-z_]|" + UNIVERSAL + rb")(?:[A-Za-z0-9_]|" + UNIVERSAL + rb")*")
-NUMBER = re.compile(rb"\.?[0-9](?:[eEpP][+-]|" + UNIVERSAL + rb"|[A-Za-z0-9_.])*")
-PUNCTUATOR = re.compile(
-    rb"%:%:|\.\.\.|<<=|>>=|->|\+\+|--|<<|>>|<=|>=|==|!=|&&|\|\||\*=|/=|%=|\+=|-=|&=|\^=|\|=|##|<:|:>|<%|%>|%:|[^'\"]",
-    re.DOTALL,
-)
-
-
-def logical(text):
-    """The bytes without each backslash and new-line, and the place of each."""
-    kept, places, line, column, at = bytearray(), [], 1, 1, 0
-    while at < len(text):
-        if text[at : at + 2] == b"\\\n":
-            line, column, at = line + 1, 1, at + 2
-            continue
-        kept.append(text[at])
-        places.append((line, column))
-        line, column = (line + 1, 1) if text[at] == 10 else (line, column + 1)
-        at += 1
-    return bytes(kept) + b"\n", places
-
-
-def token(text, at, behind_include):
-    """The longest token here, or None at a quotation mark alone."""
-    patterns = [LITERAL, WORD, NUMBER, PUNCTUATOR]
-    found = [match.group() for match in (pattern.match(text, at) for pattern in patterns) if match]
-    if behind_include and HEADER.match(text, at):
-        found.append(HEADER.match(text, at).group())
-    return max(found, key=len, default=None)
-
-
-def opening(text):
-    """The line that is told of what a file opens first and never closes, or None."""
-    text, places = logical(text)
-    at, behind = 0, "line start"
-    while at < len(text):
-        if text[at : at + 2] == b"//":
-            at = text.index(b"\n", at)
-        elif text[at : at + 2] == b"/*":
-            end = text.find(b"*/", at + 2)
-            if end < 0:
-                return b"t.c:%d:%d: error[3]: unterminated comment\n" % places[at]
-            at = end + 2
-        elif text[at] in b" \t\n\v\f":
-            behind = "line start" if text[at] == 10 else behind
-            at += 1
-        else:
-            spelled = token(text, at, behind == "include")
-            if spelled is None:
-                return b"t.c:%d:%d: error[4]: unterminated literal\n" % places[at]
-            if behind == "line start":
-                behind = "hash" if spelled in (b"#", b"%:") else "elsewhere"
-            else:
-                behind = "include" if behind == "hash" and spelled == b"include" else "elsewhere"
-            at += len(spelled)
-    return None
+# What can be a name, and what can't.
+WORDS = [
+    b"\\u00e9", b"a\\u00e9b", b"\\U0001f600", b"\\u00e", b"L'a'", b"u8\"x\"", b"'a'", b"\"x\"", b"_", b"_x", b"__x", b"x1",
+    b"L", b"u8", b"asm", b"typeof", b"_Pragma", b"while", b"_Bool", b"noderef", b"1", b".5", b"1u", b"$", b"\x80", b"a$", b"#",
+]
 
 
 def unit(chance):
@@ -153,6 +87,14 @@ def rewritten(chance):
     return bytes(text)
 
 
+def renamed(chance):
+    """A unit with words in place of some names that may be no names."""
+    text = unit(chance)
+    for number in range(chance.randrange(1, 4)):
+        text = text.replace(b"n%d" % number, chance.choice(WORDS))
+    return text
+
+
 def soup(chance):
     """Pieces in any order."""
     count = chance.randrange(60)
@@ -163,33 +105,21 @@ def noise(chance):
     return bytes(chance.randrange(256) for _ in range(chance.randrange(200)))
 
 
-def fault(status, out, err, text, in_form):
-    """What is wrong about the result of a check of this text, or nothing."""
-    if out:
-        return "something on standard output"
-    told = opening(text)
-    if told is not None:
-        return None if status == 2 and err == told else f"not told {told!r}"
-    if in_form and status not in (0, 1):
-        return "a unit of the first form is refused"
-    if status == 0:
-        return "not silent" if err else None
-    if status == 1:
-        return None if WARNING.fullmatch(err) else "no warning lines"
-    if status == 2:
-        return None if REFUSAL.fullmatch(err) else "no refusal line"
-    return "a status that is not stated"
-
-
 def run(program, words, folder):
     done = subprocess.run([program, *words], cwd=folder, capture_output=True, timeout=10)
     return done.returncode, done.stdout, done.stderr
 
 
 def check_text(program, folder, text, in_form):
+    """What is wrong about the check of this text, or nothing."""
     with open(os.path.join(folder, "t.c"), "wb") as file:
         file.write(text)
-    return fault(*run(program, ["t.c"], folder), text, in_form)
+    status, out, err = run(program, ["t.c"], folder)
+    if in_form and status not in (0, 1):
+        return "a unit of the first form is refused"
+    if (status, err) != rules.answer(text):
+        return f"status {status}, {err!r} in place of {rules.answer(text)!r}"
+    return "something on standard output" if out else None
 
 
 def check_words(program, folder, chance):
@@ -201,9 +131,9 @@ def check_words(program, folder, chance):
         return words, "something on standard output"
     if status == 3:
         return words, None if USAGE.fullmatch(err) else "no usage line"
-    if status == 2:
-        return words, None if MISSING.fullmatch(err) or REFUSAL.fullmatch(err) or OPENING.fullmatch(err) else "no refusal line"
-    return words, None if status in (0, 1) and words == ["t.c"] else f"status {status}"
+    if words == ["t.c"]:
+        return words, None
+    return words, None if status == 2 and MISSING.fullmatch(err) else f"status {status}, {err!r}"
 
 
 def main():
@@ -212,7 +142,7 @@ def main():
     seed = int(sys.argv[3]) if len(sys.argv) > 3 else random.randrange(1 << 32)
     chance = random.Random(seed)
     print(f"fuzz: {count} files, seed {seed}")
-    makers = [(unit, True), (rewritten, True), (spoiled, False), (soup, False), (noise, False)]
+    makers = [(unit, True), (rewritten, True), (renamed, False), (spoiled, False), (soup, False), (noise, False)]
     with tempfile.TemporaryDirectory() as folder:
         for number in range(count):
             maker, in_form = makers[number % len(makers)]

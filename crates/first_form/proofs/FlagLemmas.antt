@@ -10,7 +10,8 @@ use Rattle.meaning_tree.specs.Kinds.{NodeKind}
 use Rattle.meaning_tree.specs.Trees.{Node, NoParts, Part, parts_of}
 use Rattle.meaning_tree.specs.Nodes.{NodeList}
 use Rattle.meaning_syntax.specs.Trees.{SyntaxParts, attribute_trees, word_trees}
-use Rattle.meaning_syntax.specs.Words.{is_identifier, is_space_id, number_of}
+use Rattle.meaning_text.specs.Words.{is_identifier}
+use Rattle.meaning_syntax.specs.Words.{is_space_id, number_of}
 use Rattle.meaning_syntax.specs.Items.{AddressSpace, Noderef, Word, word_fits, word_spelled}
 use Rattle.meaning_rules.specs.Bindings.{flagged_by, flags_behind, flags_behind_words, space_named, specified_flags}
 use Rattle.sparse_model.specs.declared.ids.NameId.{NameId}

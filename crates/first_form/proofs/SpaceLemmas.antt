@@ -1,5 +1,5 @@
 -- Lemmas on the tokens that can stand for an address space.
-use Rattle.std.proofs.Common.{◌≡◌, ℕ, ◌<◌, ◌^◌, List, [], ◌∷◌, length, refl, subst, Err, arith, true, ◌⊎◌, inl, inr, ⊎_elim}
+use Rattle.std.proofs.Common.{◌≡◌, ℕ, ◌<◌, ◌^◌, List, [], ◌∷◌, length, refl, sym, ap, subst, Ok, Err, arith, true, false, ◌∙◌, ◌⊎◌, inl, inr, ⊎_elim}
 use Rattle.std.specs.List.{list_all}
 use Rattle.std.specs.Char.{is_ascii_digit}
 use Rattle.std.specs.Str.{IsUtf8}
@@ -7,8 +7,9 @@ use Rattle.std.specs.Str.Parse.{ParsesUnsigned, digits_value}
 use Rattle.std.proofs.lemmas.Bool.{and_parts, or_cases, false≢true}
 use Rattle.std.proofs.lemmas.Bool.Decides.{nat_tests}
 use Rattle.std.proofs.lemmas.Str.Parse.{parse_digits}
-use Rattle.meaning_types.specs.Types.{NamedSpace}
-use Rattle.meaning_syntax.specs.Words.{is_identifier, is_space_id, is_space_name, is_space_number}
+use Rattle.meaning_types.specs.Types.{NamedSpace, NumberedSpace}
+use Rattle.meaning_text.specs.Words.{is_identifier}
+use Rattle.meaning_syntax.specs.Words.{is_space_id, is_space_name, is_space_number}
 use Rattle.meaning_rules.specs.Typing.{space_of}
 use Rattle.first_form.proofs.NumberLemmas.{digits, digits_are_text}
 
@@ -39,23 +40,32 @@ space_id_cases spelling is_id =
     (λ number. inr (number_parts spelling number))
     (or_cases _ _ is_id)
 
+-- a number, where it is no identifier
+number_unless_identifier : (spelling : List ℕ) → is_space_id spelling ≡ true → is_identifier spelling ≡ false → IsNumber spelling
+number_unless_identifier spelling is_id no_identifier =
+    ⊎_elim
+    (λ identifier. absurd (false≢true (sym no_identifier ∙ identifier)))
+    (λ number. number)
+    (space_id_cases spelling is_id)
+
 -- the space of an identifier has its name
-space_of-identifier : (spelling : List ℕ) → is_identifier spelling ≡ true → space_of spelling ≡ NamedSpace spelling
-space_of-identifier spelling identifier = rw identifier refl
+pub space_of_identifier : (spelling : List ℕ) → is_identifier spelling ≡ true → space_of spelling ≡ NamedSpace spelling
+space_of_identifier spelling identifier = rw identifier refl
 
--- what is no text is named by itself
-pub named_by_no_text : (spelling : List ℕ) → is_space_id spelling ≡ true → (IsUtf8 spelling → ⊥) → space_of spelling ≡ NamedSpace spelling
-named_by_no_text spelling is_id no_text =
-    ⊎_elim
-    (space_of-identifier spelling)
-    (λ number. absurd (no_text (digits_are_text spelling number.all_digits)))
-    (space_id_cases spelling is_id)
+-- the space of any other has the number that its digits write
+pub numbered_by_digits : (text spelling : List ℕ) (number : ℕ) → text ≡ spelling → is_space_id spelling ≡ true → is_identifier spelling ≡ false → ParsesUnsigned {E = ℕ} 32 10 text (Ok number) → space_of spelling ≡ NumberedSpace number
+numbered_by_digits text spelling number same is_id no_identifier parses =
+    let own = subst (λ (t : List ℕ). ParsesUnsigned {E = ℕ} 32 10 t (Ok number)) same parses in
+    let read = parse_digits digits {E = ℕ} 32 spelling (Ok number) own (number_unless_identifier spelling is_id no_identifier).all_digits in
+    rw no_identifier (ap NumberedSpace (sym read.1))
 
--- what is read as no number is named by itself
-pub named_by_no_number : (text spelling : List ℕ) → text ≡ spelling → is_space_id spelling ≡ true → ParsesUnsigned {E = ℕ} 32 10 text (Err 0) → space_of spelling ≡ NamedSpace spelling
-named_by_no_number text spelling same is_id parses =
+-- these digits are a text
+pub number_is_text : (spelling : List ℕ) → is_space_id spelling ≡ true → is_identifier spelling ≡ false → IsUtf8 spelling
+number_is_text spelling is_id no_identifier = digits_are_text spelling (number_unless_identifier spelling is_id no_identifier).all_digits
+
+-- and their number is read
+pub number_is_read : {A : Type 0} (text spelling : List ℕ) → text ≡ spelling → is_space_id spelling ≡ true → is_identifier spelling ≡ false → ParsesUnsigned {E = ℕ} 32 10 text (Err 0) → A
+number_is_read text spelling same is_id no_identifier parses =
     let unread = subst (λ (t : List ℕ). ParsesUnsigned {E = ℕ} 32 10 t (Err 0)) same parses in
-    ⊎_elim
-    (space_of-identifier spelling)
-    (λ number. absurd (parse_digits digits {E = ℕ} 32 spelling (Err 0) unread number.all_digits (number.not_empty, number.small)))
-    (space_id_cases spelling is_id)
+    let number = number_unless_identifier spelling is_id no_identifier in
+    absurd (parse_digits digits {E = ℕ} 32 spelling (Err 0) unread number.all_digits (number.not_empty, number.small))

@@ -4,7 +4,8 @@ use Rattle.std.proofs.lemmas.List.{drop_more}
 use Rattle.meaning_tree.specs.Kinds.{AddressSpaceAttribute, AttributeList, PointerDeclarator, TypePart}
 use Rattle.meaning_tree.specs.Trees.{Node, NoParts, parts_of}
 use Rattle.meaning_types.specs.Types.{NamedSpace, NumberedSpace}
-use Rattle.meaning_syntax.specs.Words.{is_identifier, number_of}
+use Rattle.meaning_text.specs.Words.{is_identifier}
+use Rattle.meaning_syntax.specs.Words.{number_of}
 use Rattle.meaning_syntax.specs.Items.{AddressSpace, word_spelled}
 use Rattle.meaning_syntax.specs.Trees.{plain_node, attribute_trees, item_tree, item_trees, leaf, star_trees, statement_tree, statement_trees, word_tree, word_trees}
 use Rattle.meaning_rules.specs.Typing.{space_of}

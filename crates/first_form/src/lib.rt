@@ -10,6 +10,7 @@ mod attribute;
 mod building;
 mod failure;
 mod front;
+mod identifier;
 mod item;
 mod judging;
 mod nodes;

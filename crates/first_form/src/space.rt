@@ -3,15 +3,19 @@ ghost use Rattle.meaning_types.specs.Types.{NamedSpace, NumberedSpace};
 ghost use Rattle.meaning_syntax.specs.Words as words;
 ghost use Rattle.meaning_rules.specs.Typing as typing;
 
+use crate::identifier::is_identifier;
 use std::str;
 
 // The number that a token is which can stand for a space, and which is an identifier otherwise.
-#[tactic(auto, unfolding(meaning_syntax::specs::Words::is_space_id, meaning_syntax::specs::Words::is_space_name, meaning_syntax::specs::Words::is_space_number))]
+#[tactic(auto, using(crate::proofs::SpaceLemmas::space_of_identifier))]
 pub(crate) fn number_of(spelling: &[u8]) -> Option<u32>
     requires { words.is_space_id spelling.now ≡ true }
     ensures number { IfSome result (λ number. typing.space_of spelling.now ≡ NumberedSpace number) }
     ensures name { IfNone result (typing.space_of spelling.now ≡ NamedSpace spelling.now) }
 {
+    if is_identifier(spelling) {
+        return None;
+    }
     let Ok(text) = str::from_utf8(spelling) else {
         return None;
     };

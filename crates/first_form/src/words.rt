@@ -2,7 +2,6 @@ ghost use Rattle.meaning_syntax.specs.Words.{
   begins_with_two_underscores,
   declaration_keywords,
   is_among,
-  is_identifier,
   is_keyword,
   is_name,
   is_plain_decimal,
@@ -20,6 +19,7 @@ ghost use Rattle.std.specs.List.{list_all, list_any};
 ghost use Rattle.std.specs.Prelude.{◌≡◌, ◌<◌, length, nat_le, true};
 ghost use Rattle.std.specs.Str.{bytes_eq};
 
+use crate::identifier::is_identifier;
 use std::str;
 
 /// Whether the token can name an object or a function.
@@ -79,15 +79,6 @@ fn fits_32_bits(digits: &[u8]) -> bool
     match str::from_utf8(digits) {
         Ok(text) => text.parse::<u32>().is_ok(),
         Err(_) => false,
-    }
-}
-
-fn is_identifier(text: &[u8]) -> bool
-    ensures { result ≡ is_identifier text.now }
-{
-    match text.first() {
-        Some(first) => first.is_ascii_alphabetic() || *first == b'_',
-        None => false,
     }
 }
 

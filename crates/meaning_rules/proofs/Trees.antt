@@ -7,7 +7,8 @@ use Rattle.std.proofs.lemmas.List.{append-nil, map-append}
 use Rattle.meaning_types.specs.Types.{NamedSpace, NumberedSpace, Flags, no_flags, TypeTree}
 use Rattle.meaning_tree.specs.Kinds.{NodeKind, AddressSpaceAttribute, Declarator, CompoundStatement, Evaluated, TypePart}
 use Rattle.meaning_tree.specs.Trees.{SyntaxTree, Node, NoParts, Part, parts_of}
-use Rattle.meaning_syntax.specs.Words.{is_identifier, number_of}
+use Rattle.meaning_text.specs.Words.{is_identifier}
+use Rattle.meaning_syntax.specs.Words.{number_of}
 use Rattle.meaning_syntax.specs.Items.{Word, Noderef, AddressSpace, Statement, Assign, AssignThrough, AssignAddress, Item, Object, Function, statement_spelled, item_spelled, word_spelled, attribute_spelled}
 use Rattle.meaning_syntax.specs.Binding.{Declared, item_statements, item_name, item_declared, object_of}
 use Rattle.meaning_syntax.specs.Trees.{SyntaxParts, statement_tree, statement_trees, word_tree, word_trees, attribute_trees, star_trees, item_tree, item_trees, unit_tree}

@@ -3,7 +3,7 @@ use Rattle.std.specs.Prelude.{ℕ, suc, zero, true, List, [], ◌∷◌, Option,
 use Rattle.std.specs.Option.{option_and_then}
 use Rattle.std.specs.Str.Parse.{digits_value}
 use Rattle.meaning_types.specs.Types.{Space, NumberedSpace, NamedSpace, IntKind, Flags, no_flags, no_qualifiers, TypeTree, Typed, IntegerTree, value_type}
-use Rattle.meaning_syntax.specs.Words.{is_identifier}
+use Rattle.meaning_text.specs.Words.{is_identifier}
 use Rattle.meaning_syntax.specs.Items.{Word, Noderef, AddressSpace, Item}
 use Rattle.meaning_syntax.specs.Binding.{Declared, object_of}
 use Rattle.meaning_rules.specs.Bindings.{pointer_to}

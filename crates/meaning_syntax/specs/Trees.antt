@@ -4,7 +4,8 @@ use Rattle.std.specs.Prelude.{◌≡◌, ℕ, suc, zero, ◌+◌, true, List, []
 use Rattle.std.specs.List.{list_all}
 use Rattle.meaning_tree.specs.Kinds.{NodeKind, TranslationUnit, Declaration, FunctionDefinition, Specifiers, ExternSpecifier, IntSpecifier, VoidSpecifier, AttributeList, NoderefAttribute, AddressSpaceAttribute, Declarator, PointerDeclarator, FunctionDeclarator, Parameter, CompoundStatement, ExpressionStatement, Assignment, Indirection, Address, Name, Evaluated, TypePart}
 use Rattle.meaning_tree.specs.Trees.{SyntaxTree, Node, Parts, NoParts, Part, parts_of}
-use Rattle.meaning_syntax.specs.Words.{is_identifier, number_of}
+use Rattle.meaning_text.specs.Words.{is_identifier}
+use Rattle.meaning_syntax.specs.Words.{number_of}
 use Rattle.meaning_syntax.specs.Items.{Word, Noderef, AddressSpace, Statement, Assign, AssignThrough, AssignAddress, Item, Object, Function, word_spelled, attribute_spelled, statement_spelled, item_spelled, item_fits}
 use Rattle.meaning_syntax.specs.Binding.{are_bound}
 use Rattle.meaning_syntax.specs.Form.{IsUnit}

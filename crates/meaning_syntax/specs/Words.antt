@@ -1,10 +1,12 @@
--- Which words can be names, and which can name an address space.
+-- Which words can be names, and which can name an address space. An identifier is one by its whole spelling: a
+-- literal with a prefix begins like one.
 use Rattle.std.specs.Prelude.{ℕ, Bool, false, ◌&&◌, ◌||◌, ◌==◌, List, [], ◌∷◌, codes, not, nat_le}
 use Rattle.std.specs.List.{list_any, list_all}
 use Rattle.std.specs.Str.{bytes_eq}
 use Rattle.std.specs.Str.Parse.{digits_value}
 use Rattle.std.specs.Char.{is_ascii_digit}
-use Rattle.meaning_text.specs.Bytes.{is_nondigit, underscore}
+use Rattle.meaning_text.specs.Bytes.{underscore}
+use Rattle.meaning_text.specs.Words.{is_identifier}
 
 -- the text is one of these
 abbrev pub is_among : List ℕ → List (List ℕ) → Bool
@@ -43,11 +45,6 @@ unfoldable pub is_predefined_macro : List ℕ → Bool
 is_predefined_macro text =
     is_among text
     (codes "__CHECKER__" ∷ codes "__STDC__" ∷ codes "__STDC_VERSION__" ∷ codes "__LP64__" ∷ codes "__FILE__" ∷ codes "__LINE__" ∷ codes "__COUNTER__" ∷ [])
-
--- of a token: it is an identifier (6.4.2.1), a keyword too
-abbrev pub is_identifier : List ℕ → Bool
-is_identifier [] = false
-is_identifier (b ∷ text) = is_nondigit b
 
 abbrev pub begins_with_two_underscores : List ℕ → Bool
 begins_with_two_underscores (a ∷ b ∷ text) = a == underscore && b == underscore

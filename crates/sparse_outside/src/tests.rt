@@ -1,6 +1,7 @@
 use super::*;
 use std::fs;
 use std::process::Abort;
+use std::rt::Files as SystemFiles;
 use std::test::Fail;
 
 // What a row is of, a path, the most bytes, the answer, and what is in the buffer then.
@@ -16,37 +17,62 @@ fn expect_loads<F: Files>(rt: &(impl Abort + AllocGlobal), files: &mut F, rows: 
 }
 
 #[rattlefmt::skip]
-#[test]
-fn files_are_loaded_and_pieces_are_put(rt: HostRuntime) -> Result<(), Fail> {
+fn expect_memory_files(rt: &(impl Abort + AllocGlobal)) -> Result<(), Fail> {
     let mut files = MemoryFiles::new(rt.alloc());
     files.add(b"a.c", b"int b;")?;
     files.add(b"a.c", b"int a;")?;
     files.fail_call(1)?;
-    expect_loads(&rt, &mut files, &[
+    expect_loads(rt, &mut files, &[
         ("load 1 is told to fail", "a.c", 6, Load::Failed, ""),
         ("load 2 has the newest bytes", "a.c", 6, Load::Whole, "int a;"),
         ("another path", "b.c", 6, Load::Missing, ""),
         ("a byte too long", "a.c", 5, Load::TooLong, ""),
     ]);
+    Ok(())
+}
 
-    let mut honest = HonestFiles::new(rt.alloc());
-    honest.add(b"a.c", b"int a;")?;
-    expect_loads(&rt, &mut honest, &[("it is there", "a.c", 6, Load::Whole, "int a;")]);
+#[rattlefmt::skip]
+fn expect_honest_files(rt: &(impl Abort + AllocGlobal)) -> Result<(), Fail> {
+    let mut files = HonestFiles::new(rt.alloc());
+    files.add(b"a.c", b"int a;")?;
+    expect_loads(rt, &mut files, &[("it is there", "a.c", 6, Load::Whole, "int a;")]);
+    Ok(())
+}
 
-    expect_loads(&rt, &mut RealFiles::new(&rt), &[
+#[rattlefmt::skip]
+fn expect_real_files(rt: &(impl Abort + AllocGlobal + SystemFiles)) {
+    expect_loads(rt, &mut RealFiles::new(rt), &[
         ("an empty file", "/dev/null", 0, Load::Whole, ""),
         ("bytes without end", "/dev/zero", 100_000, Load::TooLong, ""),
         ("a directory", "/", 6, Load::Failed, ""),
         ("a path through a file", "/dev/null/a.c", 6, Load::Failed, ""),
         ("no such file", "/dev/no such file", 6, Load::Missing, ""),
     ]);
+}
 
+#[test]
+fn files_are_loaded(rt: HostRuntime) -> Result<(), Fail> {
+    expect_memory_files(&rt)?;
+    expect_honest_files(&rt)?;
+    expect_real_files(&rt);
+    Ok(())
+}
+
+#[test]
+fn pieces_are_put(rt: HostRuntime) -> Result<(), Fail> {
     let mut sink = MemorySink::new(rt.alloc(), 10)?;
     assert_eq!(rt; sink.put(b"int a; int b;"), Put::Took(10));
     assert_eq!(rt; sink.put(b" b;"), Put::Failed);
     assert_eq!(rt; sink.bytes(), b"int a; int".as_slice());
-    assert_eq!(rt; RealSink::new(fs::create(&rt, "/dev/full")?).put(b"int a;"), Put::Failed);
+    assert_eq!(rt;
+        RealSink::new(fs::create(&rt, "/dev/full")?).put(b"int a;"),
+        Put::Failed
+    );
+    Ok(())
+}
 
+#[test]
+fn words_are_kept(rt: HostRuntime) -> Result<(), Fail> {
     let mut words = Words::new(rt.alloc());
     words.push(b"a.c")?;
     assert_eq!(rt; words.get(0), Some(b"a.c".as_slice()));

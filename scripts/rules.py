@@ -1,0 +1,244 @@
+#!/usr/bin/env python3
+"""The check of a file in the first form, written once more from the rules alone, for scripts/fuzz.py to compare with.
+
+Nothing here is taken from the program. `answer` gives the status of a check and what it writes.
+"""
+import re
+
+# The tokens of C11 6.4, each a regular expression for the bytes of one logical line.
+UNIVERSAL = rb"\\u[0-9A-Fa-f]{4}|\\U[0-9A-Fa-f]{8}"
+HEADER = re.compile(rb'<[^\n>]+>|"[^\n"]+"')
+LITERAL = re.compile(rb"""(?:u8|[LuU])?"(?:[^"\\\n]|\\[^\n])*"|[LuU]?'(?:[^'\\\n]|\\[^\n])*'""")
+WORD = re.compile(rb"(?:[A-Za-z_]|" + UNIVERSAL + rb")(?:[A-Za-z0-9_]|" + UNIVERSAL + rb")*")
+NUMBER = re.compile(rb"\.?[0-9](?:[eEpP][+-]|" + UNIVERSAL + rb"|[A-Za-z0-9_.])*")
+PUNCTUATOR = re.compile(
+    rb"%:%:|\.\.\.|<<=|>>=|->|\+\+|--|<<|>>|<=|>=|==|!=|&&|\|\||\*=|/=|%=|\+=|-=|&=|\^=|\|=|##|<:|:>|<%|%>|%:|[^'\"]",
+    re.DOTALL,
+)
+DIGRAPHS = {b"<:": b"[", b":>": b"]", b"<%": b"{", b"%>": b"}", b"%:": b"#", b"%:%:": b"##"}
+
+# C11 6.4.1
+KEYWORDS = set(
+    b"auto break case char const continue default do double else enum extern float for goto if inline int long register "
+    b"restrict return short signed sizeof static struct switch typedef union unsigned void volatile while _Alignas _Alignof "
+    b"_Atomic _Bool _Complex _Generic _Imaginary _Noreturn _Static_assert _Thread_local".split()
+)
+PREDEFINED = set(b"__CHECKER__ __STDC__ __STDC_VERSION__ __LP64__ __FILE__ __LINE__ __COUNTER__".split())
+
+
+class Opening(Exception):
+    """What opens here is never closed."""
+
+
+class NotInForm(Exception):
+    """The tokens aren't in the first form."""
+
+
+def logical(text):
+    """The bytes without each backslash and new-line, and the place of each."""
+    kept, places, line, column, at = bytearray(), [], 1, 1, 0
+    while at < len(text):
+        if text[at : at + 2] == b"\\\n":
+            line, column, at = line + 1, 1, at + 2
+            continue
+        kept.append(text[at])
+        places.append((line, column))
+        line, column = (line + 1, 1) if text[at] == 10 else (line, column + 1)
+        at += 1
+    return bytes(kept) + b"\n", places
+
+
+def token(text, at, behind_include):
+    """The longest token here, or None at a quotation mark alone."""
+    patterns = [LITERAL, WORD, NUMBER, PUNCTUATOR]
+    found = [match.group() for match in (pattern.match(text, at) for pattern in patterns) if match]
+    if behind_include and HEADER.match(text, at):
+        found.append(HEADER.match(text, at).group())
+    return max(found, key=len, default=None)
+
+
+def tokens(text):
+    """Each token, with its line and its column."""
+    text, places = logical(text)
+    at, behind = 0, "line start"
+    while at < len(text):
+        if text[at : at + 2] == b"//":
+            at = text.index(b"\n", at)
+        elif text[at : at + 2] == b"/*":
+            end = text.find(b"*/", at + 2)
+            if end < 0:
+                raise Opening(places[at], b"error[3]: unterminated comment")
+            at = end + 2
+        elif text[at] in b" \t\n\v\f":
+            behind = "line start" if text[at] == 10 else behind
+            at += 1
+        else:
+            spelled = token(text, at, behind == "include")
+            if spelled is None:
+                raise Opening(places[at], b"error[4]: unterminated literal")
+            yield spelled, places[at]
+            if behind == "line start":
+                behind = "hash" if spelled in (b"#", b"%:") else "elsewhere"
+            else:
+                behind = "include" if behind == "hash" and spelled == b"include" else "elsewhere"
+            at += len(spelled)
+
+
+def is_name(spelled):
+    """It can name an object or a function."""
+    words = KEYWORDS | {b"asm", b"typeof", b"_Pragma"}
+    return WORD.fullmatch(spelled) and spelled not in words and not spelled.startswith(b"__")
+
+
+def is_space(spelled):
+    """It can stand for an address space."""
+    if WORD.fullmatch(spelled):
+        return spelled not in KEYWORDS | PREDEFINED
+    return re.fullmatch(rb"[1-9][0-9]*", spelled) and int(spelled) <= 4294967295
+
+
+class Reader:
+    """The tokens of a unit, read one behind the other."""
+
+    def __init__(self, found):
+        self.found = found
+        self.at = 0
+        self.objects = {}
+        self.names = set()
+        self.failures = []
+
+    def sees(self, wanted):
+        spelled = self.found[self.at][0] if self.at < len(self.found) else b""
+        return DIGRAPHS.get(spelled, spelled) == wanted
+
+    def take(self, wanted):
+        if not self.sees(wanted):
+            raise NotInForm
+        self.at += 1
+        return self.found[self.at - 1][1]
+
+    def take_one(self, test):
+        if self.at == len(self.found) or not test(self.found[self.at][0]):
+            raise NotInForm
+        self.at += 1
+        return self.found[self.at - 1]
+
+    def unit(self):
+        while self.at < len(self.found):
+            if self.sees(b"extern"):
+                self.object()
+            else:
+                self.function()
+        return self.failures
+
+    def declare(self, name):
+        if name in self.names:
+            raise NotInForm
+        self.names.add(name)
+
+    def object(self):
+        self.take(b"extern")
+        self.take(b"int")
+        noderef, space = self.attribute() if self.sees(b"__attribute__") else (False, None)
+        stars = 0
+        while self.sees(b"*"):
+            self.take(b"*")
+            stars += 1
+        name, _ = self.take_one(is_name)
+        self.take(b";")
+        if stars > 3:
+            raise NotInForm
+        self.declare(name)
+        self.objects[name] = (stars, noderef, space)
+
+    def attribute(self):
+        self.take(b"__attribute__")
+        self.take(b"(")
+        self.take(b"(")
+        noderef, space = False, None
+        while True:
+            if self.sees(b"noderef"):
+                self.take(b"noderef")
+                noderef = True
+            else:
+                self.take(b"address_space")
+                self.take(b"(")
+                space, _ = self.take_one(is_space)
+                self.take(b")")
+            if not self.sees(b","):
+                break
+            self.take(b",")
+        self.take(b")")
+        self.take(b")")
+        return noderef, space
+
+    def function(self):
+        self.take(b"void")
+        name, _ = self.take_one(is_name)
+        for wanted in (b"(", b"void", b")", b"{"):
+            self.take(wanted)
+        self.declare_behind(name)
+
+    def declare_behind(self, name):
+        """A function's own name is no object in its body."""
+        while not self.sees(b"}"):
+            self.statement()
+        self.take(b"}")
+        self.declare(name)
+
+    def named_object(self):
+        name, place = self.take_one(is_name)
+        if name not in self.objects:
+            raise NotInForm
+        return self.objects[name], place
+
+    def statement(self):
+        left_place = self.take(b"*") if self.sees(b"*") else None
+        through = left_place is not None
+        target, place = self.named_object()
+        left_place = left_place or place
+        equals = self.take(b"=")
+        address = not through and self.sees(b"&")
+        if address:
+            self.take(b"&")
+        source, right_place = self.named_object()
+        self.take(b";")
+        if through:
+            target = (target[0] - 1, *target[1:])
+        if address:
+            source = (source[0] + 1, *source[1:])
+        if target[0] != source[0]:
+            raise NotInForm
+        self.access(left_place, target)
+        if target[0] > 0 and target[1:] != source[1:]:
+            self.failures += [(equals, b"warning: incorrect type in assignment (different address spaces)"),
+                              (equals, b"   expected " + spelled_type(target)), (equals, b"   got " + spelled_type(source))]
+        if not address:
+            self.access(right_place, source)
+
+    def access(self, place, accessed):
+        stars, noderef, space = accessed
+        if stars == 0 and noderef:
+            self.failures.append((place, b"warning: dereference of noderef expression"))
+        elif stars == 0 and space is not None:
+            self.failures.append((place, b"warning: dereference in address space " + space))
+
+
+def spelled_type(found):
+    stars, noderef, space = found
+    return b"int" + b" noderef" * noderef + (b" address_space(%b)" % space if space is not None else b"") + b" *" * stars
+
+
+def line(place, text):
+    return b"t.c:%d:%d: %b\n" % (*place, text)
+
+
+def answer(text):
+    """The status of the check of `t.c` with this text, and what goes to standard error."""
+    try:
+        failures = Reader(list(tokens(text))).unit()
+    except Opening as opening:
+        return 2, line(*opening.args)
+    except NotInForm:
+        return 2, line((1, 1), b"error[29]: form not built")
+    return (1 if failures else 0), b"".join(line(*failure) for failure in failures)

@@ -47,7 +47,9 @@ LastInOutcome before (Fault kind token) = Unit {0}
 -- behind the tests of a store
 last-tested : (blocks : List Block) (number : ℕ) (block : Block) (path : List ℕ) (value : Value) → slice_get blocks number ≡ Some block →
     (is_alive is_inside is_constant : Bool) →
-    LastInAnswer blocks (if is_alive then (if is_inside then (if is_constant then IsUndefined ReadOnly else Gives (slice_set blocks number (block_with block path value))) else IsUndefined OutOfBounds) else IsUndefined DeadBlock)
+    LastInAnswer blocks (if is_alive
+    then (if is_inside then (if is_constant then IsUndefined ReadOnly else Gives (slice_set blocks number (block_with block path value)))
+    else IsUndefined OutOfBounds) else IsUndefined DeadBlock)
 last-tested blocks number block path value there false is_inside is_constant = tt
 last-tested blocks number block path value there true false is_constant = tt
 last-tested blocks number block path value there true true true = tt
@@ -70,19 +72,26 @@ last-stored blocks (In number path index length) value = last-stored_block block
 -- Steps
 
 -- the written value goes on
-last-written_answer : (blocks : List Block) (value : Value) (place_token : ℕ) (after : AfterValue) (answer : Answer (List Block)) → LastInAnswer blocks answer → LastInOutcome blocks (written value place_token after answer)
+last-written_answer :
+    (blocks : List Block) (value : Value) (place_token : ℕ) (after : AfterValue) (answer : Answer (List Block)) → LastInAnswer blocks answer
+    → LastInOutcome blocks (written value place_token after answer)
 last-written_answer blocks value place_token after (Gives later) last = last
 last-written_answer blocks value place_token after (IsFault kind) last = tt
 last-written_answer blocks value place_token after (IsUndefined reason) last = tt
 
 -- an adopted value is written
-last-adopted : (blocks : List Block) (place : Place) (place_token token : ℕ) (after : AfterValue) (answer : Answer Value) → LastInOutcome blocks (adopted blocks place place_token token after answer)
-last-adopted blocks place place_token token after (Gives value) = last-written_answer blocks value place_token after (store blocks place.spot value) (last-stored blocks place.spot value)
+last-adopted :
+    (blocks : List Block) (place : Place) (place_token token : ℕ) (after : AfterValue) (answer : Answer Value)
+    → LastInOutcome blocks (adopted blocks place place_token token after answer)
+last-adopted blocks place place_token token after (Gives value) =
+    last-written_answer blocks value place_token after (store blocks place.spot value) (last-stored blocks place.spot value)
 last-adopted blocks place place_token token after (IsFault kind) = tt
 last-adopted blocks place place_token token after (IsUndefined reason) = tt
 
 -- a flag ends the step before
-last-flagged : (blocks : List Block) (outcome : Outcome) (kind : FaultKind) (token : ℕ) (has : Bool) → LastInOutcome blocks outcome → LastInOutcome blocks (if has then Fault kind token else outcome)
+last-flagged :
+    (blocks : List Block) (outcome : Outcome) (kind : FaultKind) (token : ℕ) (has : Bool) → LastInOutcome blocks outcome
+    → LastInOutcome blocks (if has then Fault kind token else outcome)
 last-flagged blocks outcome kind token true last = tt
 last-flagged blocks outcome kind token false last = last
 
@@ -103,7 +112,8 @@ last-entered blocks token None after = tt
 last-entered blocks token (Some place) after = last-same blocks
 
 -- nor that of a node
-last-entered_place : (scope : List Binding) (blocks : List Block) (place : PlaceCode) (after : AfterPlace) → LastInOutcome blocks (step scope blocks (EnterPlace place after))
+last-entered_place :
+    (scope : List Binding) (blocks : List Block) (place : PlaceCode) (after : AfterPlace) → LastInOutcome blocks (step scope blocks (EnterPlace place after))
 last-entered_place scope blocks (Named token name) after = last-entered blocks token (place_of scope name) after
 last-entered_place scope blocks (Behind token pointer) after = last-same blocks
 last-entered_place scope blocks (NoPlace token) after = tt
@@ -126,7 +136,9 @@ last-step scope blocks Finished = tt
 -- Moves
 
 -- an activity takes a step
-last-takes : (before after : World) (activity : ℕ) (outcome : Outcome) → LastInOutcome before.blocks outcome → Takes before activity outcome after → Last before.blocks after.blocks
+last-takes :
+    (before after : World) (activity : ℕ) (outcome : Outcome) → LastInOutcome before.blocks outcome → Takes before activity outcome after
+    → Last before.blocks after.blocks
 last-takes before after activity (Next blocks control) last takes = rw takes last
 last-takes before after activity Done last takes = rw takes (last-same before.blocks)
 last-takes before after activity (Undefined reason token) last takes = absurd takes

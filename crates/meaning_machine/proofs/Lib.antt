@@ -6,3 +6,4 @@ pub mod Steps
 pub mod Worlds
 pub mod Lasting
 pub mod Playing
+pub mod Replaying

@@ -48,7 +48,8 @@ spot-agreeing blocks (In block path index length) type_ other same (there, stand
     (there, stands, (declared, made, at, count, equal ∙ same), within)
 
 -- what fits a base fits each that is equal without const and volatile
-fits-equal_base : (blocks : List Block) (value : Value) (base other : BaseTree) → bare_base base ≡ bare_base other → ValueFits blocks value base → ValueFits blocks value other
+fits-equal_base :
+    (blocks : List Block) (value : Value) (base other : BaseTree) → bare_base base ≡ bare_base other → ValueFits blocks value base → ValueFits blocks value other
 fits-equal_base blocks (Integer kind restricted fouled number) (IntegerTree wanted) (IntegerTree other) same (equal, plain, clean, within) =
     (equal ∙ cc same, plain, clean, within)
 fits-equal_base blocks (Integer kind restricted fouled number) (IntegerTree wanted) (PointerTree other) same fits = cc same
@@ -64,14 +65,17 @@ pub fits-agreeing : (blocks : List Block) (value : Value) (type_ other : TypeTre
 fits-agreeing blocks value (Typed base qualifiers flags) (Typed other others_qualifiers others) agree fits = fits-equal_base blocks value base other agree fits
 
 -- what stands at an index of a list stands, as far as a function sees it, at this index of each list that the function maps to the same
-pub slice_get-mapped : {X Y : Type 0} (f : X → Y) (xs ys : List X) (k : ℕ) (x : X) → map f xs ≡ map f ys → slice_get xs k ≡ Some x → (y : X) × (slice_get ys k ≡ Some y) × (f x ≡ f y)
+pub slice_get-mapped :
+    {X Y : Type 0} (f : X → Y) (xs ys : List X) (k : ℕ) (x : X) → map f xs ≡ map f ys → slice_get xs k ≡ Some x → (y : X) × (slice_get ys k ≡ Some y) × (f x ≡ f y)
 slice_get-mapped f [] ys k x same stands = cc stands
 slice_get-mapped f (z ∷ xs) [] k x same stands = cc same
 slice_get-mapped f (z ∷ xs) (w ∷ ys) zero x same stands = (w, refl, cc (same, stands))
 slice_get-mapped f (z ∷ xs) (w ∷ ys) (suc k) x same stands = slice_get-mapped f xs ys k x (cc same) stands
 
 -- what a pointer may point to depends on what the blocks are made for alone
-pub spot-made : (blocks others : List Block) (spot : Spot) (type_ : TypeTree) → map (λ block. block.made) blocks ≡ map (λ block. block.made) others → SpotFits blocks spot type_ → SpotFits others spot type_
+pub spot-made :
+    (blocks others : List Block) (spot : Spot) (type_ : TypeTree) → map (λ block. block.made) blocks ≡ map (λ block. block.made) others
+    → SpotFits blocks spot type_ → SpotFits others spot type_
 spot-made blocks others Null type_ same fits = tt
 spot-made blocks others Foreign type_ same fits = tt
 spot-made blocks others (In block path index length) type_ same (there, stands, (declared, made, at, count, equal), within) =
@@ -79,12 +83,16 @@ spot-made blocks others (In block path index length) type_ same (there, stands, 
     (found.0, found.1, (declared, sym found.2 ∙ made, at, count, equal), within)
 
 -- and so does what fits a base
-value-made : (blocks others : List Block) (value : Value) (base : BaseTree) → map (λ block. block.made) blocks ≡ map (λ block. block.made) others → ValueFits blocks value base → ValueFits others value base
+value-made :
+    (blocks others : List Block) (value : Value) (base : BaseTree) → map (λ block. block.made) blocks ≡ map (λ block. block.made) others
+    → ValueFits blocks value base → ValueFits others value base
 value-made blocks others (Integer kind restricted fouled number) (IntegerTree wanted) same fits = fits
 value-made blocks others (Integer kind restricted fouled number) (PointerTree wanted) same fits = absurd fits
 value-made blocks others (Pointer target spot) (IntegerTree wanted) same fits = absurd fits
 value-made blocks others (Pointer target spot) (PointerTree wanted) same (equal, spot_fits) = (equal, spot-made blocks others spot wanted same spot_fits)
 
 -- what fits depends on what the blocks are made for alone
-pub fits-made : (blocks others : List Block) (value : Value) (type_ : TypeTree) → map (λ block. block.made) blocks ≡ map (λ block. block.made) others → Fits blocks value type_ → Fits others value type_
+pub fits-made :
+    (blocks others : List Block) (value : Value) (type_ : TypeTree) → map (λ block. block.made) blocks ≡ map (λ block. block.made) others
+    → Fits blocks value type_ → Fits others value type_
 fits-made blocks others value (Typed base qualifiers flags) same fits = value-made blocks others value base same fits

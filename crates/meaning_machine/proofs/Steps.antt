@@ -81,8 +81,11 @@ moved-sound :
     (scope : List Binding) (blocks : List Block) (value : Value) (type_ target : TypeTree) (token : ℕ) (after : AfterPlace) →
     AreSoundBlocks scope blocks → ValueFitsIn scope value type_ → target_of type_ ≡ Some target → TakesPlace scope target after →
     IsSoundOutcome scope (moved blocks value token after)
-moved-sound scope blocks (Pointer from spot) (Typed (PointerTree to) qualifiers flags) target token after sound fits e takes =
-    (sound, behind_place-sound scope (record { type_ = from; spot = spot }) target after (subst (λ t. PlaceFits scope (record { type_ = from; spot = spot }) t) (cc e) fits) takes)
+moved-sound scope blocks (Pointer from spot) (Typed (PointerTree to) qualifiers flags) target token after sound fits e takes = (
+  sound,
+  behind_place-sound scope (record { type_ = from; spot = spot }) target after
+      (subst (λ t. PlaceFits scope (record { type_ = from; spot = spot }) t) (cc e) fits) takes,
+)
 moved-sound scope blocks (Pointer from spot) (Typed (IntegerTree kind) qualifiers flags) target token after sound fits e takes = absurd fits
 moved-sound scope blocks (Integer kind restricted fouled number) (Typed (PointerTree to) qualifiers flags) target token after sound fits e takes = absurd fits
 moved-sound scope blocks (Integer kind restricted fouled number) (Typed (IntegerTree wanted) qualifiers flags) target token after sound fits e takes = cc e

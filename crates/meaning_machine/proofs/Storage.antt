@@ -1,5 +1,7 @@
 -- What the machine's memory does to what fits.
-use Rattle.std.proofs.Common.{◌≡◌, ℕ, zero, suc, ◌⊎◌, inl, inr, ⊎_elim, if◌then◌else◌, Bool, true, false, List, [], ◌∷◌, Option, Some, None, map, nat_lt, bytes_eq, slice_get, slice_set, refl, sym, ap, ◌∙◌, subst}
+use Rattle.std.proofs.Common.{◌≡◌, ℕ, zero, suc, ◌⊎◌, inl, inr, ⊎_elim, if◌then◌else◌, Bool, true, false, List, [], ◌∷◌, Option, Some, None, nat_lt, bytes_eq, slice_get, slice_set, refl, sym, ap, ◌∙◌, subst}
+use Rattle.std.proofs.Math.Seq.{map-set_same}
+use Rattle.std.proofs.lemmas.Option.{get_or_from_slice_get}
 use Rattle.meaning_types.specs.Types.{TypeTree, Typed, IntegerTree, PointerTree, has_flag, bare}
 use Rattle.meaning_rules.specs.Bindings.{Binding}
 use Rattle.meaning_machine.specs.Values.{Spot, Null, Foreign, In, Value, Integer, Pointer, Place, ForObject, Cell, Block, SpotFits, Fits}
@@ -20,7 +22,9 @@ adopted-fitting blocks (Pointer target spot) (Typed (PointerTree wanted) qualifi
 adopted-fitting blocks (Pointer target spot) (Typed (IntegerTree wanted) qualifiers flags) fits = absurd fits
 
 -- a value that fits is adopted as it is
-pub adopted-as-it-is : (blocks : List Block) (value : Value) (type_ place_type wanted : TypeTree) → Fits blocks value type_ → Agree type_ place_type → bare wanted ≡ bare place_type → adopt value wanted ≡ Gives value
+pub adopted-as-it-is :
+    (blocks : List Block) (value : Value) (type_ place_type wanted : TypeTree) → Fits blocks value type_ → Agree type_ place_type
+    → bare wanted ≡ bare place_type → adopt value wanted ≡ Gives value
 adopted-as-it-is blocks value type_ place_type wanted fits agree same =
     let at_place : Fits blocks value place_type = fits-agreeing blocks value type_ place_type agree fits in
     adopted-fitting blocks value wanted (fits-agreeing blocks value place_type wanted (agree-bare place_type wanted (sym same)) at_place)
@@ -72,7 +76,9 @@ sound-load_spot scope blocks (In block path index length) place_type type_ sound
     rw found.1 (sound-load_block scope found.0 declared place_type type_ path index length (sound.1 block found.0 found.1) (sym found.2 ∙ made) equal same)
 
 -- a load from a place that fits is sound
-pub sound-load : (scope : List Binding) (blocks : List Block) (place : Place) (type_ : TypeTree) → AreSoundBlocks scope blocks → PlaceFits scope place type_ → IsUnflagged type_ → IsSoundLoad scope type_ (load blocks place)
+pub sound-load :
+    (scope : List Binding) (blocks : List Block) (place : Place) (type_ : TypeTree) → AreSoundBlocks scope blocks → PlaceFits scope place type_
+    → IsUnflagged type_ → IsSoundLoad scope type_ (load blocks place)
 sound-load scope blocks place type_ sound fits unflagged =
     subst
     (λ (is_flagged : Bool). IsSoundLoad scope type_ (if is_flagged then IsFault AccessFault else load_spot blocks place.type_ place.spot))
@@ -86,12 +92,6 @@ abbrev pub IsSoundStore : List Binding → Answer (List Block) → Type 0
 IsSoundStore scope (Gives blocks) = AreSoundBlocks scope blocks
 IsSoundStore scope (IsFault kind) = ⊥
 IsSoundStore scope (IsUndefined reason) = Unit {0}
-
--- an element that is set to one that a function maps to the same leaves the mapped list the same
-map-set_same : {X Y : Type 0} (f : X → Y) (xs : List X) (k : ℕ) (x y : X) → slice_get xs k ≡ Some x → f y ≡ f x → map f (slice_set xs k y) ≡ map f xs
-map-set_same f [] k x y stands same = refl
-map-set_same f (z ∷ xs) zero x y stands same = cc (stands, same)
-map-set_same f (z ∷ xs) (suc k) x y stands same = ap (λ rest. f z ∷ rest) (map-set_same f xs k x y stands same)
 
 -- what stands in a list after an element is set is that element, or stood there
 slice_get-set_cases : {X : Type 0} (xs : List X) (k j : ℕ) (y found : X) → slice_get (slice_set xs k y) j ≡ Some found → (found ≡ y) ⊎ (slice_get xs j ≡ Some found)
@@ -145,14 +145,20 @@ fits-written :
     → CellsFit scope (block_with block path value)
 fits-written scope block path value declared cells_fit made fits named is_named other found stands =
     ⊎_elim
-    (λ (written : found ≡ value). subst (λ (v : Value). ValueFitsIn scope v named) (sym written) (subst (λ (t : TypeTree). ValueFitsIn scope value t) (cc (made, is_named)) fits))
+    (λ (written : found ≡ value). subst (λ (v : Value). ValueFitsIn scope v named) (sym written)
+    (subst (λ (t : TypeTree). ValueFitsIn scope value t) (cc (made, is_named)) fits))
     (λ (stood : content_at block.cells other ≡ Some (Some found)). cells_fit named is_named other found stood)
     (content_at-written block.cells path other value found stands)
 
 -- a write of a value that fits, into a block that is made for an object of this type, keeps blocks sound
-pub sound-write : (scope : List Binding) (blocks : List Block) (number : ℕ) (block : Block) (path : List ℕ) (value : Value) (declared : TypeTree) → AreSoundBlocks scope blocks → slice_get blocks number ≡ Some block → block.made ≡ ForObject declared → ValueFitsIn scope value declared → AreSoundBlocks scope (slice_set blocks number (block_with block path value))
+pub sound-write :
+    (scope : List Binding) (blocks : List Block) (number : ℕ) (block : Block) (path : List ℕ) (value : Value) (declared : TypeTree)
+    → AreSoundBlocks scope blocks → slice_get blocks number ≡ Some block → block.made ≡ ForObject declared → ValueFitsIn scope value declared
+    → AreSoundBlocks scope (slice_set blocks number (block_with block path value))
 sound-write scope blocks number block path value declared sound stands made fits = (
-  map-set_same (λ (b : Block). b.made) blocks number block (block_with block path value) stands refl ∙ sound.0,
+  map-set_same (λ (b : Block). b.made) blocks number (block_with block path value) block
+      (ap (λ (b : Block). b.made) (sym (get_or_from_slice_get blocks number block block stands)))
+      ∙ sound.0,
   λ other found is_found.
       ⊎_elim
       (λ (written : found ≡ block_with block path value).
@@ -164,7 +170,8 @@ sound-write scope blocks number block path value declared sound stands made fits
 -- a store after the tests is sound if the blocks that it leaves are
 sound-storing :
     (scope : List Binding) (blocks : List Block) (is_alive is_within is_const : Bool) → AreSoundBlocks scope blocks
-    → IsSoundStore scope (if is_alive then (if is_within then (if is_const then IsUndefined ReadOnly else Gives blocks) else IsUndefined OutOfBounds) else IsUndefined DeadBlock)
+    → IsSoundStore scope (if is_alive then (if is_within then (if is_const then IsUndefined ReadOnly else Gives blocks) else IsUndefined OutOfBounds)
+    else IsUndefined DeadBlock)
 sound-storing scope blocks true true true sound = tt
 sound-storing scope blocks true true false sound = sound
 sound-storing scope blocks true false is_const sound = tt
@@ -189,5 +196,7 @@ sound-store_spot scope blocks (In block path index length) type_ value sound (th
     (sound-write scope blocks block found.0 path value declared sound found.1 (sym found.2 ∙ made) declared_fits))
 
 -- a store of a value that fits keeps blocks sound
-pub sound-store : (scope : List Binding) (blocks : List Block) (place : Place) (type_ : TypeTree) (value : Value) → AreSoundBlocks scope blocks → PlaceFits scope place type_ → ValueFitsIn scope value type_ → IsSoundStore scope (store blocks place.spot value)
+pub sound-store :
+    (scope : List Binding) (blocks : List Block) (place : Place) (type_ : TypeTree) (value : Value) → AreSoundBlocks scope blocks → PlaceFits scope place type_
+    → ValueFitsIn scope value type_ → IsSoundStore scope (store blocks place.spot value)
 sound-store scope blocks place type_ value sound fits value_fits = sound-store_spot scope blocks place.spot type_ value sound fits.1 value_fits

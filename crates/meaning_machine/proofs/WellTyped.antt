@@ -44,23 +44,20 @@ listing-AreSilent unit listing = record {
       Contains-nil (conversion_failure conversion) (listing.complete (conversion_failure conversion) (inr (conversion, there, mixed, refl)));
 }
 
--- of two parts that do not fail the first does not
-AreSilent-left :
-    (accesses more : List Access) (conversions further : List Conversion) →
-    AreSilent (accesses ++ more) (conversions ++ further) → AreSilent accesses conversions
-AreSilent-left accesses more conversions further h = record {
-  unflagged = λ access there. h.unflagged access (Contains-append_left accesses more access there);
-  unmixed = λ conversion there. h.unmixed conversion (Contains-append_left conversions further conversion there);
-}
-
--- nor does the second
-AreSilent-right :
-    (accesses more : List Access) (conversions further : List Conversion) →
-    AreSilent (accesses ++ more) (conversions ++ further) → AreSilent more further
-AreSilent-right accesses more conversions further h = record {
-  unflagged = λ access there. h.unflagged access (Contains-append_right accesses more access there);
-  unmixed = λ conversion there. h.unmixed conversion (Contains-append_right conversions further conversion there);
-}
+-- of two parts that do not fail neither does
+AreSilent-parts :
+    (accesses more : List Access) (conversions further : List Conversion) → AreSilent (accesses ++ more) (conversions ++ further)
+    → AreSilent accesses conversions × AreSilent more further
+AreSilent-parts accesses more conversions further h = (
+  record {
+    unflagged = λ access there. h.unflagged access (Contains-append_left accesses more access there);
+    unmixed = λ conversion there. h.unmixed conversion (Contains-append_left conversions further conversion there);
+  },
+  record {
+    unflagged = λ access there. h.unflagged access (Contains-append_right accesses more access there);
+    unmixed = λ conversion there. h.unmixed conversion (Contains-append_right conversions further conversion there);
+  },
+)
 
 -- an access among others that do not fail
 unflagged_first : (token : ℕ) (place : TypeTree) (more : List Access) (conversions : List Conversion) →
@@ -154,7 +151,7 @@ assign-IsStatement scope first target source (Some left) (Some right) at_left at
     unflagged_last : IsUnflagged (declared_type right)
     unflagged_last =
         unflagged_first (first + 2) (declared_type right) [] (assignment_at (first + 1) (Some (declared_type left)) (Some (value_type (declared_type right))))
-        (AreSilent-right (access_at first (Some (declared_type left))) _ [] _ silent)
+        (AreSilent-parts (access_at first (Some (declared_type left))) _ [] _ silent).1
 assign-IsStatement scope first target source (Some left) None at_left at_right equal silent = cc
 assign-IsStatement scope first target source None right at_left at_right equal silent = cc
 
@@ -172,7 +169,8 @@ through-IsStatement scope first name source pointer place right at_pointer at_ri
     declared_type place,
     value_type (declared_type right),
     (value_type (declared_type pointer), (declared_type pointer, at_pointer, unflagged_pointer, refl), target),
-    unflagged_first first (declared_type place) (access_at (first + 1) (Some (declared_type pointer)) ++ access_at (first + 3) (Some (declared_type right))) conversions silent,
+    unflagged_first first (declared_type place) (access_at (first + 1) (Some (declared_type pointer)) ++ access_at (first + 3) (Some (declared_type right)))
+        conversions silent,
     (declared_type right, at_right, unflagged_last, refl),
     declared-Agree place right equal (unmixed_only (first + 2) (declared_type place) (value_type (declared_type right)) _ silent),
     refl,
@@ -183,7 +181,7 @@ through-IsStatement scope first name source pointer place right at_pointer at_ri
     conversions = assignment_at (first + 2) (Some (declared_type place)) (Some (value_type (declared_type right)))
 
     behind_store : AreSilent (access_at (first + 1) (Some (declared_type pointer)) ++ access_at (first + 3) (Some (declared_type right))) conversions
-    behind_store = AreSilent-right (access_at first (Some (declared_type place))) _ [] conversions silent
+    behind_store = (AreSilent-parts (access_at first (Some (declared_type place))) _ [] conversions silent).1
 
     unflagged_pointer : IsUnflagged (declared_type pointer)
     unflagged_pointer = unflagged_first (first + 1) (declared_type pointer) (access_at (first + 3) (Some (declared_type right))) conversions behind_store
@@ -191,7 +189,7 @@ through-IsStatement scope first name source pointer place right at_pointer at_ri
     unflagged_last : IsUnflagged (declared_type right)
     unflagged_last =
         unflagged_first (first + 3) (declared_type right) [] conversions
-        (AreSilent-right (access_at (first + 1) (Some (declared_type pointer))) _ [] conversions behind_store)
+        (AreSilent-parts (access_at (first + 1) (Some (declared_type pointer))) _ [] conversions behind_store).1
 
 -- `* pointer = source ;`
 assign_through-IsStatement :
@@ -200,11 +198,13 @@ assign_through-IsStatement :
     AreSilent (access_at first (option_and_then target_of (option_map value_type (option_map declared_type pointer)))
     ++ access_at (first + 1) (option_map declared_type pointer)
     ++ access_at (first + 3) (option_map declared_type right))
-    (assignment_at (first + 2) (option_and_then target_of (option_map value_type (option_map declared_type pointer))) (option_map value_type (option_map declared_type right))) →
+    (assignment_at (first + 2) (option_and_then target_of (option_map value_type (option_map declared_type pointer)))
+    (option_map value_type (option_map declared_type right))) →
     IsStatement scope (statement_code (statement_tree first (AssignThrough name source)))
 assign_through-IsStatement scope first name source (Some pointer) (Some right) at_pointer at_right more silent =
     let target = target_of-pointer pointer right more in
-    through-IsStatement scope first name source pointer (behind_pointer pointer) right (at_pointer pointer refl) (at_right right refl) target (behind_pointer-equal_stars pointer right more)
+    through-IsStatement scope first name source pointer (behind_pointer pointer) right (at_pointer pointer refl) (at_right right refl) target
+    (behind_pointer-equal_stars pointer right more)
     (subst (λ place. AreSilent (access_at first place ++ access_at (first + 1) (Some (declared_type pointer)) ++ access_at (first + 3) (Some (declared_type right)))
     (assignment_at (first + 2) place (Some (value_type (declared_type right))))) target silent)
 assign_through-IsStatement scope first name source (Some pointer) None at_pointer at_right more silent = cc
@@ -254,16 +254,10 @@ statement-IsStatement before more first (AssignAddress target object) binds sile
 abbrev ArePlacedSilent : List Placed → Type 0
 ArePlacedSilent placed = AreSilent (flat_map placed_accesses placed) (flat_map placed_conversions placed)
 
--- none fails in the first of them
-ArePlacedSilent-left : (placed others : List Placed) → ArePlacedSilent (placed ++ others) → ArePlacedSilent placed
-ArePlacedSilent-left placed others h =
-    AreSilent-left (flat_map placed_accesses placed) (flat_map placed_accesses others) (flat_map placed_conversions placed) (flat_map placed_conversions others)
-    (rw (← flat_map-append placed_accesses placed others, ← flat_map-append placed_conversions placed others) h)
-
--- nor in the others
-ArePlacedSilent-right : (placed others : List Placed) → ArePlacedSilent (placed ++ others) → ArePlacedSilent others
-ArePlacedSilent-right placed others h =
-    AreSilent-right (flat_map placed_accesses placed) (flat_map placed_accesses others) (flat_map placed_conversions placed) (flat_map placed_conversions others)
+-- of two lists of statements neither fails if both together do not
+ArePlacedSilent-parts : (placed others : List Placed) → ArePlacedSilent (placed ++ others) → ArePlacedSilent placed × ArePlacedSilent others
+ArePlacedSilent-parts placed others h =
+    AreSilent-parts (flat_map placed_accesses placed) (flat_map placed_accesses others) (flat_map placed_conversions placed) (flat_map placed_conversions others)
     (rw (← flat_map-append placed_accesses placed others, ← flat_map-append placed_conversions placed others) h)
 
 -- statements of a body that bind and do not fail have types
@@ -275,11 +269,14 @@ body-IsStatement before more first [] bind silent = All-nil (IsStatement (map it
 body-IsStatement before more first (statement ∷ statements) bind silent =
     let next : ℕ = first + length (statement_spelled statement) in
     let others : List Placed = placed_body before next statements in
-    All-cons (IsStatement (map item_binding before ++ more)) (statement_code (statement_tree first statement)) (statements_code (parts_of Evaluated (statement_trees next statements)))
-    (statement-IsStatement before more first statement (and_parts _ _ bind).0
-    (AreSilent-left (statement_accesses before first statement) (flat_map placed_accesses others) (statement_conversions before first statement) (flat_map placed_conversions others) silent))
-    (body-IsStatement before more next statements (and_parts _ _ bind).1
-    (AreSilent-right (statement_accesses before first statement) (flat_map placed_accesses others) (statement_conversions before first statement) (flat_map placed_conversions others) silent))
+    let parts : AreSilent (statement_accesses before first statement) (statement_conversions before first statement) × ArePlacedSilent others =
+    AreSilent-parts (statement_accesses before first statement) (flat_map placed_accesses others)
+    (statement_conversions before first statement) (flat_map placed_conversions others) silent
+    in
+    All-cons (IsStatement (map item_binding before ++ more)) (statement_code (statement_tree first statement))
+    (statements_code (parts_of Evaluated (statement_trees next statements)))
+    (statement-IsStatement before more first statement (and_parts _ _ bind).0 parts.0)
+    (body-IsStatement before more next statements (and_parts _ _ bind).1 parts.1)
 
 -- the body of an item, if it is a function that binds and does not fail
 item-IsStatement :
@@ -299,14 +296,16 @@ behind-IsStatement :
 behind-IsStatement before first [] bound silent function body found = cc found
 behind-IsStatement before first (item ∷ items) bound silent zero body found =
     item-IsStatement before (map item_binding (item ∷ items)) first item (and_parts _ _ (and_parts _ _ bound).0).1
-    (ArePlacedSilent-left (placed_body before (first + tokens_before_body) (item_statements item)) (placed_behind (before ++ item ∷ []) (first + length (item_spelled item)) items) silent)
+    (ArePlacedSilent-parts (placed_body before (first + tokens_before_body) (item_statements item))
+    (placed_behind (before ++ item ∷ []) (first + length (item_spelled item)) items) silent).0
     body found
 behind-IsStatement before first (item ∷ items) bound silent (suc function) body found =
     let next : ℕ = first + length (item_spelled item) in
     subst (λ scope. All (IsStatement scope) body)
-    (ap (λ scope. scope ++ map item_binding items) (map-append item_binding before (item ∷ [])) ∙ append_assoc (map item_binding before) (item_binding item ∷ []) (map item_binding items))
+    (ap (λ scope. scope ++ map item_binding items) (map-append item_binding before (item ∷ []))
+    ∙ append_assoc (map item_binding before) (item_binding item ∷ []) (map item_binding items))
     (behind-IsStatement (before ++ item ∷ []) next items (and_parts _ _ bound).1
-    (ArePlacedSilent-right (placed_body before (first + tokens_before_body) (item_statements item)) (placed_behind (before ++ item ∷ []) next items) silent)
+    (ArePlacedSilent-parts (placed_body before (first + tokens_before_body) (item_statements item)) (placed_behind (before ++ item ∷ []) next items) silent).1
     function body found)
 
 -- Units

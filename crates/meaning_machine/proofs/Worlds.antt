@@ -1,7 +1,8 @@
 -- Every world that a run of a unit without failures reaches is sound.
-use Rattle.std.proofs.Common.{◌≡◌, ◌≢◌, ℕ, zero, suc, Bool, true, false, pos, List, [], ◌∷◌, All, Option, Some, None, slice_get, slice_set, if◌then◌else◌, refl, subst, arith}
+use Rattle.std.proofs.Common.{◌≡◌, ◌≢◌, ℕ, zero, suc, Bool, true, false, pos, List, [], ◌∷◌, All, Option, Some, None, slice_get, if◌then◌else◌, refl, subst, arith}
 use Rattle.std.specs.Str.{bytes_eq}
-use Rattle.std.proofs.lemmas.List.Elements.{All-append, All-cons, All-nil, All-head, All-tail}
+use Rattle.std.proofs.lemmas.List.Elements.{All-append, All-cons, All-nil, All-get_or, All-set}
+use Rattle.std.proofs.lemmas.Option.{get_or_from_slice_get, slice_get_within}
 use Rattle.meaning_types.specs.Types.{Kind, BoolKind, CharKind, SignedCharKind, UnsignedCharKind, ShortKind, UnsignedShortKind, IntKind, UnsignedIntKind, LongKind, UnsignedLongKind, LongLongKind, UnsignedLongLongKind, TypeTree, Typed, IntegerTree, PointerTree}
 use Rattle.meaning_tree.specs.Trees.{SyntaxTree}
 use Rattle.meaning_syntax.specs.Trees.{IsInFirstForm}
@@ -70,16 +71,8 @@ opening-sound unit =
 
 -- what holds of all holds of one
 All-at : {X : Type 0} (P : X → Type 0) (all : List X) (number : ℕ) (one : X) → All P all → slice_get all number ≡ Some one → P one
-All-at P [] number one h e = cc e
-All-at P (first ∷ all) zero one h e = subst P (cc e) (All-head P first all h)
-All-at P (first ∷ all) (suc number) one h e = All-at P all number one (All-tail P first all h) e
-
--- one may be replaced
-All-replaced : {X : Type 0} (P : X → Type 0) (all : List X) (number : ℕ) (one : X) → All P all → P one → All P (slice_set all number one)
-All-replaced P [] number one h is = h
-All-replaced P (first ∷ all) zero one h is = All-cons P one all is (All-tail P first all h)
-All-replaced P (first ∷ all) (suc number) one h is =
-    All-cons P first (slice_set all number one) (All-head P first all h) (All-replaced P all number one (All-tail P first all h) is)
+All-at P all number one h e =
+    subst P (get_or_from_slice_get all number one one e) (All-get_or P all number one (slice_get_within all number one e) h)
 
 -- Moves
 
@@ -100,9 +93,9 @@ takes-sound :
     (scope : List Binding) (before after : World) (activity : ℕ) (outcome : Outcome) →
     IsSoundWorld scope before → IsSoundOutcome scope outcome → Takes before activity outcome after → IsSoundWorld scope after
 takes-sound scope before after activity (Next blocks control) sound is takes =
-    rw takes (is.0, All-replaced (IsSoundControl scope) before.activities activity control sound.1 is.1)
+    rw takes (is.0, All-set (IsSoundControl scope) before.activities activity control is.1 sound.1)
 takes-sound scope before after activity Done sound is takes =
-    rw takes (sound.0, All-replaced (IsSoundControl scope) before.activities activity Finished sound.1 tt)
+    rw takes (sound.0, All-set (IsSoundControl scope) before.activities activity Finished tt sound.1)
 takes-sound scope before after activity (Undefined reason token) sound is takes = absurd takes
 takes-sound scope before after activity (Fault kind token) sound is takes = absurd takes
 

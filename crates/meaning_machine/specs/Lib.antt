@@ -8,5 +8,6 @@ pub mod Runs
 pub mod Played
 pub mod Examples
 pub mod RowExamples
+pub mod StepExamples
 pub mod Laws
 pub mod Soundness

@@ -122,7 +122,7 @@ stored blocks place place_token value token after =
     if has_flag (flags_of place.type_) then Fault AccessFault place_token
     else adopted blocks place place_token token after (adopt value place.type_)
 
--- One step is the row that comes next.
+-- One step is the row that comes next. An activity that has finished stays so.
 abbrev pub step : List Binding → List Block → Control → Outcome
 step scope blocks (EnterBody statements) = Next blocks (gone_on statements)
 step scope blocks (EnterStatement statement statements) = Next blocks (taken_up statement (ThenGoOn statements))

@@ -15,7 +15,7 @@ pub data FaultKind : Type 0 where
   AccessFault : FaultKind
   -- pointers whose targets differ in flags alone meet
   SpaceFault : FaultKind
-  -- a value of another type than the step needs
+  -- a value of another type than the step needs, or a node that has no place or no row
   ShapeFault : FaultKind
 
 -- a value, or why there is none

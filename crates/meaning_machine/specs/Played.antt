@@ -10,7 +10,7 @@ use Rattle.meaning_machine.specs.Tests.{are_equal_kinds, are_similar}
 use Rattle.meaning_machine.specs.Code.{ValueCode}
 use Rattle.meaning_machine.specs.Outcomes.{FaultKind}
 use Rattle.meaning_machine.specs.Machine.{EnterBody, Finished, Outcome, Next, Done, Undefined, Fault, step}
-use Rattle.meaning_machine.specs.Runs.{World, opening, Move, Start, Step, Write, body_at, bindings_in, Runs, IsSafe}
+use Rattle.meaning_machine.specs.Runs.{World, opening, Move, Start, Step, Write, body_at, bindings_in, Moves, Runs, IsSafe}
 
 -- Tests that a value fits
 
@@ -107,6 +107,14 @@ onto (move ∷ moves) earlier = onto moves (move ∷ earlier)
 -- what is played is a run
 abbrev pub PlayedIsRun : Type 0
 PlayedIsRun = (unit : SyntaxTree) (moves : List Move) (world : World) → played unit moves ≡ Some world → Runs unit (onto moves []) world
+
+-- a move leads to the world that is played, and to no other
+abbrev pub MovesArePlayed : Type 0
+MovesArePlayed = (unit : SyntaxTree) (before : World) (move : Move) (after : World) → Moves unit before move after → moved_to unit before move ≡ Some after
+
+-- and what is a run is played
+abbrev pub RunIsPlayed : Type 0
+RunIsPlayed = (unit : SyntaxTree) (moves : List Move) (world : World) → Runs unit (onto moves []) world → played unit moves ≡ Some world
 
 -- a unit isn't safe where some run leads to a world in which an activity's next step is a fault
 abbrev pub FaultsAreUnsafe : Type 0

@@ -1,13 +1,16 @@
--- Worked examples: the numbers of each kind, what fits, and single loads and stores.
+-- Worked examples: the numbers of each kind, what fits, single loads and stores, and blocks that outlast others.
 use Rattle.std.specs.Prelude.{◌≡◌, ℕ, ◌-◌, ◌^◌, Bool, true, false, ℤ, pos, negsuc, List, [], ◌∷◌, Some, None, map, replicate, codes}
 use Rattle.meaning_types.specs.Types.{Kind, BoolKind, CharKind, SignedCharKind, UnsignedCharKind, ShortKind, UnsignedShortKind, IntKind, UnsignedIntKind, LongKind, UnsignedLongKind, LongLongKind, UnsignedLongLongKind, TypeTree}
 use Rattle.meaning_syntax.specs.Items.{Object}
 use Rattle.meaning_syntax.specs.Trees.{unit_tree}
 use Rattle.meaning_rules.specs.Bindings.{pointer_to}
-use Rattle.meaning_machine.specs.Values.{Spot, Null, Foreign, In, Value, Integer, Pointer, ForObject, Block, least, greatest, Fits}
-use Rattle.meaning_machine.specs.Outcomes.{DeadBlock, OutOfBounds, ReadOnly, ShapeFault, Gives, IsFault, IsUndefined}
-use Rattle.meaning_machine.specs.Memory.{adopt, load, store}
+use Rattle.meaning_rules.specs.Typing.{int_with}
+use Rattle.meaning_rules.specs.Examples.{noderef_flags, function_of}
+use Rattle.meaning_machine.specs.Values.{Spot, Null, Foreign, In, Value, Integer, Pointer, ForObject, ForFunction, Cell, Block, least, greatest, Fits}
+use Rattle.meaning_machine.specs.Outcomes.{DeadBlock, ForeignPointer, OutOfBounds, ReadOnly, AccessFault, SpaceFault, ShapeFault, Gives, IsFault, IsUndefined}
+use Rattle.meaning_machine.specs.Memory.{adopt, content_at, with_content, load, store}
 use Rattle.meaning_machine.specs.Runs.{IsWritable, opening}
+use Rattle.meaning_machine.specs.Soundness.{Last}
 use Rattle.meaning_machine.specs.Examples.{plain_int, const_int, int_of, object_spot}
 
 -- Ranges (C11 6.2.6.2): two's complement, with the widths of LP64
@@ -47,35 +50,79 @@ dead = int_block plain_int false 3 ∷ []
 abbrev pub constant : List Block
 constant = int_block const_int true 3 ∷ []
 
+-- a block for a function
+abbrev pub function_block : Block
+function_block = record { made = ForFunction; is_alive = true; cells = [] }
+
 -- just behind the only element of block 0
 abbrev pub behind_the_end : Spot
 behind_the_end = In 0 [] 1 1
 
 pub record RowExamples : Type 0 where
-  -- `extern int x; extern int *p;` are 0 and null at the opening
+  -- `extern int x; extern int *p; void f(void) { }`: x is 0 and p null at the opening; a function has no cells
   pub opening_blocks :
-      (opening (unit_tree (Object [] 0 (codes "x") ∷ Object [] 1 (codes "p") ∷ []))).blocks
+      (opening (unit_tree (Object [] 0 (codes "x") ∷ Object [] 1 (codes "p") ∷ function_of [] ∷ []))).blocks
       ≡ int_block plain_int true 0
       ∷ record {
         made = ForObject (pointer_to plain_int);
         is_alive = true;
         cells = record { path = []; content = Some (Pointer plain_int Null) } ∷ [];
       }
+      ∷ function_block
       ∷ []
   pub loaded : load living (record { type_ = plain_int; spot = object_spot 0 }) ≡ Gives (int_of 3)
   pub const_loaded : load constant (record { type_ = plain_int; spot = object_spot 0 }) ≡ Gives (int_of 3)
+  pub foreign_loaded : load living (record { type_ = plain_int; spot = Foreign }) ≡ IsUndefined ForeignPointer
   pub dead_loaded : load dead (record { type_ = plain_int; spot = object_spot 0 }) ≡ IsUndefined DeadBlock
   pub loaded_behind_the_end : load living (record { type_ = plain_int; spot = behind_the_end }) ≡ IsUndefined OutOfBounds
+  -- a dead block goes before its bounds
+  pub dead_loaded_behind_the_end : load dead (record { type_ = plain_int; spot = behind_the_end }) ≡ IsUndefined DeadBlock
   -- a fault is looked for before what is undefined
   pub loaded_as_pointer : load dead (record { type_ = pointer_to plain_int; spot = object_spot 0 }) ≡ IsFault ShapeFault
+  pub flagged_null_loaded : load [] (record { type_ = int_with noderef_flags; spot = Null }) ≡ IsFault AccessFault
+  -- what is no object of this type is none that one may load
+  pub function_loaded : load (function_block ∷ []) (record { type_ = plain_int; spot = object_spot 0 }) ≡ IsFault ShapeFault
+  pub no_block_loaded : load [] (record { type_ = plain_int; spot = object_spot 0 }) ≡ IsFault ShapeFault
   pub stored : store living (object_spot 0) (int_of 5) ≡ Gives (int_block plain_int true 5 ∷ [])
   pub dead_stored : store dead (object_spot 0) (int_of 5) ≡ IsUndefined DeadBlock
   pub stored_behind_the_end : store living behind_the_end (int_of 5) ≡ IsUndefined OutOfBounds
   pub const_stored : store constant (object_spot 0) (int_of 5) ≡ IsUndefined ReadOnly
+  -- dead blocks go before bounds, and bounds before const
+  pub dead_stored_behind_the_end : store dead behind_the_end (int_of 5) ≡ IsUndefined DeadBlock
+  pub const_stored_behind_the_end : store constant behind_the_end (int_of 5) ≡ IsUndefined OutOfBounds
+  pub no_block_stored : store [] (object_spot 0) (int_of 5) ≡ IsUndefined OutOfBounds
   -- a plain 0 becomes a null pointer, and no other number does (6.3.2.3 p3)
   pub zero_adopted : adopt (int_of 0) (pointer_to plain_int) ≡ Gives (Pointer plain_int Null)
   pub one_adopted : adopt (int_of 1) (pointer_to plain_int) ≡ IsFault ShapeFault
   pub pointer_adopted_by_int : adopt (Pointer plain_int Null) plain_int ≡ IsFault ShapeFault
+  -- an int takes plain ints alone
+  pub other_kind_adopted : adopt (Integer CharKind None false (pos 1)) plain_int ≡ IsFault ShapeFault
+  pub restricted_adopted : adopt (Integer IntKind (Some 0) false (pos 1)) plain_int ≡ IsFault ShapeFault
+  pub fouled_adopted : adopt (Integer IntKind None true (pos 1)) plain_int ≡ IsFault ShapeFault
+  -- targets that differ in flags alone, at any level, and targets that differ otherwise
+  pub flags_lost : adopt (Pointer (int_with noderef_flags) Null) (pointer_to plain_int) ≡ IsFault SpaceFault
+  pub deeper_flags_lost :
+      adopt (Pointer (pointer_to (int_with noderef_flags)) Null) (pointer_to (pointer_to plain_int)) ≡ IsFault SpaceFault
+  pub other_target_adopted : adopt (Pointer (pointer_to plain_int) Null) (pointer_to plain_int) ≡ IsFault ShapeFault
+  pub other_flagged_target_adopted :
+      adopt (Pointer (pointer_to (int_with noderef_flags)) Null) (pointer_to plain_int) ≡ IsFault ShapeFault
+
+-- Blocks with several cells, as no object of the first form has them
+
+-- an int in a cell
+abbrev pub int_cell : ℕ → ℕ → Cell
+int_cell part number = record { path = part ∷ []; content = Some (int_of number) }
+
+-- three cells, of which the middle one holds this int
+abbrev pub three_cells : ℕ → List Cell
+three_cells number = int_cell 0 3 ∷ int_cell 1 number ∷ int_cell 2 5 ∷ []
+
+pub record CellExamples : Type 0 where
+  pub found : content_at (three_cells 4) (1 ∷ []) ≡ Some (Some (int_of 4))
+  pub none : content_at (three_cells 4) [] ≡ None
+  -- a write changes its one cell
+  pub written : with_content (three_cells 4) (1 ∷ []) (int_of 7) ≡ three_cells 7
+  pub nowhere : with_content (three_cells 4) [] (int_of 7) ≡ three_cells 4
 
 -- What fits
 
@@ -95,8 +142,30 @@ pub record FitExamples : Type 0 where
   pub further : Fits living (Pointer plain_int (In 0 [] 2 1)) (pointer_to plain_int) → ⊥
   pub into_dead : Fits dead (Pointer plain_int (object_spot 0)) (pointer_to plain_int)
   pub no_block : Fits [] (Pointer plain_int (object_spot 0)) (pointer_to plain_int) → ⊥
+  pub function : Fits (function_block ∷ []) (Pointer plain_int (object_spot 0)) (pointer_to plain_int) → ⊥
+  -- an object is one element
+  pub two_elements : Fits living (Pointer plain_int (In 0 [] 0 2)) (pointer_to plain_int) → ⊥
+  pub part : Fits living (Pointer plain_int (In 0 (0 ∷ []) 0 1)) (pointer_to plain_int) → ⊥
+  -- a pointer's target counts, but for const, and so does what it points to
+  pub const_target : Fits living (Pointer const_int (object_spot 0)) (pointer_to plain_int)
+  pub other_flags : Fits [] (Pointer (int_with noderef_flags) Null) (pointer_to plain_int) → ⊥
+  pub other_block : Fits living (Pointer (pointer_to plain_int) (object_spot 0)) (pointer_to (pointer_to plain_int)) → ⊥
+  -- an int is plain
+  pub other_kind : Fits [] (Integer CharKind None false (pos 0)) plain_int → ⊥
+  pub restricted : Fits [] (Integer IntKind (Some 0) false (pos 0)) plain_int → ⊥
+  pub fouled : Fits [] (Integer IntKind None true (pos 0)) plain_int → ⊥
   -- the outside writes into living cells alone
   pub written : IsWritable living (int_block plain_int true 3) [] (int_of 5)
   pub const_written : IsWritable constant (int_block const_int true 3) [] (int_of 5)
   pub dead_written : IsWritable dead (int_block plain_int false 3) [] (int_of 5) → ⊥
   pub no_cell : IsWritable living (int_block plain_int true 3) (0 ∷ []) (int_of 5) → ⊥
+
+-- Blocks that outlast others
+
+pub record LastExamples : Type 0 where
+  pub written : Last living (int_block plain_int true 5 ∷ [])
+  pub killed : Last living dead
+  pub more : Last [] living
+  pub lives_again : Last dead living → ⊥
+  pub made_for_another : Last living constant → ⊥
+  pub gone : Last living [] → ⊥

@@ -74,7 +74,7 @@ Takes before activity Done after = after ≡ record before { activities = slice_
 Takes before activity (Undefined reason token) after = ⊥
 Takes before activity (Fault kind token) after = ⊥
 
--- the value fits what the block is made for, at a path where it has a cell
+-- the block is alive and has a cell at the path, and the value fits what it is made for
 abbrev pub IsWritable : List Block → Block → List ℕ → Value → Type 0
 IsWritable blocks block path value =
     (declared : TypeTree) × (content : Option Value) × (block.made ≡ ForObject declared) × (block.is_alive ≡ true)

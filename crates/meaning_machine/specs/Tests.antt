@@ -32,6 +32,6 @@ abbrev mutual
   are_similar_bases (IntegerTree kind) (PointerTree other) = false
   are_similar_bases (PointerTree target) (IntegerTree other) = false
 
--- equal but for const, volatile and flags at every level, and not without the flags
+-- equal but for const, volatile and flags at every level, and not but for const and volatile alone
 abbrev pub differ_in_flags_alone : TypeTree → TypeTree → Bool
 differ_in_flags_alone type_ other = are_similar (without_flags type_) (without_flags other) && not (are_similar type_ other)

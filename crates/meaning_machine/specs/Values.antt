@@ -89,6 +89,6 @@ ValueFits blocks (Pointer target spot) (PointerTree wanted) = (bare target ≡ b
 ValueFits blocks (Integer kind restricted fouled number) (PointerTree wanted) = ⊥
 ValueFits blocks (Pointer target spot) (IntegerTree wanted) = ⊥
 
--- the value fits the type: const and volatile make no difference
+-- the value fits the type: const and volatile make no difference, and its outermost flags are the place's alone
 abbrev pub Fits : List Block → Value → TypeTree → Type 0
 Fits blocks value (Typed base qualifiers flags) = ValueFits blocks value base

@@ -8,7 +8,7 @@
 mod runs;
 mod safety;
 
-pub use runs::{played_is_run, worked_rows, worked_runs};
+pub use runs::{played_is_run, run_is_played, worked_rows, worked_runs};
 pub use safety::{
     blocks_last, faults_are_unsafe, moves_are_sound, runs_are_sound, silence_is_safe,
     steps_are_sound,

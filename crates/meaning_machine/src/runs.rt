@@ -1,10 +1,17 @@
-ghost use Rattle.meaning_machine.specs.Played.{PlayedIsRun};
-ghost use Rattle.meaning_machine.specs.RowExamples.{FitExamples, RangeExamples, RowExamples};
+ghost use Rattle.meaning_machine.specs.Played.{MovesArePlayed, PlayedIsRun, RunIsPlayed};
+ghost use Rattle.meaning_machine.specs.RowExamples.{CellExamples, FitExamples, LastExamples, RangeExamples, RowExamples};
+ghost use Rattle.meaning_machine.specs.StepExamples.{StepExamples};
 ghost use Rattle.meaning_machine.specs.Examples.{SpaceIsLost, NoderefIsAccessed, FlaggedIntIsLoaded, SilentUnitEnds, SilentUnitCopies, NullIsUndefined, ForeignIsUndefined, ConstIsCopied, IndeterminateIsUndefined, ConstIsAdopted, AddressIsNoPlace, StatementWithoutRowIsFault};
 
 /// What the plain program plays is a run.
 pub fn played_is_run()
     ensures { PlayedIsRun }
+{}
+
+/// Each move leads to the world that the plain program plays, so it plays each run.
+pub fn run_is_played()
+    ensures moves { MovesArePlayed }
+    ensures run { RunIsPlayed }
 {}
 
 /// Small units, with runs that meet a fault, meet an undefined action or end; single rows, and nodes that
@@ -24,9 +31,13 @@ pub fn worked_runs()
     ensures rowless_fault { StatementWithoutRowIsFault }
 {}
 
-/// The numbers of each kind, what fits a type, and what single loads and stores give.
+/// The numbers of each kind, what fits a type, what single loads, stores and steps give, and which blocks
+/// outlast others.
 pub fn worked_rows()
     ensures ranges { RangeExamples }
     ensures rows { RowExamples }
+    ensures cells { CellExamples }
     ensures fits { FitExamples }
+    ensures last { LastExamples }
+    ensures steps { StepExamples }
 {}

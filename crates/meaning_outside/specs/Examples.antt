@@ -1,6 +1,8 @@
--- Worked examples: counts of faults before and after a call.
-use Rattle.std.specs.Prelude.{ℕ, ◌-◌, ◌^◌, ⊤}
+-- Worked examples: counts of faults before and after a call, and files by their paths.
+use Rattle.std.specs.Prelude.{◌≡◌, ℕ, ◌-◌, ◌^◌, List, [], ◌∷◌, codes, Some, None, ⊤}
+use Rattle.std.specs.FinMap as map
 use Rattle.meaning_outside.specs.Faults.{Rose, Told, ToldOfTwo}
+use Rattle.meaning_outside.specs.Files.{FileMap, file_at}
 
 -- the greatest count
 abbrev pub end_of_counts : ℕ
@@ -39,3 +41,18 @@ pub record TwoSinkExamples : Type 0 where
   pub err_not_kept_back : ToldOfTwo 7 7 3 4 ⊥ → ⊥
   pub out_not_falling : ToldOfTwo 7 6 3 4 ⊤ → ⊥
   pub err_not_falling : ToldOfTwo 7 8 3 2 ⊤ → ⊥
+
+-- `a.c` is empty, and `b.c` has one line
+abbrev pub two_entries : List (List ℕ × List ℕ)
+two_entries = (codes "a.c", []) ∷ (codes "b.c", codes "int x;\n") ∷ []
+
+abbrev pub two_files : FileMap
+two_files = map.from_entries two_entries
+
+pub record FileExamples : Type 0 where
+  pub empty_file : file_at two_files (codes "a.c") ≡ Some []
+  pub other_file : file_at two_files (codes "b.c") ≡ Some (codes "int x;\n")
+  -- paths are compared whole
+  pub front_of_a_path : file_at two_files (codes "a") ≡ None
+  pub longer_path : file_at two_files (codes "a.c.c") ≡ None
+  pub empty_path : file_at two_files [] ≡ None

@@ -73,7 +73,8 @@ same_without_flags :
     (stars : ℕ) (f g : Flags) →
     without_flags (bare (behind_stars stars (int_with f))) ≡ without_flags (bare (behind_stars stars (int_with g)))
 same_without_flags stars f g =
-    ap without_flags (bare-behind_stars stars f) ∙ without_flags-behind_stars stars f ∙ sym (without_flags-behind_stars stars g) ∙ sym (ap without_flags (bare-behind_stars stars g))
+    ap without_flags (bare-behind_stars stars f) ∙ without_flags-behind_stars stars f ∙ sym (without_flags-behind_stars stars g)
+    ∙ sym (ap without_flags (bare-behind_stars stars g))
 
 -- under equally many stars, at least one, types with different flags mix spaces
 pub stars_mix : (stars : ℕ) (f g : Flags) → f ≢ g → TargetsMixSpaces (behind_stars stars (int_with f)) (behind_stars stars (int_with g))
@@ -96,7 +97,8 @@ differ_from_test f g h e = both_ways (are_equal_flags f g) (not-true (are_equal_
 test_from_mixed :
     (stars : ℕ) (f g : Flags) → TargetsMixSpaces (behind_stars stars (int_with f)) (behind_stars stars (int_with g)) →
     not (are_equal_flags f g) ≡ true
-test_from_mixed stars f g h = not_from_false (are_equal_flags f g) (false_from_ne_true (are_equal_flags f g) (λ e. stars_do_not_mix stars f g ((are_equal_flags-Decides f g).0 e) h))
+test_from_mixed stars f g h =
+    not_from_false (are_equal_flags f g) (false_from_ne_true (are_equal_flags f g) (λ e. stars_do_not_mix stars f g ((are_equal_flags-Decides f g).0 e) h))
 
 -- the test passes exactly where types under equally many stars mix spaces
 stars_mix-Decides :

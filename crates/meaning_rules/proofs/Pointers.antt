@@ -18,7 +18,8 @@ pub pointer-is_not_flagged_int : (pointer object : Declared) → nat_eq pointer.
 pointer-is_not_flagged_int pointer object more = rw (one_star_more-suc pointer object more, eqb-suc-zero object.stars) refl
 
 -- a type with some stars points to the type with one star less
-target_of-stars : (stars less : ℕ) (flags : Flags) → stars ≡ suc less → target_of (value_type (behind_stars stars (int_with flags))) ≡ Some (behind_stars (stars - 1) (int_with flags))
+target_of-stars :
+    (stars less : ℕ) (flags : Flags) → stars ≡ suc less → target_of (value_type (behind_stars stars (int_with flags))) ≡ Some (behind_stars (stars - 1) (int_with flags))
 target_of-stars stars less flags e = rw e (ap (λ n. Some (behind_stars n (int_with flags))) (omega arith))
 
 -- the place behind a pointer has the type that is declared with one star less

@@ -48,7 +48,8 @@ judged_access-AreThose token declared = record {
 
 -- an access to an object that is no int with a flag does not fail
 plain_access-AreThose : (token : ℕ) (declared : Declared) → is_flagged_int declared ≡ false → AreThose [] (access_at token (Some (declared_type declared))) []
-plain_access-AreThose token declared plain = subst (λ failures. AreThose failures (access_at token (Some (declared_type declared))) []) none (judged_access-AreThose token declared)
+plain_access-AreThose token declared plain =
+    subst (λ failures. AreThose failures (access_at token (Some (declared_type declared))) []) none (judged_access-AreThose token declared)
   where
     none : judged_access token declared ≡ []
     none = ap (λ test. if test then access_failure (record { token = token; place = declared_type declared }) ∷ [] else []) plain
@@ -117,7 +118,8 @@ accessed_assignment-AreThose token place declared target source plain equal =
 judged_assign_through-AreThose :
     (first : ℕ) (pointer source : Declared) → nat_eq pointer.stars (source.stars + 1) ≡ true →
     AreThose (judged_assign_through first pointer source)
-    (access_at first (target_of (value_type (declared_type pointer))) ++ access_at (first + 1) (Some (declared_type pointer)) ++ access_at (first + 3) (Some (declared_type source)))
+    (access_at first (target_of (value_type (declared_type pointer))) ++ access_at (first + 1) (Some (declared_type pointer))
+    ++ access_at (first + 3) (Some (declared_type source)))
     (assignment_at (first + 2) (target_of (value_type (declared_type pointer))) (Some (value_type (declared_type source))))
 judged_assign_through-AreThose first pointer source more =
     let target : Declared = behind_pointer pointer in
@@ -129,7 +131,8 @@ judged_assign_through-AreThose first pointer source more =
     (access_at first (Some (declared_type target))) (access_at (first + 1) (Some (declared_type pointer)))
     [] (assignment_at (first + 2) (Some (declared_type target)) (Some (value_type (declared_type source))))
     (judged_access-AreThose first target)
-    (accessed_assignment-AreThose (first + 2) (first + 1) pointer target source (pointer-is_not_flagged_int pointer source more) (behind_pointer-equal_stars pointer source more)))
+    (accessed_assignment-AreThose (first + 2) (first + 1) pointer target source (pointer-is_not_flagged_int pointer source more)
+    (behind_pointer-equal_stars pointer source more)))
     (judged_access-AreThose (first + 3) source))
 
 -- the failures where an object's address is assigned to a pointer with one star more
@@ -140,7 +143,8 @@ judged_assign_address-AreThose :
     (assignment_at (first + 1) (Some (declared_type target)) (Some (pointer_to (declared_type object))))
 judged_assign_address-AreThose first target object more =
     rw (pointer_to-declared_type object)
-    (accessed_assignment-AreThose (first + 1) first target target (address_of object) (pointer-is_not_flagged_int target object more) (address_of-equal_stars target object more))
+    (accessed_assignment-AreThose (first + 1) first target target (address_of object) (pointer-is_not_flagged_int target object more)
+    (address_of-equal_stars target object more))
 
 -- the failures of `target = source ;`, where both are objects
 objects_assign-AreThose :
@@ -159,7 +163,8 @@ objects_assign_through-AreThose :
     (access_at first (option_and_then target_of (option_map value_type (option_map declared_type pointer)))
     ++ access_at (first + 1) (option_map declared_type pointer)
     ++ access_at (first + 3) (option_map declared_type source))
-    (assignment_at (first + 2) (option_and_then target_of (option_map value_type (option_map declared_type pointer))) (option_map value_type (option_map declared_type source)))
+    (assignment_at (first + 2) (option_and_then target_of (option_map value_type (option_map declared_type pointer)))
+    (option_map value_type (option_map declared_type source)))
 objects_assign_through-AreThose first (Some pointer) (Some source) more = judged_assign_through-AreThose first pointer source more
 objects_assign_through-AreThose first (Some pointer) None more = grind arith
 objects_assign_through-AreThose first None source more = grind arith
@@ -179,8 +184,10 @@ pub judged_statement-AreThose :
     (before : List Item) (first : ℕ) (statement : Statement) → statement_binds before statement ≡ true →
     AreThose (judged_statement before first statement) (statement_accesses before first statement) (statement_conversions before first statement)
 judged_statement-AreThose before first (Assign target source) binds = objects_assign-AreThose first (object_of before target) (object_of before source) binds
-judged_statement-AreThose before first (AssignThrough pointer source) binds = objects_assign_through-AreThose first (object_of before pointer) (object_of before source) binds
-judged_statement-AreThose before first (AssignAddress target object) binds = objects_assign_address-AreThose first (object_of before target) (object_of before object) binds
+judged_statement-AreThose before first (AssignThrough pointer source) binds =
+    objects_assign_through-AreThose first (object_of before pointer) (object_of before source) binds
+judged_statement-AreThose before first (AssignAddress target object) binds =
+    objects_assign_address-AreThose first (object_of before target) (object_of before object) binds
 
 -- In order
 
@@ -212,7 +219,8 @@ judged_objects-StandIn low high judged h (Some left) None = StandIn-nil low high
 judged_objects-StandIn low high judged h None right = StandIn-nil low high
 
 -- the judged failures of a statement stand in order at its tokens
-pub judged_statement-StandIn : (before : List Item) (first : ℕ) (statement : Statement) → StandIn first (first + length (statement_spelled statement)) (judged_statement before first statement)
+pub judged_statement-StandIn :
+    (before : List Item) (first : ℕ) (statement : Statement) → StandIn first (first + length (statement_spelled statement)) (judged_statement before first statement)
 judged_statement-StandIn before first (Assign target source) =
     judged_objects-StandIn first (first + 4) (judged_assign first)
     (λ left right. three_parts-StandIn first (first + 1) (first + 2) (first + 4) left right (omega arith) (omega arith) (omega arith))

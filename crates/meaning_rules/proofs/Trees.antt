@@ -13,9 +13,9 @@ use Rattle.meaning_syntax.specs.Items.{Word, Noderef, AddressSpace, Statement, A
 use Rattle.meaning_syntax.specs.Binding.{Declared, item_statements, item_name, item_declared, object_of}
 use Rattle.meaning_syntax.specs.Trees.{SyntaxParts, statement_tree, statement_trees, word_tree, word_trees, attribute_trees, star_trees, item_tree, item_trees, unit_tree}
 use Rattle.meaning_rules.specs.Bindings.{Binding, bindings_of, flags_behind_words, specified_flags, declared_by, pointer_to, type_in}
-use Rattle.meaning_rules.specs.Evaluation.{Access, ForValue, access_at, assignment_at, accesses_of, parts_accesses, conversions_of, parts_conversions, accesses_behind, conversions_behind, accesses_in, conversions_in}
+use Rattle.meaning_rules.specs.Evaluation.{Access, ForValue, access_at, assignment_at, accesses_of, parts_accesses, conversions_of, parts_conversions, gathered, accesses_in, conversions_in}
 use Rattle.meaning_rules.specs.Typing.{space_of, flagged, behind_stars, int_with, declared_type, type_of, value_type_of, target_type_of, address_type_of}
-use Rattle.meaning_rules.specs.Placed.{placed_body, placed_behind, placed_in, tokens_before_body, statement_accesses, statement_conversions, placed_accesses, placed_conversions, item_binding}
+use Rattle.meaning_rules.specs.Placed.{Placed, placed_body, placed_behind, placed_in, tokens_before_body, statement_accesses, statement_conversions, placed_accesses, placed_conversions, item_binding}
 
 -- Names
 
@@ -37,7 +37,8 @@ type_in-items (item ∷ items) name =
 -- the flags behind a space that has a name or a number
 flags-space :
     (test : Bool) (byte : ℕ) (id : List ℕ) (number token : ℕ) (flags : Flags) (words : SyntaxParts) →
-    flags_behind_words flags (Part TypePart (if test then Node AddressSpaceAttribute token (byte ∷ id) 0 NoParts else Node AddressSpaceAttribute token [] number NoParts) words)
+    flags_behind_words flags (Part TypePart
+    (if test then Node AddressSpaceAttribute token (byte ∷ id) 0 NoParts else Node AddressSpaceAttribute token [] number NoParts) words)
     ≡ flags_behind_words (record flags { space = if test then NamedSpace (byte ∷ id) else NumberedSpace number }) words
 flags-space true byte id number token flags words = refl
 flags-space false byte id number token flags words = refl
@@ -199,34 +200,25 @@ scope-item : (before : List Item) (first : ℕ) (item : Item) → map item_bindi
 scope-item before first item =
     rw (bindings_of-item_tree first item) (sym (map-append item_binding before (item ∷ [])))
 
-accesses_behind-items :
+-- what items have is what their statements have, if it is so of each
+gathered-items :
+    {A : Type 0} (of_tree : List Binding → SyntaxTree → List A) (of_placed : Placed → List A) →
+    ((before : List Item) (first : ℕ) (item : Item) →
+    of_tree (map item_binding before) (item_tree first item) ≡ flat_map of_placed (placed_body before (first + tokens_before_body) (item_statements item))) →
     (before : List Item) (first : ℕ) (items : List Item) →
-    accesses_behind (map item_binding before) (parts_of Evaluated (item_trees first items)) ≡ flat_map placed_accesses (placed_behind before first items)
-accesses_behind-items before first [] = refl
-accesses_behind-items before first (item ∷ items) =
+    gathered of_tree (map item_binding before) (parts_of Evaluated (item_trees first items)) ≡ flat_map of_placed (placed_behind before first items)
+gathered-items of_tree of_placed of_item before first [] = refl
+gathered-items of_tree of_placed of_item before first (item ∷ items) =
     let next : ℕ = first + length (item_spelled item) in
     rw (
-      flat_map-append placed_accesses (placed_body before (first + tokens_before_body) (item_statements item)) (placed_behind (before ++ item ∷ []) next items),
-      accesses_of-item before first item,
+      flat_map-append of_placed (placed_body before (first + tokens_before_body) (item_statements item)) (placed_behind (before ++ item ∷ []) next items),
+      of_item before first item,
       scope-item before first item,
-      accesses_behind-items (before ++ item ∷ []) next items,
-    ) refl
-
-conversions_behind-items :
-    (before : List Item) (first : ℕ) (items : List Item) →
-    conversions_behind (map item_binding before) (parts_of Evaluated (item_trees first items)) ≡ flat_map placed_conversions (placed_behind before first items)
-conversions_behind-items before first [] = refl
-conversions_behind-items before first (item ∷ items) =
-    let next : ℕ = first + length (item_spelled item) in
-    rw (
-      flat_map-append placed_conversions (placed_body before (first + tokens_before_body) (item_statements item)) (placed_behind (before ++ item ∷ []) next items),
-      conversions_of-item before first item,
-      scope-item before first item,
-      conversions_behind-items (before ++ item ∷ []) next items,
+      gathered-items of_tree of_placed of_item (before ++ item ∷ []) next items,
     ) refl
 
 pub accesses_in-unit_tree : (items : List Item) → accesses_in (unit_tree items) ≡ flat_map placed_accesses (placed_in items)
-accesses_in-unit_tree items = accesses_behind-items [] 0 items
+accesses_in-unit_tree items = gathered-items (λ scope. accesses_of scope ForValue) placed_accesses accesses_of-item [] 0 items
 
 pub conversions_in-unit_tree : (items : List Item) → conversions_in (unit_tree items) ≡ flat_map placed_conversions (placed_in items)
-conversions_in-unit_tree items = conversions_behind-items [] 0 items
+conversions_in-unit_tree items = gathered-items conversions_of placed_conversions conversions_of-item [] 0 items

@@ -47,7 +47,8 @@ judged_placed-AreThose :
     AreThose (flat_map judged_placed placed) (flat_map placed_accesses placed) (flat_map placed_conversions placed)
 judged_placed-AreThose [] h = AreThose-nil
 judged_placed-AreThose (one ∷ placed) h =
-    AreThose-append (judged_placed one) (flat_map judged_placed placed) (placed_accesses one) (flat_map placed_accesses placed) (placed_conversions one) (flat_map placed_conversions placed)
+    AreThose-append (judged_placed one) (flat_map judged_placed placed) (placed_accesses one) (flat_map placed_accesses placed) (placed_conversions one)
+    (flat_map placed_conversions placed)
     (judged_statement-AreThose one.before one.first one.statement (All-head Binds one placed h))
     (judged_placed-AreThose placed (All-tail Binds one placed h))
 

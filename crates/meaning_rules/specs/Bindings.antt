@@ -107,7 +107,7 @@ bindings_of (Node kind token name number parts) = kind_bindings kind parts
 
 -- Scopes: what is bound so far, in order
 
--- the object that a name stands for
+-- the type of the object that a name stands for
 abbrev pub type_in : List Binding → List ℕ → Option TypeTree
 type_in [] name = None
 type_in (binding ∷ scope) name = if bytes_eq binding.name name then binding.object else type_in scope name

@@ -44,7 +44,7 @@ abbrev pub access_at : ℕ → Option TypeTree → List Access
 access_at token None = []
 access_at token (Some place) = record { token = token; place = place } ∷ []
 
--- what is wanted of a node that designates this place
+-- the accesses of a node that designates this place, by what is wanted of it
 abbrev pub access_for : Want → ℕ → Option TypeTree → List Access
 access_for ForValue token place = access_at token place
 access_for ForStore token place = access_at token place
@@ -94,18 +94,13 @@ abbrev pub external_parts : SyntaxTree → SyntaxParts
 external_parts (Node TranslationUnit token name number parts) = parts
 external_parts (Node kind token name number parts) = NoParts
 
-abbrev pub accesses_behind : List Binding → SyntaxParts → List Access
-accesses_behind scope NoParts = []
-accesses_behind scope (Part role tree parts) =
-    accesses_of scope ForValue tree ++ accesses_behind (scope ++ bindings_of tree) parts
-
-abbrev pub conversions_behind : List Binding → SyntaxParts → List Conversion
-conversions_behind scope NoParts = []
-conversions_behind scope (Part role tree parts) =
-    conversions_of scope tree ++ conversions_behind (scope ++ bindings_of tree) parts
+-- what the declarations and functions of a unit have, if this gives what one of them has in a scope
+abbrev pub gathered : {A : Type 0} → (List Binding → SyntaxTree → List A) → List Binding → SyntaxParts → List A
+gathered of_tree scope NoParts = []
+gathered of_tree scope (Part role tree parts) = of_tree scope tree ++ gathered of_tree (scope ++ bindings_of tree) parts
 
 abbrev pub accesses_in : SyntaxTree → List Access
-accesses_in unit = accesses_behind [] (external_parts unit)
+accesses_in unit = gathered (λ scope. accesses_of scope ForValue) [] (external_parts unit)
 
 abbrev pub conversions_in : SyntaxTree → List Conversion
-conversions_in unit = conversions_behind [] (external_parts unit)
+conversions_in unit = gathered conversions_of [] (external_parts unit)

@@ -28,6 +28,10 @@ pub record Warns (text : List ℕ) (unit : List Item) (failures : List Failure) 
   pub listed : failures_of unit ≡ failures
   pub warned : warnings_text (codes "t.c") (tokens_in text) failures ≡ warnings
 
+-- the checked file is number 1
+abbrev pub CheckedFileIsFirst : Type 0
+CheckedFileIsFirst = main_file ≡ 1
+
 -- What the examples are made of
 
 -- the flags that `__attribute__((noderef, address_space(__user)))` gives

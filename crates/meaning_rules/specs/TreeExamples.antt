@@ -3,12 +3,13 @@ use Rattle.std.specs.Prelude.{◌≡◌, true, List, [], ◌∷◌, ◌++◌, So
 use Rattle.meaning_types.specs.Types.{NoSpace, NamedSpace, NumberedSpace, Flags, no_flags, TypeTree}
 use Rattle.meaning_tree.specs.Kinds.{Declaration, Specifiers, ExternSpecifier, IntSpecifier, AttributeList, NoderefAttribute, AddressSpaceAttribute, ExpressionStatement, Evaluated, Condition, TypePart, Unevaluated}
 use Rattle.meaning_tree.specs.Trees.{SyntaxTree, Node, NoParts, Part, parts_of}
-use Rattle.meaning_syntax.specs.Items.{Noderef, AddressSpace}
-use Rattle.meaning_syntax.specs.Trees.{plain_node, leaf, name_tree, assignment_tree, indirection_tree, address_tree, declarator_tree, object_tree, function_tree}
+use Rattle.meaning_syntax.specs.Items.{Noderef, AddressSpace, Assign, Object}
+use Rattle.meaning_syntax.specs.Trees.{plain_node, leaf, one_part, name_tree, assignment_tree, indirection_tree, address_tree, declarator_tree, object_tree, function_declarator, function_tree, unit_tree}
 use Rattle.meaning_rules.specs.Bindings.{Binding, pointer_to, bindings_of, type_in}
 use Rattle.meaning_rules.specs.Expressions.{no_fact, fact_of}
-use Rattle.meaning_rules.specs.Evaluation.{ForValue, InAssignment, accesses_of, conversions_of}
+use Rattle.meaning_rules.specs.Evaluation.{ForValue, InAssignment, accesses_of, conversions_of, accesses_in}
 use Rattle.meaning_rules.specs.Typing.{int_with}
+use Rattle.meaning_rules.specs.Examples.{function_of}
 
 -- the flags that `__attribute__((noderef))` gives
 abbrev pub only_noderef : Flags
@@ -50,6 +51,10 @@ pub record ExpressionExamples : Type 0 where
   pub address_converted :
       conversions_of small_scope address_behind
       ≡ record { token = 1; position = InAssignment; to = pointer_to plain; from = pointer_to flagged_int } ∷ []
+  -- `*p = x`: the value becomes one of the place's type
+  pub store_converted :
+      conversions_of small_scope (assignment_tree 2 (indirection_tree 0 (name_tree 1 (codes "p"))) (name_tree 3 (codes "x")))
+      ≡ record { token = 2; position = InAssignment; to = flagged_int; from = plain } ∷ []
   -- `x = *p`: a value that is loaded has no flags
   pub value_converted :
       conversions_of small_scope (assignment_tree 1 (name_tree 0 (codes "x")) (indirection_tree 2 (name_tree 3 (codes "p"))))
@@ -71,9 +76,9 @@ pub record ExpressionExamples : Type 0 where
   pub type_part : accesses_of small_scope ForValue (Node ExpressionStatement 0 [] 0 (Part TypePart (name_tree 0 (codes "x")) NoParts)) ≡ []
   pub unevaluated : accesses_of small_scope ForValue (Node ExpressionStatement 0 [] 0 (Part Unevaluated (name_tree 0 (codes "x")) NoParts)) ≡ []
 
--- `extern int __attribute__((noderef)) __attribute__((address_space(4))) r, *s;`
-abbrev pub two_lists_and_declarators : SyntaxTree
-two_lists_and_declarators =
+-- `extern int __attribute__((noderef)) __attribute__((address_space(4))) r, *s, t;`
+abbrev pub lists_and_declarators_tree : SyntaxTree
+lists_and_declarators_tree =
     plain_node Declaration 0
     (Part TypePart
     (plain_node Specifiers 0
@@ -83,11 +88,24 @@ two_lists_and_declarators =
     ∷ plain_node AttributeList 2 (parts_of TypePart (leaf NoderefAttribute 5 ∷ []))
     ∷ plain_node AttributeList 8 (parts_of TypePart (Node AddressSpaceAttribute 11 [] 4 NoParts ∷ []))
     ∷ [])))
-    (parts_of Evaluated (declarator_tree 17 0 (codes "r") ∷ declarator_tree 19 1 (codes "s") ∷ [])))
+    (parts_of Evaluated (declarator_tree 17 0 (codes "r") ∷ declarator_tree 19 1 (codes "s") ∷ declarator_tree 22 0 (codes "t") ∷ [])))
 
 -- `int` with the flags of both lists
 abbrev pub flagged_by_both : TypeTree
 flagged_by_both = int_with (record { noderef = true; space = NumberedSpace 4 })
+
+-- `extern int g(void);`
+abbrev pub function_declaration : SyntaxTree
+function_declaration =
+    plain_node Declaration 0
+    (Part TypePart (plain_node Specifiers 0 (parts_of TypePart (leaf ExternSpecifier 0 ∷ leaf IntSpecifier 1 ∷ [])))
+    (one_part (function_declarator 2 (codes "g"))))
+
+-- `extern int __attribute__((noderef)) x; extern int x; void f(void) { x = x; }`
+abbrev pub twice_declared : SyntaxTree
+twice_declared =
+    unit_tree
+    (Object (Noderef ∷ []) 0 (codes "x") ∷ Object [] 0 (codes "x") ∷ function_of (Assign (codes "x") (codes "x") ∷ []) ∷ [])
 
 pub record DeclarationExamples : Type 0 where
   -- `extern int **r;`
@@ -101,12 +119,17 @@ pub record DeclarationExamples : Type 0 where
       bindings_of (object_tree 0 (AddressSpace (codes "12") ∷ []) 0 (codes "r"))
       ≡ record { name = codes "r"; object = Some (int_with (record no_flags { space = NumberedSpace 12 })) } ∷ []
   pub function : bindings_of (function_tree 0 (codes "f") []) ≡ record { name = codes "f"; object = None } ∷ []
-  -- each list adds its flags, and each declarator a name
+  -- what returns an int is no int
+  pub function_of_int : bindings_of function_declaration ≡ record { name = codes "g"; object = None } ∷ []
+  -- each list adds its flags, and each declarator a name with its own stars
   pub lists_and_declarators :
-      bindings_of two_lists_and_declarators
+      bindings_of lists_and_declarators_tree
       ≡ record { name = codes "r"; object = Some flagged_by_both }
       ∷ record { name = codes "s"; object = Some (pointer_to flagged_by_both) }
+      ∷ record { name = codes "t"; object = Some flagged_by_both }
       ∷ []
   -- a name with two declarations has the type of the first
   pub first_declaration :
       type_in (small_scope ++ record { name = codes "x"; object = Some (pointer_to plain) } ∷ []) (codes "x") ≡ Some plain
+  pub first_declaration_accessed :
+      accesses_in twice_declared ≡ record { token = 20; place = flagged_int } ∷ record { token = 22; place = flagged_int } ∷ []

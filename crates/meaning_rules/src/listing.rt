@@ -1,4 +1,4 @@
-ghost use Rattle.meaning_rules.specs.Examples.{SpaceIsLost, SpaceBehindTwoStarsIsLost, TwoStarsMixSpaces, StarsAloneDoNotMix, NoderefIsAccessed, SpaceIsAccessed, NoderefIsToldBeforeSpace, LaterSpaceCounts, EqualFlagsPass, PlainIntsPass, NoderefIsStoredThrough, NoderefIsLostBehindPointer, LoadAloneWarns, AddressPasses};
+ghost use Rattle.meaning_rules.specs.Examples.{CheckedFileIsFirst, SpaceIsLost, SpaceBehindTwoStarsIsLost, TwoStarsMixSpaces, StarsAloneDoNotMix, NoderefIsAccessed, SpaceIsAccessed, NoderefIsToldBeforeSpace, LaterSpaceCounts, EqualFlagsPass, PlainIntsPass, NoderefIsStoredThrough, NoderefIsLostBehindPointer, LoadAloneWarns, AddressPasses};
 ghost use Rattle.meaning_rules.specs.TreeExamples.{DeclarationExamples, ExpressionExamples};
 ghost use Rattle.meaning_rules.specs.OrderExamples.{OrderExamples};
 ghost use Rattle.meaning_rules.specs.Laws.{ListingsExist, ListingsAreUnique};
@@ -26,6 +26,7 @@ pub fn worked_examples()
     ensures load_alone { LoadAloneWarns }
     ensures address { AddressPasses }
     ensures ordered { OrderExamples }
+    ensures checked_file { CheckedFileIsFirst }
 {}
 
 /// Single declarations and expressions bind, read, write and convert what one can tell by eye.

@@ -1,6 +1,9 @@
--- Each example is a sum or two.
-use Rattle.std.proofs.Common.{◌⊎◌, inl, inr, arith}
+-- Each example is a sum or two, or a file that is looked up.
+use Rattle.std.proofs.Common.{[], ◌⊎◌, inl, inr, codes, arith}
+use Rattle.std.specs.Cmp.Lexicographic.{nat_list_cmp_total}
+use Rattle.std.specs.FinMap.{get-from_entries}
 use Rattle.meaning_outside.specs.Faults.{Rose}
+use Rattle.meaning_outside.specs.Examples.{two_entries}
 use Rattle.meaning_outside.proofs.counts.worked_examples.Goals as goal
 
 neither_rose : Rose 7 7 ⊎ Rose 3 3 → ⊥
@@ -65,4 +68,13 @@ returns-clause-of_two c = record {
   err_not_kept_back = λ told. told.always_err (omega arith);
   out_not_falling = λ told. omega (arith, told.later_out);
   err_not_falling = λ told. omega (arith, told.later_err);
+}
+
+pub returns-clause-files : goal.returns-clause-files
+returns-clause-files c = record {
+  empty_file = get-from_entries nat_list_cmp_total two_entries (codes "a.c");
+  other_file = get-from_entries nat_list_cmp_total two_entries (codes "b.c");
+  front_of_a_path = get-from_entries nat_list_cmp_total two_entries (codes "a");
+  longer_path = get-from_entries nat_list_cmp_total two_entries (codes "a.c.c");
+  empty_path = get-from_entries nat_list_cmp_total two_entries [];
 }

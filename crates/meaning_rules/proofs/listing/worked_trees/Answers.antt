@@ -8,8 +8,10 @@ returns-clause-declarations c = record {
   spaces = refl;
   number = refl;
   function = refl;
+  function_of_int = refl;
   lists_and_declarators = refl;
   first_declaration = refl;
+  first_declaration_accessed = refl;
 }
 
 pub returns-clause-expressions : goal.returns-clause-expressions
@@ -18,6 +20,7 @@ returns-clause-expressions c = record {
   address = refl;
   address_behind_pointer = refl;
   address_converted = refl;
+  store_converted = refl;
   value_converted = refl;
   function = refl;
   number = refl;

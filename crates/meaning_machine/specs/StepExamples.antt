@@ -1,0 +1,63 @@
+-- Worked examples: single steps that no run of the small units takes, or that end one.
+use Rattle.std.specs.Prelude.{◌≡◌, true, List, [], ◌∷◌, Some, None, codes}
+use Rattle.meaning_rules.specs.Bindings.{Binding, pointer_to}
+use Rattle.meaning_machine.specs.Values.{Null, Value, Pointer, Place, ForObject, Block}
+use Rattle.meaning_machine.specs.Outcomes.{NullPointer, ShapeFault}
+use Rattle.meaning_machine.specs.Code.{Named}
+use Rattle.meaning_machine.specs.Machine.{ThenLoad, AfterValue, ThenStore, ThenGoOn, EnterPlace, Load, Move, Store, Leave, Finished, Next, Done, Undefined, Fault, step}
+use Rattle.meaning_machine.specs.Examples.{plain_int, int_of, object_spot}
+
+-- `extern int *p; extern int *q; void f(void) { .. }`
+abbrev pub two_pointers : List Binding
+two_pointers =
+    record { name = codes "p"; object = Some (pointer_to plain_int) }
+    ∷ record { name = codes "q"; object = Some (pointer_to plain_int) }
+    ∷ record { name = codes "f"; object = None }
+    ∷ []
+
+-- a block that holds this pointer to int
+abbrev pub pointer_block : Value → Block
+pointer_block value =
+    record { made = ForObject (pointer_to plain_int); is_alive = true; cells = record { path = []; content = Some value } ∷ [] }
+
+-- their blocks, where `p` is this pointer and `q` is null
+abbrev pub pointer_blocks : Value → List Block
+pointer_blocks value = pointer_block value ∷ pointer_block (Pointer plain_int Null) ∷ []
+
+abbrev pub p_place : Place
+p_place = record { type_ = pointer_to plain_int; spot = object_spot 0 }
+
+abbrev pub q_place : Place
+q_place = record { type_ = pointer_to plain_int; spot = object_spot 1 }
+
+abbrev pub null_place : Place
+null_place = record { type_ = plain_int; spot = Null }
+
+-- the body ends behind the value
+abbrev pub then_end : AfterValue
+then_end = ThenGoOn []
+
+pub record StepExamples : Type 0 where
+  -- behind its last statement an activity is done, and stays so
+  pub left : (scope : List Binding) (blocks : List Block) → step scope blocks Leave ≡ Done
+  pub finished : (scope : List Binding) (blocks : List Block) → step scope blocks Finished ≡ Done
+  -- the object of a name, and names that have none
+  pub object_entered :
+      (blocks : List Block) → step two_pointers blocks (EnterPlace (Named 3 (codes "q")) (ThenLoad 3 then_end)) ≡ Next blocks (Load q_place 3 then_end)
+  pub function_entered :
+      (blocks : List Block) → step two_pointers blocks (EnterPlace (Named 3 (codes "f")) (ThenLoad 3 then_end)) ≡ Fault ShapeFault 3
+  pub unknown_entered :
+      (blocks : List Block) → step two_pointers blocks (EnterPlace (Named 3 (codes "x")) (ThenLoad 3 then_end)) ≡ Fault ShapeFault 3
+  -- `*` gives the place behind a null pointer too (6.5.3.2 p4), and a number is no pointer
+  pub null_moved :
+      (scope : List Binding) (blocks : List Block)
+      → step scope blocks (Move (Pointer plain_int Null) 4 (ThenLoad 4 then_end)) ≡ Next blocks (Load null_place 4 then_end)
+  pub number_moved :
+      (scope : List Binding) (blocks : List Block) → step scope blocks (Move (int_of 0) 4 (ThenLoad 4 then_end)) ≡ Fault ShapeFault 4
+  -- but a null pointer's place isn't loaded
+  pub null_loaded : (scope : List Binding) (blocks : List Block) → step scope blocks (Load null_place 4 then_end) ≡ Undefined NullPointer 4
+  -- `q = p = 0`: the value of an assignment is the stored one, a null pointer here (6.5.16 p3)
+  pub assignment_valued :
+      (scope : List Binding)
+      → step scope (pointer_blocks (Pointer plain_int (object_spot 0))) (Store p_place 5 (int_of 0) 6 (ThenStore q_place 3 4 then_end))
+      ≡ Next (pointer_blocks (Pointer plain_int Null)) (Store q_place 3 (Pointer plain_int Null) 4 then_end)

@@ -1,11 +1,12 @@
 -- Worked examples: single steps that no run of the small units takes, or that end one.
-use Rattle.std.specs.Prelude.{◌≡◌, true, List, [], ◌∷◌, Some, None, codes}
+use Rattle.std.specs.Prelude.{◌≡◌, true, List, [], ◌∷◌, ◌++◌, Some, None, codes}
 use Rattle.meaning_rules.specs.Bindings.{Binding, pointer_to}
 use Rattle.meaning_machine.specs.Values.{Null, Value, Pointer, Place, ForObject, Block}
 use Rattle.meaning_machine.specs.Outcomes.{NullPointer, ShapeFault}
 use Rattle.meaning_machine.specs.Code.{Named}
-use Rattle.meaning_machine.specs.Machine.{ThenLoad, AfterValue, ThenStore, ThenGoOn, EnterPlace, Load, Move, Store, Leave, Finished, Next, Done, Undefined, Fault, step}
+use Rattle.meaning_machine.specs.Machine.{ThenLoad, AfterValue, ThenStore, ThenGoOn, EnterBody, EnterPlace, Load, Move, Store, Leave, Finished, Next, Done, Undefined, Fault, step}
 use Rattle.meaning_machine.specs.Examples.{plain_int, int_of, object_spot}
+use Rattle.meaning_machine.specs.RowExamples.{living}
 
 -- `extern int *p; extern int *q; void f(void) { .. }`
 abbrev pub two_pointers : List Binding
@@ -30,6 +31,10 @@ p_place = record { type_ = pointer_to plain_int; spot = object_spot 0 }
 abbrev pub q_place : Place
 q_place = record { type_ = pointer_to plain_int; spot = object_spot 1 }
 
+-- an int that is 3, in its one block
+abbrev pub int_place : Place
+int_place = record { type_ = plain_int; spot = object_spot 0 }
+
 abbrev pub null_place : Place
 null_place = record { type_ = plain_int; spot = Null }
 
@@ -38,12 +43,17 @@ abbrev pub then_end : AfterValue
 then_end = ThenGoOn []
 
 pub record StepExamples : Type 0 where
-  -- behind its last statement an activity is done, and stays so
+  -- a body is left behind its last statement, in a step of its own; then the activity is done, and stays so
+  pub empty_body : (scope : List Binding) (blocks : List Block) → step scope blocks (EnterBody []) ≡ Next blocks Leave
+  pub last_statement : (scope : List Binding) → step scope living (Load int_place 4 then_end) ≡ Next living Leave
   pub left : (scope : List Binding) (blocks : List Block) → step scope blocks Leave ≡ Done
   pub finished : (scope : List Binding) (blocks : List Block) → step scope blocks Finished ≡ Done
-  -- the object of a name, and names that have none
+  -- the object of a name, the first of two, and names that have none
   pub object_entered :
       (blocks : List Block) → step two_pointers blocks (EnterPlace (Named 3 (codes "q")) (ThenLoad 3 then_end)) ≡ Next blocks (Load q_place 3 then_end)
+  pub first_entered :
+      (blocks : List Block)
+      → step (two_pointers ++ two_pointers) blocks (EnterPlace (Named 3 (codes "q")) (ThenLoad 3 then_end)) ≡ Next blocks (Load q_place 3 then_end)
   pub function_entered :
       (blocks : List Block) → step two_pointers blocks (EnterPlace (Named 3 (codes "f")) (ThenLoad 3 then_end)) ≡ Fault ShapeFault 3
   pub unknown_entered :

@@ -94,9 +94,12 @@ returns-clause-last c = record {
 
 pub returns-clause-steps : goal.returns-clause-steps
 returns-clause-steps c = record {
+  empty_body = λ scope blocks. refl;
+  last_statement = λ scope. refl;
   left = λ scope blocks. refl;
   finished = λ scope blocks. refl;
   object_entered = λ blocks. refl;
+  first_entered = λ blocks. refl;
   function_entered = λ blocks. refl;
   unknown_entered = λ blocks. refl;
   null_moved = λ scope blocks. refl;

@@ -14,7 +14,9 @@ append_three : (a b c d : Texts) → ((a ++ b) ++ c) ++ d ≡ a ++ (b ++ (c ++ d
 append_three a b c d = simp append_assoc
 
 -- what is read behind the keyword of an attribute is spelled so
-read_word_list_spelled : (texts : Texts) (words : List Word) (rest : Texts) → read_word_list texts ≡ Some (words, rest) → IsSpelledAt attribute_spelled (list_all word_fits) (codes "__attribute__" ∷ texts) (words, rest)
+read_word_list_spelled :
+    (texts : Texts) (words : List Word) (rest : Texts) → read_word_list texts ≡ Some (words, rest)
+    → IsSpelledAt attribute_spelled (list_all word_fits) (codes "__attribute__" ∷ texts) (words, rest)
 unfolding read_word_list
 read_word_list_spelled texts words rest h =
     read_text_then (codes "(") texts _ _ h (λ outer at_outer from_outer.
@@ -27,15 +29,22 @@ read_word_list_spelled texts words rest h =
     subst (IsSpelledAt attribute_spelled (list_all word_fits) (codes "__attribute__" ∷ texts)) (same_Some _ _ found) (cc, and_from _ _ fits further.1))))))
 
 -- the words that are spelled behind the keyword are read
-read_word_list_here : (word : Word) (words : List Word) (rest : Texts) → word_fits word ≡ true → list_all word_fits words ≡ true → read_word_list (codes "(" ∷ codes "(" ∷ word_spelled word ++ (flat_map further_word_spelled words ++ codes ")" ∷ codes ")" ∷ rest)) ≡ Some (word ∷ words, rest)
+read_word_list_here :
+    (word : Word) (words : List Word) (rest : Texts) → word_fits word ≡ true → list_all word_fits words ≡ true
+    → read_word_list (codes "(" ∷ codes "(" ∷ word_spelled word ++ (flat_map further_word_spelled words ++ codes ")" ∷ codes ")" ∷ rest)) ≡ Some (word ∷ words, rest)
 unfolding read_word_list
 read_word_list_here word words rest fits fit =
     let first = read_word_here word (flat_map further_word_spelled words ++ codes ")" ∷ codes ")" ∷ rest) fits in
-    let further = read_many_here read_further_word further_word_spelled word_fits read_further_word-Shrinks read_further_word_here words (codes ")" ∷ codes ")" ∷ rest) fit (read_further_word_none (codes ")" ∷ rest)) in
+    let further =
+    read_many_here read_further_word further_word_spelled word_fits read_further_word-Shrinks read_further_word_here words (codes ")" ∷ codes ")" ∷ rest) fit
+    (read_further_word_none (codes ")" ∷ rest))
+    in
     rw (first, further)
 
 -- an attribute that is read, or none, is spelled so
-words_behind_spelled : (o : Option Texts) (texts : Texts) → ((inside : Texts) → o ≡ Some inside → texts ≡ codes "__attribute__" ∷ inside) → (words : List Word) (rest : Texts) → words_behind o texts ≡ Some (words, rest) → IsSpelledAt attribute_spelled (list_all word_fits) texts (words, rest)
+words_behind_spelled :
+    (o : Option Texts) (texts : Texts) → ((inside : Texts) → o ≡ Some inside → texts ≡ codes "__attribute__" ∷ inside) → (words : List Word) (rest : Texts)
+    → words_behind o texts ≡ Some (words, rest) → IsSpelledAt attribute_spelled (list_all word_fits) texts (words, rest)
 words_behind_spelled None texts at words rest h = subst (IsSpelledAt attribute_spelled (list_all word_fits) texts) (same_Some _ _ h) (refl, refl)
 words_behind_spelled (Some inside) texts at words rest h =
     let list = read_word_list_spelled inside words rest h in
@@ -48,7 +57,9 @@ read_attribute_spelled texts words rest h =
     words_behind_spelled (read_text (codes "__attribute__") texts) texts (read_text_parts (codes "__attribute__") texts) words rest h
 
 -- what is spelled as an attribute is read, also none where none begins
-read_attribute_here : (words : List Word) (rest : Texts) → list_all word_fits words ≡ true → read_text (codes "__attribute__") rest ≡ None → read_attribute (attribute_spelled words ++ rest) ≡ Some (words, rest)
+read_attribute_here :
+    (words : List Word) (rest : Texts) → list_all word_fits words ≡ true → read_text (codes "__attribute__") rest ≡ None
+    → read_attribute (attribute_spelled words ++ rest) ≡ Some (words, rest)
 unfolding read_attribute
 read_attribute_here [] rest fit none = ap (λ o. words_behind o rest) none
 read_attribute_here (word ∷ words) rest fit none =
@@ -62,7 +73,8 @@ unfolding is_name is_keyword is_reserved
 bytes_eq-name_attribute name named = bytes_eq-tests_differ is_name name (codes "__attribute__") named refl
 
 -- no attribute begins where stars or a name stand
-read_text-stars_name : (stars : ℕ) (name : List ℕ) (rest : Texts) → is_name name ≡ true → read_text (codes "__attribute__") (replicate stars (codes "*") ++ name ∷ rest) ≡ None
+read_text-stars_name :
+    (stars : ℕ) (name : List ℕ) (rest : Texts) → is_name name ≡ true → read_text (codes "__attribute__") (replicate stars (codes "*") ++ name ∷ rest) ≡ None
 read_text-stars_name zero name rest named = read_text_elsewhere (codes "__attribute__") name rest (bytes_eq-name_attribute name named)
 read_text-stars_name (suc stars) name rest named = refl
 
@@ -81,13 +93,17 @@ read_object_spelled texts item rest h =
     subst (IsSpelledAt item_spelled item_fits texts) (same_Some _ _ found) (cc, and_from _ _ (and_from _ _ fit few) named)))))))
 
 -- what is spelled as an object is read
-read_object_here : (words : List Word) (stars : ℕ) (name : List ℕ) (rest : Texts) → item_fits (Object words stars name) ≡ true → read_object (item_spelled (Object words stars name) ++ rest) ≡ Some (Object words stars name, rest)
+read_object_here :
+    (words : List Word) (stars : ℕ) (name : List ℕ) (rest : Texts) → item_fits (Object words stars name) ≡ true
+    → read_object (item_spelled (Object words stars name) ++ rest) ≡ Some (Object words stars name, rest)
 unfolding read_object
 read_object_here words stars name rest fits =
     let parts = and_parts (list_all word_fits words && nat_le stars 3) (is_name name) fits in
     let front = and_parts (list_all word_fits words) (nat_le stars 3) parts.0 in
     let grouped = append_three (attribute_spelled words) (replicate stars (codes "*")) (name ∷ codes ";" ∷ []) rest in
-    let attribute = read_attribute_here words (replicate stars (codes "*") ++ name ∷ codes ";" ∷ rest) front.0 (read_text-stars_name stars name (codes ";" ∷ rest) parts.1) in
+    let attribute =
+    read_attribute_here words (replicate stars (codes "*") ++ name ∷ codes ";" ∷ rest) front.0 (read_text-stars_name stars name (codes ";" ∷ rest) parts.1)
+    in
     let few = read_stars_here stars name (codes ";" ∷ rest) parts.1 in
     rw (grouped, attribute, few, front.1, parts.1)
 
@@ -112,7 +128,9 @@ unfolding read_opening
 read_opening_here body = refl
 
 -- what follows where `( void ) {` was read, and then something
-read_opening_then : {B P : Type 0} (texts : Texts) (next : Texts → Option B) (y : B) → after (read_opening texts) next ≡ Some y → ((body : Texts) → texts ≡ codes "(" ∷ codes "void" ∷ codes ")" ∷ codes "{" ∷ body → next body ≡ Some y → P) → P
+read_opening_then :
+    {B P : Type 0} (texts : Texts) (next : Texts → Option B) (y : B) → after (read_opening texts) next ≡ Some y
+    → ((body : Texts) → texts ≡ codes "(" ∷ codes "void" ∷ codes ")" ∷ codes "{" ∷ body → next body ≡ Some y → P) → P
 read_opening_then texts next y h follows =
     let parts = after_parts (read_opening texts) next y h in
     follows parts.0 (read_opening_parts texts parts.0 parts.1) parts.2
@@ -130,12 +148,17 @@ read_function_spelled texts item rest h =
     subst (IsSpelledAt item_spelled item_fits texts) (same_Some _ _ found) (cc, and_from _ _ named statements.1)))))
 
 -- what is spelled as a function is read
-read_function_here : (name : List ℕ) (statements : List Statement) (rest : Texts) → item_fits (Function name statements) ≡ true → read_function (item_spelled (Function name statements) ++ rest) ≡ Some (Function name statements, rest)
+read_function_here :
+    (name : List ℕ) (statements : List Statement) (rest : Texts) → item_fits (Function name statements) ≡ true
+    → read_function (item_spelled (Function name statements) ++ rest) ≡ Some (Function name statements, rest)
 unfolding read_function
 read_function_here name statements rest fits =
     let parts = and_parts (is_name name) (list_all statement_fits statements) fits in
     let grouped = append_assoc (flat_map statement_spelled statements) (codes "}" ∷ []) rest in
-    let body = read_many_here read_statement statement_spelled statement_fits read_statement-Shrinks read_statement_here statements (codes "}" ∷ rest) parts.1 (read_statement_none rest) in
+    let body =
+    read_many_here read_statement statement_spelled statement_fits read_statement-Shrinks read_statement_here statements (codes "}" ∷ rest) parts.1
+    (read_statement_none rest)
+    in
     rw (parts.0, grouped, read_opening_here (flat_map statement_spelled statements ++ codes "}" ∷ rest), body)
 
 -- what is read as an item is spelled so

@@ -133,17 +133,23 @@ unfolding read_assignment_through
 read_assignment_through-name name rest named = rw (read_text_elsewhere (codes "*") name rest (bytes_eq-name_star name named)) refl
 
 -- what is spelled as an assignment is read
-read_assignment_here : (target source : List ℕ) (rest : Texts) → is_name target ≡ true → is_name source ≡ true → read_assignment (statement_spelled (Assign target source) ++ rest) ≡ Some (Assign target source, rest)
+read_assignment_here :
+    (target source : List ℕ) (rest : Texts) → is_name target ≡ true → is_name source ≡ true
+    → read_assignment (statement_spelled (Assign target source) ++ rest) ≡ Some (Assign target source, rest)
 unfolding read_assignment
 read_assignment_here target source rest target_named source_named = rw (target_named, source_named)
 
 -- what is spelled as an assignment through a pointer is read
-read_assignment_through_here : (pointer source : List ℕ) (rest : Texts) → is_name pointer ≡ true → is_name source ≡ true → read_assignment_through (statement_spelled (AssignThrough pointer source) ++ rest) ≡ Some (AssignThrough pointer source, rest)
+read_assignment_through_here :
+    (pointer source : List ℕ) (rest : Texts) → is_name pointer ≡ true → is_name source ≡ true
+    → read_assignment_through (statement_spelled (AssignThrough pointer source) ++ rest) ≡ Some (AssignThrough pointer source, rest)
 unfolding read_assignment_through
 read_assignment_through_here pointer source rest pointer_named source_named = rw (pointer_named, source_named)
 
 -- what is spelled as an assignment of an address is read
-read_address_assignment_here : (target object : List ℕ) (rest : Texts) → is_name target ≡ true → is_name object ≡ true → read_address_assignment (statement_spelled (AssignAddress target object) ++ rest) ≡ Some (AssignAddress target object, rest)
+read_address_assignment_here :
+    (target object : List ℕ) (rest : Texts) → is_name target ≡ true → is_name object ≡ true
+    → read_address_assignment (statement_spelled (AssignAddress target object) ++ rest) ≡ Some (AssignAddress target object, rest)
 unfolding read_address_assignment
 read_address_assignment_here target object rest target_named object_named = rw (target_named, object_named)
 
@@ -158,7 +164,11 @@ read_statement_here (AssignThrough pointer source) rest fit =
     rw (read_assignment-star _, read_assignment_through_here pointer source rest names.0 names.1)
 read_statement_here (AssignAddress target object) rest fit =
     let names = and_parts (is_name target) (is_name object) fit in
-    rw (read_assignment-ampersand target (object ∷ codes ";" ∷ rest) names.0, read_assignment_through-name target _ names.0, read_address_assignment_here target object rest names.0 names.1)
+    rw (
+      read_assignment-ampersand target (object ∷ codes ";" ∷ rest) names.0,
+      read_assignment_through-name target _ names.0,
+      read_address_assignment_here target object rest names.0 names.1,
+    )
 
 -- a statement is spelled by a text at least
 length-statement_spelled : (statement : Statement) → 0 < length (statement_spelled statement)

@@ -19,7 +19,8 @@ spaced (byte ∷ bytes) = if byte == space then [] ∷ spaced bytes else in_fron
 -- a pointer in the address space of this spelling
 abbrev pub pointer_in : List ℕ → Texts
 pointer_in id =
-    codes "extern" ∷ codes "int" ∷ codes "__attribute__" ∷ codes "(" ∷ codes "(" ∷ codes "address_space" ∷ codes "(" ∷ id ∷ codes ")" ∷ codes ")" ∷ codes ")" ∷ codes "*" ∷ codes "p" ∷ codes ";" ∷ []
+    codes "extern" ∷ codes "int" ∷ codes "__attribute__" ∷ codes "(" ∷ codes "(" ∷ codes "address_space" ∷ codes "(" ∷ id ∷ codes ")" ∷ codes ")" ∷ codes ")"
+    ∷ codes "*" ∷ codes "p" ∷ codes ";" ∷ []
 
 -- the unit is these items
 abbrev pub IsReadAs : Texts → List Item → Type 0

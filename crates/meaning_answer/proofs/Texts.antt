@@ -127,7 +127,9 @@ only path text reply (inr (inr (inl tells))) = only_not_built path text reply te
 only path text reply (inr (inr (inr tells))) = only_opening path text reply tells
 
 -- of a file
-file_answered_if : (path text : List ℕ) (small : Bool) → nat_le (length text) most_bytes ≡ small → IsFileReply path (Some text) (if small then text_reply path text else line Limit file_size_text)
+file_answered_if :
+    (path text : List ℕ) (small : Bool) → nat_le (length text) most_bytes ≡ small
+    → IsFileReply path (Some text) (if small then text_reply path text else line Limit file_size_text)
 file_answered_if path text true small = inr (leb-true _ _ small, answered path text)
 file_answered_if path text false small = inl (leb-false _ _ small, refl)
 
@@ -135,7 +137,9 @@ pub file_answered : (path : List ℕ) (found : Option (List ℕ)) → IsFileRepl
 file_answered path None = refl
 file_answered path (Some text) = file_answered_if path text (nat_le (length text) most_bytes) refl
 
-only_file_if : (path text : List ℕ) (reply : Reply) (small : Bool) → nat_le (length text) most_bytes ≡ small → IsFileReply path (Some text) reply → reply ≡ (if small then text_reply path text else line Limit file_size_text)
+only_file_if :
+    (path text : List ℕ) (reply : Reply) (small : Bool) → nat_le (length text) most_bytes ≡ small → IsFileReply path (Some text) reply
+    → reply ≡ (if small then text_reply path text else line Limit file_size_text)
 only_file_if path text reply true small (inl large) = absurd (let fits = leb-true _ _ small in omega (arith, large.0))
 only_file_if path text reply true small (inr told) = only path text reply told.1
 only_file_if path text reply false small (inl large) = large.1

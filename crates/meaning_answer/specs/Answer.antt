@@ -62,12 +62,14 @@ IsInForm text = (tokens : List Tok) × (unit : SyntaxTree) × LexesFile main_fil
 -- the reply tells the failures of the unit that the text is
 abbrev pub TellsFailures : List ℕ → List ℕ → Reply → Type 0
 TellsFailures path text reply =
-    (tokens : List Tok) × (unit : SyntaxTree) × (failures : List Failure) × IsChecked text tokens unit failures × (length tokens ≤ most_tokens) × (reply ≡ warned path tokens failures)
+    (tokens : List Tok) × (unit : SyntaxTree) × (failures : List Failure) × IsChecked text tokens unit failures × (length tokens ≤ most_tokens)
+    × (reply ≡ warned path tokens failures)
 
 -- or says that the unit has too many tokens
 abbrev pub TellsTooManyTokens : List ℕ → Reply → Type 0
 TellsTooManyTokens text reply =
-    (tokens : List Tok) × (unit : SyntaxTree) × LexesFile main_file text tokens × Derives (terminals_of tokens) unit × (most_tokens < length tokens) × (reply ≡ line Limit unit_tokens_text)
+    (tokens : List Tok) × (unit : SyntaxTree) × LexesFile main_file text tokens × Derives (terminals_of tokens) unit × (most_tokens < length tokens)
+    × (reply ≡ line Limit unit_tokens_text)
 
 -- or says that the text has tokens and isn't in the form
 abbrev pub TellsNotBuilt : List ℕ → List ℕ → Reply → Type 0

@@ -41,22 +41,29 @@ Reads-simple b value rest simple = record { first = rw simple refl; behind = rw 
 pub escape_at-octal : (b : ℕ) (text : List ℕ) → is_digit_of Octal b ≡ true → escape_at (b ∷ text) ≡ octal_escape (b ∷ text)
 escape_at-octal b text digit = rw (octal_is_not_simple b digit, digit) refl
 
-Reads-octal : (b : ℕ) (digits rest : List ℕ) → list_all (is_digit_of Octal) (b ∷ digits) ≡ true → length (b ∷ digits) ≤ 3 → (length (b ∷ digits) ≡ 3) ⊎ (stops (is_digit_of Octal) rest ≡ true) → Reads mark (b ∷ digits ++ rest) (Escape (number Octal (b ∷ digits))) rest
+Reads-octal :
+    (b : ℕ) (digits rest : List ℕ) → list_all (is_digit_of Octal) (b ∷ digits) ≡ true → length (b ∷ digits) ≤ 3
+    → (length (b ∷ digits) ≡ 3) ⊎ (stops (is_digit_of Octal) rest ≡ true) → Reads mark (b ∷ digits ++ rest) (Escape (number Octal (b ∷ digits))) rest
 Reads-octal b digits rest passes few ends =
     let run = IsShortRun-append (is_digit_of Octal) (b ∷ digits) rest passes few ends in
     let piece = escape_at-octal b (digits ++ rest) (and_parts (is_digit_of Octal b) _ passes).0 in
     record {
       first = ap (λ (p : Piece). p.element) piece ∙ ap (λ ds. Escape (number Octal ds)) run.front;
-      behind = ap (λ (p : Piece). drop p.further (b ∷ digits ++ rest)) piece ∙ ap (λ ds. drop (length ds) (b ∷ digits ++ rest)) run.front ∙ drop-append_seam (b ∷ digits) rest;
+      behind =
+          ap (λ (p : Piece). drop p.further (b ∷ digits ++ rest)) piece ∙ ap (λ ds. drop (length ds) (b ∷ digits ++ rest)) run.front ∙ drop-append_seam (b ∷ digits) rest;
     }
 
 -- with a digit there is a hexadecimal escape sequence
-pub hexadecimal_escape-some : (text digits : List ℕ) → digits_of Hexadecimal text ≡ digits → 0 < length digits → hexadecimal_escape text ≡ record { element = Escape (number Hexadecimal digits); further = 1 + length digits }
+pub hexadecimal_escape-some :
+    (text digits : List ℕ) → digits_of Hexadecimal text ≡ digits → 0 < length digits
+    → hexadecimal_escape text ≡ record { element = Escape (number Hexadecimal digits); further = 1 + length digits }
 hexadecimal_escape-some text [] front some = absurd (omega arith)
 hexadecimal_escape-some text (b ∷ digits) front some =
     ap (λ ds. let p : Piece = if is_empty ds then unknown_escape else record { element = Escape (number Hexadecimal ds); further = 1 + length ds } in p) front
 
-Reads-hexadecimal : (digits rest : List ℕ) → list_all (is_digit_of Hexadecimal) digits ≡ true → 0 < length digits → stops (is_digit_of Hexadecimal) rest ≡ true → Reads mark (codes "x" ++ digits ++ rest) (Escape (number Hexadecimal digits)) rest
+Reads-hexadecimal :
+    (digits rest : List ℕ) → list_all (is_digit_of Hexadecimal) digits ≡ true → 0 < length digits → stops (is_digit_of Hexadecimal) rest ≡ true
+    → Reads mark (codes "x" ++ digits ++ rest) (Escape (number Hexadecimal digits)) rest
 Reads-hexadecimal digits rest passes some ends =
     let text = digits ++ rest in
     let run = IsRun-append (is_digit_of Hexadecimal) digits rest passes ends in
@@ -67,7 +74,8 @@ Reads-hexadecimal digits rest passes some ends =
     }
 
 -- so many digits make a universal character name
-universal_name-some : (count : ℕ) (text : List ℕ) → count ≤ length (digits_of Hexadecimal text) → universal_name count text ≡ record { element = UniversalName; further = 1 + count }
+universal_name-some :
+    (count : ℕ) (text : List ℕ) → count ≤ length (digits_of Hexadecimal text) → universal_name count text ≡ record { element = UniversalName; further = 1 + count }
 universal_name-some count text enough =
     let test : nat_le count (length (digits_of Hexadecimal text)) ≡ true = grind (arith, nat_tests) in
     rw test refl
@@ -78,19 +86,24 @@ enough_digits digits rest passes =
     omega (arith, prefix_len-ge (is_digit_of Hexadecimal) digits rest passes, length-prefix_len (is_digit_of Hexadecimal) (digits ++ rest))
 
 -- the name behind its letter
-Reads-name : (b count : ℕ) (digits rest : List ℕ) → escape_at (b ∷ digits ++ rest) ≡ universal_name count (digits ++ rest) → list_all (is_digit_of Hexadecimal) digits ≡ true → length digits ≡ count → Reads mark (b ∷ digits ++ rest) UniversalName rest
+Reads-name :
+    (b count : ℕ) (digits rest : List ℕ) → escape_at (b ∷ digits ++ rest) ≡ universal_name count (digits ++ rest)
+    → list_all (is_digit_of Hexadecimal) digits ≡ true → length digits ≡ count → Reads mark (b ∷ digits ++ rest) UniversalName rest
 Reads-name b count digits rest name passes counted =
     let enough : count ≤ length (digits_of Hexadecimal (digits ++ rest)) = omega (arith, enough_digits digits rest passes) in
     let piece = name ∙ universal_name-some count (digits ++ rest) enough in
     record {
       first = ap (λ (p : Piece). p.element) piece;
-      behind = ap (λ (p : Piece). drop p.further (b ∷ digits ++ rest)) piece ∙ drop-append-add (b ∷ []) (digits ++ rest) count ∙ ap (λ n. drop n (digits ++ rest)) (sym counted) ∙ drop-append_seam digits rest;
+      behind =
+          ap (λ (p : Piece). drop p.further (b ∷ digits ++ rest)) piece ∙ drop-append-add (b ∷ []) (digits ++ rest) count
+          ∙ ap (λ n. drop n (digits ++ rest)) (sym counted) ∙ drop-append_seam digits rest;
     }
 
 -- an element that is spelled here is the one that is computed
 pub Reads-Spells : (element : Element) (bytes rest : List ℕ) → Spells element bytes rest → (b : ℕ) (text : List ℕ) → bytes ++ rest ≡ b ∷ text → Reads b text element rest
 Reads-Spells _ _ _ (spells_plain {b = c} {rest = rest} plain) b text same = Reads-same c b rest text _ rest same (Reads-plain c rest plain)
-Reads-Spells _ _ _ (spells_simple {b = c} {value = value} {rest = rest} simple) b text same = Reads-same mark b (c ∷ rest) text _ rest same (Reads-simple c value rest simple)
+Reads-Spells _ _ _ (spells_simple {b = c} {value = value} {rest = rest} simple) b text same =
+    Reads-same mark b (c ∷ rest) text _ rest same (Reads-simple c value rest simple)
 Reads-Spells _ _ _ (spells_octal {digits = []} passes some few ends) b text same = absurd (omega arith)
 Reads-Spells _ _ _ (spells_octal {digits = c ∷ digits} {rest = rest} passes some few ends) b text same =
     Reads-same mark b (c ∷ digits ++ rest) text _ rest same (Reads-octal c digits rest passes few ends)

@@ -23,7 +23,9 @@ not_unknown _ _ _ (spells_short_name passes counted) unknown = cc
 not_unknown _ _ _ (spells_long_name passes counted) unknown = cc
 
 -- where an unknown escape is computed, no element is spelled
-none_spelled : (b : ℕ) (text : List ℕ) → (piece_at b text).element ≡ UnknownEscape → (element : Element) (front others : List ℕ) → b ∷ text ≡ front ++ others → Spells element front others → ⊥
+none_spelled :
+    (b : ℕ) (text : List ℕ) → (piece_at b text).element ≡ UnknownEscape → (element : Element) (front others : List ℕ) → b ∷ text ≡ front ++ others
+    → Spells element front others → ⊥
 none_spelled b text unknown = λ element front others same spells.
     not_unknown element front others spells (sym (Reads-Spells element front others spells b text (sym same)).first ∙ unknown)
 
@@ -32,7 +34,9 @@ abbrev HasFirst : ℕ → List ℕ → Type 0
 HasFirst b text = HasBytes (piece_at b text).element (b ∷ take (piece_at b text).further text) (drop (piece_at b text).further text)
 
 -- it has them where the piece has them
-HasFirst-piece : (b : ℕ) (text : List ℕ) (piece : Piece) (bytes rest : List ℕ) → piece_at b text ≡ piece → b ∷ take piece.further text ≡ bytes → drop piece.further text ≡ rest → HasBytes piece.element bytes rest → HasFirst b text
+HasFirst-piece :
+    (b : ℕ) (text : List ℕ) (piece : Piece) (bytes rest : List ℕ) → piece_at b text ≡ piece → b ∷ take piece.further text ≡ bytes
+    → drop piece.further text ≡ rest → HasBytes piece.element bytes rest → HasFirst b text
 HasFirst-piece b text piece bytes rest is front back has =
     let Has : Piece → Type 0 = λ p. HasBytes p.element (b ∷ take p.further text) (drop p.further text) in
     let counted = subst (λ x. HasBytes piece.element x (drop piece.further text)) (sym front) (subst (λ r. HasBytes piece.element bytes r) (sym back) has) in
@@ -62,7 +66,9 @@ HasFirst-octal b text digit =
     let is = found.2 in
     let piece : piece_at mark (b ∷ text) ≡ record { element = Escape (number Octal run); further = length run } =
     escape_at-octal b text digit ∙ ap (λ ds. let p : Piece = record { element = Escape (number Octal ds); further = length ds } in p) is.front in
-    let some : 0 < length run = omega (arith, ap length is.front, length-prefix_len (is_digit_of Octal) (take 3 (b ∷ text)), prefix_len-passes (is_digit_of Octal) b (take 2 text) digit) in
+    let some : 0 < length run =
+    omega (arith, ap length is.front, length-prefix_len (is_digit_of Octal) (take 3 (b ∷ text)), prefix_len-passes (is_digit_of Octal) b (take 2 text) digit)
+    in
     HasFirst-piece mark (b ∷ text) (record { element = Escape (number Octal run); further = length run }) (mark ∷ run) found.1 piece
     (ap (λ x. mark ∷ x) (ap (take (length run)) is.split ∙ take-append_seam run found.1))
     (ap (drop (length run)) is.split ∙ drop-append_seam run found.1)
@@ -85,14 +91,19 @@ hexadecimal_from text (b ∷ run) rest is =
     (inl (spells_hexadecimal is.passes some is.ends))
 
 -- so many of the first bytes are digits where as many are found
-digits-take : (count : ℕ) (text run rest : List ℕ) → IsRun (is_digit_of Hexadecimal) text run rest → count ≤ length (digits_of Hexadecimal text) → (list_all (is_digit_of Hexadecimal) (take count text) ≡ true) × (length (take count text) ≡ count)
+digits-take :
+    (count : ℕ) (text run rest : List ℕ) → IsRun (is_digit_of Hexadecimal) text run rest → count ≤ length (digits_of Hexadecimal text)
+    → (list_all (is_digit_of Hexadecimal) (take count text) ≡ true) × (length (take count text) ≡ count)
 digits-take count text run rest is enough =
     let within : count ≤ length run = omega (arith, length-prefix_len (is_digit_of Hexadecimal) text, is.count) in
     let front : take count text ≡ take count run = ap (take count) is.split ∙ take-append-le count run rest within in
     (ap (list_all (is_digit_of Hexadecimal)) front ∙ list_all-take (is_digit_of Hexadecimal) count run is.passes, ap length front ∙ length-take-le count run within)
 
 -- a universal character name behind its letter, or an unknown escape
-HasFirst-name : (b count : ℕ) (text : List ℕ) → piece_at mark (b ∷ text) ≡ universal_name count text → ((digits rest : List ℕ) → list_all (is_digit_of Hexadecimal) digits ≡ true → length digits ≡ count → Spells UniversalName (mark ∷ b ∷ digits) rest) → HasFirst mark (b ∷ text)
+HasFirst-name :
+    (b count : ℕ) (text : List ℕ) → piece_at mark (b ∷ text) ≡ universal_name count text
+    → ((digits rest : List ℕ) → list_all (is_digit_of Hexadecimal) digits ≡ true → length digits ≡ count → Spells UniversalName (mark ∷ b ∷ digits) rest)
+    → HasFirst mark (b ∷ text)
 HasFirst-name b count text is spells =
     ⊎_elim
     (λ enough.
@@ -114,7 +125,9 @@ is_one_of-single : (b c : ℕ) → is_one_of (b ∷ []) c ≡ true → c ≡ b
 is_one_of-single b c one = grind (arith, nat_tests)
 
 -- any other letter begins no escape sequence
-lettered_escape-none : (b : ℕ) (text : List ℕ) → is_one_of (codes "x") b ≡ false → is_one_of (codes "u") b ≡ false → is_one_of (codes "U") b ≡ false → lettered_escape b text ≡ unknown_escape
+lettered_escape-none :
+    (b : ℕ) (text : List ℕ) → is_one_of (codes "x") b ≡ false → is_one_of (codes "u") b ≡ false → is_one_of (codes "U") b ≡ false
+    → lettered_escape b text ≡ unknown_escape
 lettered_escape-none b text no_x no_u no_upper = rw (no_x, no_u, no_upper) refl
 
 HasFirst-lettered : (b : ℕ) (text : List ℕ) → piece_at mark (b ∷ text) ≡ lettered_escape b text → HasFirst mark (b ∷ text)

@@ -55,7 +55,9 @@ abbrev constant_from : List ℕ → List ℕ → Result Constant Fault
 constant_from digits behind =
     if is_empty digits || begins_with_digit behind then Err BadDigitFault else constant_with Decimal digits (suffix_of behind)
 
-numeral_constant-digits : (b : ℕ) (digits : List ℕ) → list_all (is_digit_of Decimal) (b ∷ digits) ≡ true → numeral_constant Decimal (b ∷ digits) ≡ constant_with Decimal (b ∷ digits) (Some NoSuffix)
+numeral_constant-digits :
+    (b : ℕ) (digits : List ℕ) → list_all (is_digit_of Decimal) (b ∷ digits) ≡ true
+    → numeral_constant Decimal (b ∷ digits) ≡ constant_with Decimal (b ∷ digits) (Some NoSuffix)
 numeral_constant-digits b digits all =
     let text = b ∷ digits in
     let run = IsRun-digits text all in
@@ -64,7 +66,8 @@ numeral_constant-digits b digits all =
     ap (λ ds. constant_from ds (behind_digits Decimal text)) front ∙ ap (constant_from text) back
 
 -- digits without a zero in front are their number
-integer_of-digits : (digits : List ℕ) → list_all (is_digit_of Decimal) digits ≡ true → 48 < get_or digits 0 0 → integer_of digits ≡ constant_with Decimal digits (Some NoSuffix)
+integer_of-digits :
+    (digits : List ℕ) → list_all (is_digit_of Decimal) digits ≡ true → 48 < get_or digits 0 0 → integer_of digits ≡ constant_with Decimal digits (Some NoSuffix)
 integer_of-digits [] all above = absurd (omega arith)
 integer_of-digits (b ∷ digits) all above =
     let text = b ∷ digits in
@@ -73,7 +76,9 @@ integer_of-digits (b ∷ digits) all above =
     let read : integer_of text ≡ numeral_constant (base_of text) (behind_prefix (base_of text) text) = rw floating refl in
     read ∙ ap (λ base. numeral_constant base (behind_prefix base text)) base ∙ numeral_constant-digits b digits all
 
-kind_from : (n : ℕ) (small : Bool) → nat_le n (greatest IntKind) ≡ small → n ≤ greatest LongKind → first_that_holds n (decimal_kinds NoSuffix) ≡ Some (if small then IntKind else LongKind)
+kind_from :
+    (n : ℕ) (small : Bool) → nat_le n (greatest IntKind) ≡ small → n ≤ greatest LongKind
+    → first_that_holds n (decimal_kinds NoSuffix) ≡ Some (if small then IntKind else LongKind)
 kind_from n true same fits = rw same refl
 kind_from n false same fits =
     let holds : nat_le n (greatest LongKind) ≡ true = grind (arith, nat_tests) in
@@ -83,7 +88,8 @@ kind_from n false same fits =
 kind_of_number : (n : ℕ) → n ≤ greatest LongKind → first_that_holds n (decimal_kinds NoSuffix) ≡ Some (if nat_le n (greatest IntKind) then IntKind else LongKind)
 kind_of_number n fits = kind_from n (nat_le n (greatest IntKind)) refl fits
 
-pub integer_of-decimal : (n : ℕ) → n ≤ greatest LongKind → integer_of (decimal n) ≡ Ok (record { kind = if nat_le n (greatest IntKind) then IntKind else LongKind; bits = n })
+pub integer_of-decimal :
+    (n : ℕ) → n ≤ greatest LongKind → integer_of (decimal n) ≡ Ok (record { kind = if nat_le n (greatest IntKind) then IntKind else LongKind; bits = n })
 integer_of-decimal zero fits = ap integer_of (decimal_digit 0 (omega arith))
 integer_of-decimal (suc n) fits =
     let number_is = digits_value-decimal are_numerals (suc n) (omega arith) in

@@ -69,7 +69,8 @@ pub record IsShortRun (test : ℕ → Bool) (text run rest : List ℕ) : Type 0 
   pub front : take (prefix_len test (take 3 text)) (take 3 text) ≡ run
 
 -- the run of the first three bytes is short, where bytes follow it there
-short_inside : (test : ℕ → Bool) (text run : List ℕ) (b : ℕ) (rest : List ℕ) → IsRun test (take 3 text) run (b ∷ rest) → IsShortRun test text run (b ∷ rest ++ drop 3 text)
+short_inside :
+    (test : ℕ → Bool) (text run : List ℕ) (b : ℕ) (rest : List ℕ) → IsRun test (take 3 text) run (b ∷ rest) → IsShortRun test text run (b ∷ rest ++ drop 3 text)
 short_inside test text run b rest is =
     record {
       split = sym (take-append-drop 3 text) ∙ ap (λ front. front ++ drop 3 text) is.split ∙ append_assoc run (b ∷ rest) (drop 3 text);
@@ -121,7 +122,9 @@ short_stops test run rest ends =
     ends
 
 -- three bytes at most that pass, of three or before a rest that stops, are a short run
-pub IsShortRun-append : (test : ℕ → Bool) (run rest : List ℕ) → list_all test run ≡ true → length run ≤ 3 → (length run ≡ 3) ⊎ (stops test rest ≡ true) → IsShortRun test (run ++ rest) run rest
+pub IsShortRun-append :
+    (test : ℕ → Bool) (run rest : List ℕ) → list_all test run ≡ true → length run ≤ 3 → (length run ≡ 3) ⊎ (stops test rest ≡ true)
+    → IsShortRun test (run ++ rest) run rest
 IsShortRun-append test run rest passes few ends =
     let inside = IsRun-append test run (take (3 - length run) rest) passes (short_stops test run rest ends) in
     let all : length run + (3 - length run) ≡ 3 = omega arith in

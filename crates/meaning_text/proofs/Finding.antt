@@ -26,7 +26,8 @@ found_where-None true kind count e = absurd (none-some (kind, count) (sym e))
 found_where-None false kind count e = refl
 
 -- what is found has the length that was found
-pub found_of-Some : (kind : Kind) (length : Option ℕ) (found : Kind × ℕ) → found_of kind length ≡ Some found → (count : ℕ) × (length ≡ Some count) × (found ≡ (kind, count))
+pub found_of-Some :
+    (kind : Kind) (length : Option ℕ) (found : Kind × ℕ) → found_of kind length ≡ Some found → (count : ℕ) × (length ≡ Some count) × (found ≡ (kind, count))
 found_of-Some kind None found e = absurd (none-some found e)
 found_of-Some kind (Some count) found e = (count, refl, sym (same_Some _ _ e))
 
@@ -36,7 +37,9 @@ found_of-None kind None e = refl
 found_of-None kind (Some count) e = absurd (none-some (kind, count) (sym e))
 
 -- what is found of a spelling is the punctuator that it stands for
-pub found_spelling-Some : (known : Option (List ℕ)) (spelling : List ℕ) (found : Kind × ℕ) → found_spelling known spelling ≡ Some found → (stands_for : List ℕ) × (known ≡ Some stands_for) × (found ≡ (Punctuator stands_for, length spelling))
+pub found_spelling-Some :
+    (known : Option (List ℕ)) (spelling : List ℕ) (found : Kind × ℕ) → found_spelling known spelling ≡ Some found
+    → (stands_for : List ℕ) × (known ≡ Some stands_for) × (found ≡ (Punctuator stands_for, length spelling))
 found_spelling-Some None spelling found e = absurd (none-some found e)
 found_spelling-Some (Some stands_for) spelling found e = (stands_for, refl, sym (same_Some _ _ e))
 
@@ -91,5 +94,7 @@ found_spelling-IsNoShorter count None spelling long = tt
 found_spelling-IsNoShorter count (Some stands_for) spelling long = long
 
 -- and reaches so far if it is one
-pub found_spelling-Reaches : (count : ℕ) (known : Option (List ℕ)) (spelling stands_for : List ℕ) → known ≡ Some stands_for → count ≤ length spelling → Reaches count (found_spelling known spelling)
+pub found_spelling-Reaches :
+    (count : ℕ) (known : Option (List ℕ)) (spelling stands_for : List ℕ) → known ≡ Some stands_for → count ≤ length spelling
+    → Reaches count (found_spelling known spelling)
 found_spelling-Reaches count known spelling stands_for is long = subst (λ (o : Option (List ℕ)). Reaches count (found_spelling o spelling)) (sym is) long

@@ -74,7 +74,8 @@ begins_number-none b text other =
     or_from _ _ parts.0 (and_left _ (begins_digit text) parts.1)
 
 -- where no length is found, the text is no such spelling
-pub not_measured : (found : List ℕ → Option ℕ) (is : List ℕ → Bool) (measures : MeasuresFronts found is) (front rest : List ℕ) → found (front ++ rest) ≡ None → is front ≡ false
+pub not_measured :
+    (found : List ℕ → Option ℕ) (is : List ℕ → Bool) (measures : MeasuresFronts found is) (front rest : List ℕ) → found (front ++ rest) ≡ None → is front ≡ false
 not_measured found is measures front rest none =
     elim (cases_Bool (is front)) [
       | inl passing ↦ absurd (none-some (length front) (sym none ∙ measures.finds front rest passing))

@@ -25,14 +25,17 @@ pub record IsTokenFront (allowed : Bool) (text : List ℕ) (found : Kind × ℕ)
   pub is_kind : kind_in allowed (take found.1 text) ≡ Some found.0
 
 -- a front that passes is of the kind that all that passes are of
-IsTokenFront-Passes : (allowed : Bool) (text : List ℕ) (found : Kind × ℕ) (is : List ℕ → Bool) (kind : Kind) (count : ℕ) → found ≡ (kind, count) → Passes is text count → (is (take count text) ≡ true → kind_in allowed (take count text) ≡ Some kind) → IsTokenFront allowed text found
+IsTokenFront-Passes :
+    (allowed : Bool) (text : List ℕ) (found : Kind × ℕ) (is : List ℕ → Bool) (kind : Kind) (count : ℕ) → found ≡ (kind, count) → Passes is text count
+    → (is (take count text) ≡ true → kind_in allowed (take count text) ≡ Some kind) → IsTokenFront allowed text found
 IsTokenFront-Passes allowed text found is kind count same passes of_kind =
     subst (IsTokenFront allowed text) (sym same) (record { some = passes.some; within = passes.within; is_kind = of_kind passes.is_one })
 
 -- Header names
 
 -- what is found is the header name
-header_name_over-Some : (name other : Option ℕ) (found : Kind × ℕ) → header_name_over name other ≡ Some found → (count : ℕ) × (name ≡ Some count) × (found ≡ (HeaderName, count))
+header_name_over-Some :
+    (name other : Option ℕ) (found : Kind × ℕ) → header_name_over name other ≡ Some found → (count : ℕ) × (name ≡ Some count) × (found ≡ (HeaderName, count))
 header_name_over-Some None other found e = absurd (none-some found e)
 header_name_over-Some (Some count) None found e = (count, refl, sym (same_Some _ _ e))
 header_name_over-Some (Some count) (Some longer) found e = (count, refl, (found_where-Some (nat_le longer count) HeaderName count found e).1)
@@ -56,7 +59,9 @@ header_name_over-same count (Some one) (Some two) named quoted none =
     absurd (omega arith)
 
 -- where a string literal is found behind header names, it is no header name
-found_header_name-string : (allowed : Bool) (text : List ℕ) (count : ℕ) → found_header_name allowed text ≡ None → string_length text ≡ Some count → count ≤ length text → (allowed && is_header_name (take count text)) ≡ false
+found_header_name-string :
+    (allowed : Bool) (text : List ℕ) (count : ℕ) → found_header_name allowed text ≡ None → string_length text ≡ Some count → count ≤ length text
+    → (allowed && is_header_name (take count text)) ≡ false
 found_header_name-string false text count none quoted within = refl
 found_header_name-string true text count none quoted within =
     false_from_ne_true (is_header_name (take count text)) (λ named.
@@ -100,7 +105,9 @@ punctuator-kind allowed front stands_for is =
 -- What is found behind one another
 
 -- a string literal that is found behind header names is one
-found_string-IsTokenFront : (allowed : Bool) (text : List ℕ) (found : Kind × ℕ) → found_header_name allowed text ≡ None → found_of String (string_length text) ≡ Some found → IsTokenFront allowed text found
+found_string-IsTokenFront :
+    (allowed : Bool) (text : List ℕ) (found : Kind × ℕ) → found_header_name allowed text ≡ None → found_of String (string_length text) ≡ Some found
+    → IsTokenFront allowed text found
 found_string-IsTokenFront allowed text found no_header_name e =
     let inner = found_of-Some String (string_length text) found e in
     let passes = string_measures.passes text inner.0 inner.1 in
@@ -108,14 +115,17 @@ found_string-IsTokenFront allowed text found no_header_name e =
     (string-kind allowed (take inner.0 text) (found_header_name-string allowed text inner.0 no_header_name inner.1 passes.within))
 
 -- a character constant that is found is one
-found_character-IsTokenFront : (allowed : Bool) (text : List ℕ) (found : Kind × ℕ) → found_of Character (character_length text) ≡ Some found → IsTokenFront allowed text found
+found_character-IsTokenFront :
+    (allowed : Bool) (text : List ℕ) (found : Kind × ℕ) → found_of Character (character_length text) ≡ Some found → IsTokenFront allowed text found
 found_character-IsTokenFront allowed text found e =
     let inner = found_of-Some Character (character_length text) found e in
     IsTokenFront-Passes allowed text found is_character Character inner.0 inner.2 (character_measures.passes text inner.0 inner.1)
     (character-kind allowed (take inner.0 text))
 
 -- an identifier that is found is one
-found_identifier-IsTokenFront : (allowed : Bool) (text : List ℕ) (found : Kind × ℕ) → found_where (begins_identifier text) Identifier (word_length text) ≡ Some found → IsTokenFront allowed text found
+found_identifier-IsTokenFront :
+    (allowed : Bool) (text : List ℕ) (found : Kind × ℕ) → found_where (begins_identifier text) Identifier (word_length text) ≡ Some found
+    → IsTokenFront allowed text found
 found_identifier-IsTokenFront allowed text found e =
     let inner = found_where-Some (begins_identifier text) Identifier (word_length text) found e in
     IsTokenFront-Passes allowed text found is_identifier Identifier (word_length text) inner.1 (identifier-Passes text inner.0)
@@ -150,8 +160,11 @@ record NothingElse (text : List ℕ) : Type 0 where
 -- then the first byte alone is none of these
 NothingElse-IsOther : (b : ℕ) (text : List ℕ) → NothingElse (b ∷ text) → IsOther (b ∷ [])
 NothingElse-IsOther b text nothing = record {
-  no_identifier = false_from_ne_true (is_identifier (b ∷ [])) (λ is. both_ways (begins_identifier (b ∷ text)) nothing.no_identifier (identifier-longest (b ∷ []) text is).0);
-  no_number = false_from_ne_true (is_number (b ∷ [])) (λ is. both_ways (begins_number (b ∷ text)) (found_where-None (begins_number (b ∷ text)) Number _ nothing.no_number) (number-longest b [] text is).0);
+  no_identifier =
+      false_from_ne_true (is_identifier (b ∷ [])) (λ is. both_ways (begins_identifier (b ∷ text)) nothing.no_identifier (identifier-longest (b ∷ []) text is).0);
+  no_number =
+      false_from_ne_true (is_number (b ∷ []))
+      (λ is. both_ways (begins_number (b ∷ text)) (found_where-None (begins_number (b ∷ text)) Number _ nothing.no_number) (number-longest b [] text is).0);
   no_character = not_measured character_length is_character character_measures (b ∷ []) text nothing.no_character;
   no_string = not_measured string_length is_string string_measures (b ∷ []) text nothing.no_string;
 }

@@ -24,7 +24,8 @@ no_kind None refuted = refl
 no_kind (Some kind) refuted = absurd (refuted kind refl)
 
 -- each front that is a token is reached by what is found
-take-Reaches : (allowed : Bool) (text : List ℕ) (k : ℕ) (kind : Kind) → kind_in allowed (take k text) ≡ Some kind → Reaches (length (take k text)) (found_token allowed text)
+take-Reaches :
+    (allowed : Bool) (text : List ℕ) (k : ℕ) (kind : Kind) → kind_in allowed (take k text) ≡ Some kind → Reaches (length (take k text)) (found_token allowed text)
 take-Reaches allowed text k kind is =
     subst (λ (whole : List ℕ). Reaches (length (take k text)) (found_token allowed whole)) (take-append-drop k text)
     (kind_in-Reaches allowed (take k text) (drop k text) kind is)

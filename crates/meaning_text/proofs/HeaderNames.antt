@@ -15,7 +15,9 @@ name_tail_measures closing =
     (λ state. name_tail_length closing) (λ state. ends_name closing) (λ state. refl) (λ state b text. refl) (λ state. refl) (λ state b text. refl) false
 
 -- a name does not close at its first byte
-closes_name-inside : (closing b : ℕ) (text : List ℕ) (count : ℕ) → (b == closing) ≡ false → 0 < count → ends_name closing (take count (b ∷ text)) ≡ true → closes_name closing (take count (b ∷ text)) ≡ true
+closes_name-inside :
+    (closing b : ℕ) (text : List ℕ) (count : ℕ) → (b == closing) ≡ false → 0 < count → ends_name closing (take count (b ∷ text)) ≡ true
+    → closes_name closing (take count (b ∷ text)) ≡ true
 closes_name-inside closing b text zero inside some ends = absurd (omega arith)
 closes_name-inside closing b text (suc count) inside some ends = and_from _ _ (not_from_false _ inside) ends
 

@@ -35,7 +35,8 @@ unfolding kind_in
 kind_in-character text no_identifier no_number is = rw (no_identifier, no_number, is) refl
 
 -- a string literal
-pub kind_in-string : (text : List ℕ) → is_identifier text ≡ false → is_number text ≡ false → is_character text ≡ false → is_string text ≡ true → kind_in false text ≡ Some String
+pub kind_in-string :
+    (text : List ℕ) → is_identifier text ≡ false → is_number text ≡ false → is_character text ≡ false → is_string text ≡ true → kind_in false text ≡ Some String
 unfolding kind_in
 kind_in-string text no_identifier no_number no_character is = rw (no_identifier, no_number, no_character, is) refl
 

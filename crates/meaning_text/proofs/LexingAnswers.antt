@@ -43,7 +43,8 @@ HasAnswer-piece :
 HasAnswer-piece most context gap piece rest later within is_gap is_piece =
     subst (λ text. HasAnswer context text (lexed_behind (behind_piece (behind_gap context gap) piece) true rest)) (gap_text-more gap piece rest)
     (subst (λ here. HasAnswer context (gap_text (gap ++ piece ∷ []) ++ rest) (lexed_behind here true rest)) (behind_gap-more context gap piece)
-    (subst (λ space. HasAnswer context (gap_text (gap ++ piece ∷ []) ++ rest) (lexed_behind (behind_gap context (gap ++ piece ∷ [])) space rest)) (is_some_gap-more gap piece)
+    (subst (λ space. HasAnswer context (gap_text (gap ++ piece ∷ []) ++ rest) (lexed_behind (behind_gap context (gap ++ piece ∷ [])) space rest))
+    (is_some_gap-more gap piece)
     (later context (gap ++ piece ∷ []) rest within (IsGap-more gap piece rest is_gap is_piece))))
 
 -- white space in front

@@ -31,7 +31,8 @@ with_token_of context space kind first spelled rest is =
     (λ text. with_token (token_of context space kind first text) (lexed_behind (behind_token context kind text) false (drop count ((first ∷ spelled) ++ rest))))
     (ap (take count) whole ∙ take_at (bytes_of (first ∷ spelled)) (bytes_of rest) count refl)
     ∙ ap
-    (λ later. with_token (token_of context space kind first (bytes_of (first ∷ spelled))) (lexed_behind (behind_token context kind (bytes_of (first ∷ spelled))) false later))
+    (λ later. with_token (token_of context space kind first (bytes_of (first ∷ spelled)))
+    (lexed_behind (behind_token context kind (bytes_of (first ∷ spelled))) false later))
     (drop_at (first ∷ spelled) rest count (sym (length-bytes_of (first ∷ spelled))))
 
 -- the token of a text is the one that the plain function makes
@@ -55,7 +56,8 @@ lexed_behind-BeginsWith context text gap token (first ∷ spelled) rest begins =
     ap (lexed_behind context false) (begins.split ∙ append_assoc (gap_text gap) (first ∷ spelled) rest)
     ∙ lexed_behind-gap context false gap ((first ∷ spelled) ++ rest) begins.is_gap
     ∙ with_token_of here (is_some_gap gap) token.kind first spelled rest front
-    ∙ ap (λ made. with_token made (lexed_behind (behind_token here token.kind (bytes_of (first ∷ spelled))) false rest)) (token_of-BeginsWith context text gap token first spelled rest begins)
+    ∙ ap (λ made. with_token made (lexed_behind (behind_token here token.kind (bytes_of (first ∷ spelled))) false rest))
+    (token_of-BeginsWith context text gap token first spelled rest begins)
     ∙ ap (λ spelling. with_token token (lexed_behind (behind_token here token.kind spelling) false rest)) begins.spelling
 
 -- these tokens before what is found behind them

@@ -102,7 +102,8 @@ string_prefix-IsPrefixLength = record { in_text = string_prefix-in_text; in_fron
 
 module _ (prefix : List ℕ → ℕ) (is_prefix : IsPrefixLength prefix) (found : List ℕ → Option ℕ) (is : List ℕ → Bool) (measures : MeasuresFronts found is) where
   -- what is found behind a prefix passes with it
-  prefixed-passes : (text : List ℕ) (count : ℕ) → longer_by (prefix text) (found (drop (prefix text) text)) ≡ Some count → Passes (λ front. is (drop (prefix front) front)) text count
+  prefixed-passes :
+      (text : List ℕ) (count : ℕ) → longer_by (prefix text) (found (drop (prefix text) text)) ≡ Some count → Passes (λ front. is (drop (prefix front) front)) text count
   prefixed-passes text count e =
       let inner = longer_by-Some (prefix text) count (found (drop (prefix text) text)) e in
       let rest = measures.passes (drop (prefix text) text) inner.0 inner.1 in
@@ -118,7 +119,9 @@ module _ (prefix : List ℕ → ℕ) (is_prefix : IsPrefixLength prefix) (found 
       })
 
   -- and what passes with it is found
-  prefixed-finds : (front rest : List ℕ) → is (drop (prefix front) front) ≡ true → longer_by (prefix (front ++ rest)) (found (drop (prefix (front ++ rest)) (front ++ rest))) ≡ Some (length front)
+  prefixed-finds :
+      (front rest : List ℕ) → is (drop (prefix front) front) ≡ true
+      → longer_by (prefix (front ++ rest)) (found (drop (prefix (front ++ rest)) (front ++ rest))) ≡ Some (length front)
   prefixed-finds front rest passing =
       let whole = drop (prefix front) front in
       let alone = measures.passes (whole ++ []) (length whole) (measures.finds whole [] passing) in

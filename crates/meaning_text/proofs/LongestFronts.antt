@@ -21,13 +21,16 @@ use Rattle.meaning_text.proofs.FoundKinds.{found_token-IsTokenFront}
 -- Header names
 
 -- the header name that is found is no shorter, if none is
-header_name_over-IsNoShorter : (count : ℕ) (name other : Option ℕ) → ((length : ℕ) → name ≡ Some length → count ≤ length) → IsNoShorter count (header_name_over name other)
+header_name_over-IsNoShorter :
+    (count : ℕ) (name other : Option ℕ) → ((length : ℕ) → name ≡ Some length → count ≤ length) → IsNoShorter count (header_name_over name other)
 header_name_over-IsNoShorter count None other long = tt
 header_name_over-IsNoShorter count (Some length) None long = long length refl
 header_name_over-IsNoShorter count (Some length) (Some longer) long = found_where-IsNoShorter count (nat_le longer length) HeaderName length (λ within. long length refl)
 
 -- the same, where header names may not be allowed
-found_header_name-IsNoShorter : (count : ℕ) (allowed : Bool) (text : List ℕ) → ((length : ℕ) → header_name_length text ≡ Some length → count ≤ length) → IsNoShorter count (found_header_name allowed text)
+found_header_name-IsNoShorter :
+    (count : ℕ) (allowed : Bool) (text : List ℕ) → ((length : ℕ) → header_name_length text ≡ Some length → count ≤ length)
+    → IsNoShorter count (found_header_name allowed text)
 found_header_name-IsNoShorter count false text long = tt
 found_header_name-IsNoShorter count true text long = header_name_over-IsNoShorter count (header_name_length text) (string_length text) long
 
@@ -49,13 +52,17 @@ found_header_name-string count false text quoted = tt
 found_header_name-string count true text quoted = header_name_over-string count (header_name_length text) (string_length text) quoted
 
 -- and where none goes before it, the string literal is longer
-header_name_or_string : (count : ℕ) (name quoted : Option ℕ) (others : Found) → name ≡ Some count → Reaches count (or_else (header_name_over name quoted) (or_else (found_of String quoted) others))
+header_name_or_string :
+    (count : ℕ) (name quoted : Option ℕ) (others : Found) → name ≡ Some count
+    → Reaches count (or_else (header_name_over name quoted) (or_else (found_of String quoted) others))
 header_name_or_string count None quoted others named = absurd (none-some count named)
 header_name_or_string count (Some length) None others named = subst (λ (n : ℕ). count ≤ n) (sym (same_Some _ _ named)) (omega arith)
 header_name_or_string count (Some length) (Some longer) others named =
     let same : length ≡ count = same_Some _ _ named in
     elim (cases_Bool (nat_le longer length)) [
-      | inl within ↦ or_else-Reaches_first count (found_where (nat_le longer length) HeaderName length) (Some (String, longer)) (found_where-Reaches count (nat_le longer length) HeaderName length within (omega arith))
+      | inl within ↦
+          or_else-Reaches_first count (found_where (nat_le longer length) HeaderName length) (Some (String, longer))
+          (found_where-Reaches count (nat_le longer length) HeaderName length within (omega arith))
       | inr beyond ↦
           let further : length < longer = leb-false longer length beyond in
           or_else-Reaches count (found_where (nat_le longer length) HeaderName length) (Some (String, longer))
@@ -73,20 +80,30 @@ nothing_where : (count : ℕ) (holds : Bool) (kind : Kind) (length : ℕ) → ho
 nothing_where count holds kind length none = found_where-IsNoShorter count holds kind length (λ is. absurd (both_ways holds none is))
 
 -- so far as to identifiers nothing shorter is found, and what is found behind reaches so far
-module _ (count : ℕ) (allowed : Bool) (text : List ℕ) (named : IsNoShorter count (found_header_name allowed text)) (quoted : IsNoShorter count (found_of String (string_length text))) where
+module _ (count : ℕ) (allowed : Bool) (text : List ℕ) (named : IsNoShorter count (found_header_name allowed text))
+    (quoted : IsNoShorter count (found_of String (string_length text))) where
   -- what is found behind string literals
-  past_strings : Reaches count (or_else (found_of Character (character_length text)) (or_else (found_where (begins_identifier text) Identifier (word_length text)) (or_else (found_number text) (or_else (found_punctuator text) (found_stray text))))) → Reaches count (found_token allowed text)
+  past_strings :
+      Reaches count (or_else (found_of Character (character_length text))
+      (or_else (found_where (begins_identifier text) Identifier (word_length text))
+      (or_else (found_number text) (or_else (found_punctuator text) (found_stray text))))) → Reaches count (found_token allowed text)
   past_strings reaches =
       or_else-Reaches count (found_header_name allowed text) _ named
       (or_else-Reaches count (found_of String (string_length text)) _ quoted reaches)
 
   -- what is found behind character constants
-  past_characters : IsNoShorter count (found_of Character (character_length text)) → Reaches count (or_else (found_where (begins_identifier text) Identifier (word_length text)) (or_else (found_number text) (or_else (found_punctuator text) (found_stray text)))) → Reaches count (found_token allowed text)
+  past_characters :
+      IsNoShorter count (found_of Character (character_length text))
+      → Reaches count (or_else (found_where (begins_identifier text) Identifier (word_length text))
+      (or_else (found_number text) (or_else (found_punctuator text) (found_stray text)))) → Reaches count (found_token allowed text)
   past_characters single reaches = past_strings (or_else-Reaches count (found_of Character (character_length text)) _ single reaches)
 
   -- what is found behind identifiers
-  past_identifiers : IsNoShorter count (found_of Character (character_length text)) → IsNoShorter count (found_where (begins_identifier text) Identifier (word_length text)) → Reaches count (or_else (found_number text) (or_else (found_punctuator text) (found_stray text))) → Reaches count (found_token allowed text)
-  past_identifiers single word reaches = past_characters single (or_else-Reaches count (found_where (begins_identifier text) Identifier (word_length text)) _ word reaches)
+  past_identifiers :
+      IsNoShorter count (found_of Character (character_length text)) → IsNoShorter count (found_where (begins_identifier text) Identifier (word_length text))
+      → Reaches count (or_else (found_number text) (or_else (found_punctuator text) (found_stray text))) → Reaches count (found_token allowed text)
+  past_identifiers single word reaches =
+      past_characters single (or_else-Reaches count (found_where (begins_identifier text) Identifier (word_length text)) _ word reaches)
 
 -- Each kind
 
@@ -101,7 +118,8 @@ string-Reaches : (allowed : Bool) (front rest : List ℕ) → is_string front �
 string-Reaches allowed front rest is =
     let found = string_measures.finds front rest is in
     or_else-Reaches (length front) (found_header_name allowed (front ++ rest)) _ (found_header_name-string (length front) allowed (front ++ rest) found)
-    (or_else-Reaches_first (length front) (found_of String (string_length (front ++ rest))) _ (found_of-Reaches (length front) String (string_length (front ++ rest)) found))
+    (or_else-Reaches_first (length front) (found_of String (string_length (front ++ rest))) _
+    (found_of-Reaches (length front) String (string_length (front ++ rest)) found))
 
 -- each character constant
 character-Reaches : (allowed : Bool) (front rest : List ℕ) → is_character front ≡ true → Reaches (length front) (found_token allowed (front ++ rest))
@@ -113,7 +131,8 @@ character-Reaches allowed (b ∷ front) rest is =
     past_strings count allowed (b ∷ front ++ rest)
     (found_header_name-nothing count allowed (b ∷ front ++ rest) none)
     (nothing_of count String (string_length (b ∷ front ++ rest)) (string_length-character (b ∷ front ++ rest) count found))
-    (or_else-Reaches_first count (found_of Character (character_length (b ∷ front ++ rest))) _ (found_of-Reaches count Character (character_length (b ∷ front ++ rest)) found))
+    (or_else-Reaches_first count (found_of Character (character_length (b ∷ front ++ rest))) _
+    (found_of-Reaches count Character (character_length (b ∷ front ++ rest)) found))
 
 -- each identifier
 identifier-Reaches : (allowed : Bool) (front rest : List ℕ) → is_identifier front ≡ true → Reaches (length front) (found_token allowed (front ++ rest))
@@ -151,17 +170,25 @@ number_behind_punctuator b [] rest none begins = refl
 number_behind_punctuator b (c ∷ front) rest none begins = absurd (both_ways (begins_number (b ∷ c ∷ front)) none begins)
 
 -- and so has a header name
-header_name_behind_punctuator : (b : ℕ) (front rest : List ℕ) (count : ℕ) → StandsApart b front → header_name_length (b ∷ front ++ rest) ≡ Some count → length (b ∷ front) ≤ count
+header_name_behind_punctuator :
+    (b : ℕ) (front rest : List ℕ) (count : ℕ) → StandsApart b front → header_name_length (b ∷ front ++ rest) ≡ Some count → length (b ∷ front) ≤ count
 header_name_behind_punctuator b front rest count apart found =
     elim (cases_Bool (opens_header_name b)) [
       | inl opens ↦
           let passes = header_name_measures.passes (b ∷ front ++ rest) count found in
-          omega (arith, apart.within_header_name opens, length-header_name (take count (b ∷ front ++ rest)) passes.is_one, length-take-le count (b ∷ front ++ rest) passes.within)
+          omega (
+            arith,
+            apart.within_header_name opens,
+            length-header_name (take count (b ∷ front ++ rest)) passes.is_one,
+            length-take-le count
+                (b ∷ front ++ rest) passes.within,
+          )
       | inr other ↦ absurd (none-some count (sym (header_name_length-none b (front ++ rest) other) ∙ found))
     ]
 
 -- each punctuator
-punctuator-Reaches : (allowed : Bool) (front rest stands_for : List ℕ) → punctuator_of front ≡ Some stands_for → Reaches (length front) (found_token allowed (front ++ rest))
+punctuator-Reaches :
+    (allowed : Bool) (front rest stands_for : List ℕ) → punctuator_of front ≡ Some stands_for → Reaches (length front) (found_token allowed (front ++ rest))
 punctuator-Reaches allowed [] rest stands_for is = absurd (omega (arith, length-punctuator [] stands_for is))
 punctuator-Reaches allowed (b ∷ front) rest stands_for is =
     let apart = punctuator-StandsApart b front stands_for is in
@@ -201,7 +228,8 @@ stray-Reaches allowed (b ∷ []) rest is =
 stray-Reaches allowed (b ∷ c ∷ front) rest is = absurd (true≢false (sym is))
 
 -- What is found at the front of a text reaches as far as each front that is a token.
-pub kind_in-Reaches : (allowed : Bool) (front rest : List ℕ) (kind : Kind) → kind_in allowed front ≡ Some kind → Reaches (length front) (found_token allowed (front ++ rest))
+pub kind_in-Reaches :
+    (allowed : Bool) (front rest : List ℕ) (kind : Kind) → kind_in allowed front ≡ Some kind → Reaches (length front) (found_token allowed (front ++ rest))
 kind_in-Reaches allowed front rest kind of_kind =
     elim (kind_cases allowed front) [
       | OfHeaderName allowing is ↦ header_name-Reaches allowed front rest allowing is

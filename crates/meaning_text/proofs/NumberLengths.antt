@@ -11,7 +11,9 @@ use Rattle.meaning_text.proofs.UniversalNames.{universal_length-append, universa
 use Rattle.meaning_text.proofs.WordLengths.{word_length-more, word_length-none, universal_length-word_length, word_goes_on-append, word_goes_on-take}
 
 -- a byte that goes on counts
-number_tail_length-more : (sign : Bool) (left b : ℕ) (text : List ℕ) → number_goes_on sign (b ∷ text) ≡ true → number_tail_length sign left (b ∷ text) ≡ suc (number_tail_length (sign_behind left b) (universal_left left (b ∷ text)) text)
+number_tail_length-more :
+    (sign : Bool) (left b : ℕ) (text : List ℕ) → number_goes_on sign (b ∷ text) ≡ true
+    → number_tail_length sign left (b ∷ text) ≡ suc (number_tail_length (sign_behind left b) (universal_left left (b ∷ text)) text)
 number_tail_length-more sign left b text goes_on = cond-true (number_goes_on sign (b ∷ text)) _ 0 goes_on
 
 -- another ends the number
@@ -23,7 +25,8 @@ number_tail_length-within : (sign : Bool) (left : ℕ) (text : List ℕ) → num
 number_tail_length-within sign left [] = omega arith
 number_tail_length-within sign left (b ∷ text) =
     elim (cases_Bool (number_goes_on sign (b ∷ text))) [
-      | inl goes_on ↦ omega (arith, number_tail_length-more sign left b text goes_on, number_tail_length-within (sign_behind left b) (universal_left left (b ∷ text)) text)
+      | inl goes_on ↦
+          omega (arith, number_tail_length-more sign left b text goes_on, number_tail_length-within (sign_behind left b) (universal_left left (b ∷ text)) text)
       | inr ends ↦ omega (arith, number_tail_length-none sign left b text ends)
     ]
 
@@ -47,7 +50,9 @@ word_length-number_tail_length sign left (b ∷ text) =
     ]
 
 -- if what goes on with an identifier stays, what goes on with a number stays
-number_goes_on-kept : (sign : Bool) (b : ℕ) (text other : List ℕ) → (word_goes_on (b ∷ text) ≡ true → word_goes_on (b ∷ other) ≡ true) → number_goes_on sign (b ∷ text) ≡ true → number_goes_on sign (b ∷ other) ≡ true
+number_goes_on-kept :
+    (sign : Bool) (b : ℕ) (text other : List ℕ) → (word_goes_on (b ∷ text) ≡ true → word_goes_on (b ∷ other) ≡ true) → number_goes_on sign (b ∷ text) ≡ true
+    → number_goes_on sign (b ∷ other) ≡ true
 number_goes_on-kept sign b text other kept is =
     ⊎_elim
     (λ inside. ⊎_elim
@@ -62,7 +67,8 @@ goes_on-backslash : (b : ℕ) (universal sign : Bool) → (b == backslash) ≡ t
 goes_on-backslash b universal sign is goes_on = grind (arith, nat_tests)
 
 -- what a name leaves is the same in a front and in the text
-universal_length-front : (sign : Bool) (b : ℕ) (front rest : List ℕ) → number_goes_on sign (b ∷ front) ≡ true → universal_length (b ∷ front ++ rest) ≡ universal_length (b ∷ front)
+universal_length-front :
+    (sign : Bool) (b : ℕ) (front rest : List ℕ) → number_goes_on sign (b ∷ front) ≡ true → universal_length (b ∷ front ++ rest) ≡ universal_length (b ∷ front)
 universal_length-front sign b front rest goes_on =
     elim (cases_Bool (begins_universal (b ∷ front))) [
       | inl is ↦ universal_length-append (b ∷ front) rest is
@@ -77,7 +83,8 @@ universal_left-same : (left : ℕ) (text other : List ℕ) → universal_length 
 universal_left-same left text other same = ap (λ (n : ℕ). if nat_lt 0 n then pred n else pred left) same
 
 -- no longer front goes on as a number does
-length-is_number_tail : (sign : Bool) (left : ℕ) (front rest : List ℕ) → is_number_tail sign left front ≡ true → length front ≤ number_tail_length sign left (front ++ rest)
+length-is_number_tail :
+    (sign : Bool) (left : ℕ) (front rest : List ℕ) → is_number_tail sign left front ≡ true → length front ≤ number_tail_length sign left (front ++ rest)
 length-is_number_tail sign left [] rest is = omega arith
 length-is_number_tail sign left (b ∷ front) rest is =
     let parts = and_parts (number_goes_on sign (b ∷ front)) _ is in
@@ -97,7 +104,10 @@ is_number_tail-take sign left (b ∷ text) =
           let behind = is_number_tail-take (sign_behind left b) (universal_left left (b ∷ text)) text in
           let count : ℕ = number_tail_length (sign_behind left b) (universal_left left (b ∷ text)) text in
           let enough = word_length-number_tail_length (sign_behind left b) (universal_left left (b ∷ text)) text in
-          let same = universal_left-same left (b ∷ text) (b ∷ take count text) (sym (universal_length-take (b ∷ text) (suc count) (omega (arith, universal_length-word_length b text, enough)))) in
+          let same =
+          universal_left-same left (b ∷ text) (b ∷ take count text)
+          (sym (universal_length-take (b ∷ text) (suc count) (omega (arith, universal_length-word_length b text, enough))))
+          in
           subst IsTail (sym (number_tail_length-more sign left b text goes_on))
           (and_from _ _
           (number_goes_on-kept sign b text (take count text) (word_goes_on-take b text count enough) goes_on)
@@ -118,7 +128,8 @@ begins_digit-take sign left (b ∷ text) is =
     subst (λ (count : ℕ). begins_digit (take count (b ∷ text)) ≡ true) (sym (number_tail_length-more sign left b text goes_on)) is
 
 -- if the digit behind a dot stays, a number begins still
-begins_number-kept : (b : ℕ) (text other : List ℕ) → (begins_digit text ≡ true → begins_digit other ≡ true) → begins_number (b ∷ text) ≡ true → begins_number (b ∷ other) ≡ true
+begins_number-kept :
+    (b : ℕ) (text other : List ℕ) → (begins_digit text ≡ true → begins_digit other ≡ true) → begins_number (b ∷ text) ≡ true → begins_number (b ∷ other) ≡ true
 begins_number-kept b text other kept is =
     ⊎_elim
     (λ digit. or_left _ _ digit)
@@ -138,7 +149,9 @@ number-Passes b text begins = record {
 }
 
 -- and no longer front is one
-pub number-longest : (b : ℕ) (front rest : List ℕ) → is_number (b ∷ front) ≡ true → (begins_number (b ∷ front ++ rest) ≡ true) × (length front ≤ number_tail_length false 0 (front ++ rest))
+pub number-longest :
+    (b : ℕ) (front rest : List ℕ) → is_number (b ∷ front) ≡ true
+    → (begins_number (b ∷ front ++ rest) ≡ true) × (length front ≤ number_tail_length false 0 (front ++ rest))
 number-longest b front rest is =
     let parts = and_parts (begins_number (b ∷ front)) (is_number_tail false 0 front) is in
     (begins_number-kept b front (front ++ rest) (begins_digit-append front rest) parts.0, length-is_number_tail false 0 front rest parts.1)

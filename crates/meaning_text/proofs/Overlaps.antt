@@ -32,7 +32,9 @@ word_goes_on-byte b text is =
     (or_cases (is_word_byte b) (begins_universal (b ∷ text)) is)
 
 -- a word in which a literal opens is empty
-length-word_quoted : (quote : ℕ) (front rest : List ℕ) (count : ℕ) → is_quotation_mark quote ≡ true → is_word front ≡ true → quoted_length quote (front ++ rest) ≡ Some count → length front ≡ 0
+length-word_quoted :
+    (quote : ℕ) (front rest : List ℕ) (count : ℕ) → is_quotation_mark quote ≡ true → is_word front ≡ true → quoted_length quote (front ++ rest) ≡ Some count
+    → length front ≡ 0
 length-word_quoted quote [] rest count mark word found = refl
 length-word_quoted quote (b ∷ front) rest count mark word found =
     elim (cases_Bool (b == quote)) [
@@ -41,7 +43,9 @@ length-word_quoted quote (b ∷ front) rest count mark word found =
     ]
 
 -- a literal is longer than each word that begins where it begins
-length-word_prefixed : (prefix quote : ℕ) (front rest : List ℕ) (count : ℕ) → is_quotation_mark quote ≡ true → is_word front ≡ true → longer_by prefix (quoted_length quote (drop prefix (front ++ rest))) ≡ Some count → length front < count
+length-word_prefixed :
+    (prefix quote : ℕ) (front rest : List ℕ) (count : ℕ) → is_quotation_mark quote ≡ true → is_word front ≡ true
+    → longer_by prefix (quoted_length quote (drop prefix (front ++ rest))) ≡ Some count → length front < count
 length-word_prefixed prefix quote front rest count mark word found =
     let inner = longer_by-Some prefix count (quoted_length quote (drop prefix (front ++ rest))) found in
     let some = ((quoted_measures quote).passes (drop prefix (front ++ rest)) inner.0 inner.1).some in
@@ -73,7 +77,8 @@ double_quote-quote : (c : ℕ) → (c == single_quote) ≡ true → (c == double
 double_quote-quote c is = grind (arith, nat_tests)
 
 -- where a prefix is, its quotation mark stands behind it
-prefixed_character : (b : ℕ) (text : List ℕ) (count : ℕ) → longer_by 1 (quoted_length single_quote text) ≡ Some count → is_prefix_letter b ≡ true → string_length (b ∷ text) ≡ None
+prefixed_character :
+    (b : ℕ) (text : List ℕ) (count : ℕ) → longer_by 1 (quoted_length single_quote text) ≡ Some count → is_prefix_letter b ≡ true → string_length (b ∷ text) ≡ None
 prefixed_character b [] count found letter = absurd (none-some count found)
 prefixed_character b (c ∷ text) count found letter =
     elim (cases_Bool (c == single_quote)) [
@@ -84,7 +89,8 @@ prefixed_character b (c ∷ text) count found letter =
     ]
 
 -- nor where one stands without a prefix
-bare_character : (b : ℕ) (text : List ℕ) (count : ℕ) → longer_by 0 (quoted_length single_quote (b ∷ text)) ≡ Some count → is_prefix_letter b ≡ false → string_length (b ∷ text) ≡ None
+bare_character :
+    (b : ℕ) (text : List ℕ) (count : ℕ) → longer_by 0 (quoted_length single_quote (b ∷ text)) ≡ Some count → is_prefix_letter b ≡ false → string_length (b ∷ text) ≡ None
 bare_character b text count found letter =
     elim (cases_Bool (b == single_quote)) [
       | inl here ↦

@@ -17,7 +17,9 @@ use Rattle.meaning_text.proofs.Finding.{or_else-Some, found_spelling-Some, IsNoS
 -- The table
 
 -- what passes with each spelling of a table passes with a spelling that is found there
-punctuator_among-passes : (test : List ℕ → Bool) (rows : List PunctuatorRow) (text stands_for : List ℕ) → list_all (λ row. test row.spelling) rows ≡ true → punctuator_among rows text ≡ Some stands_for → test text ≡ true
+punctuator_among-passes :
+    (test : List ℕ → Bool) (rows : List PunctuatorRow) (text stands_for : List ℕ) → list_all (λ row. test row.spelling) rows ≡ true
+    → punctuator_among rows text ≡ Some stands_for → test text ≡ true
 punctuator_among-passes test [] text stands_for all found = absurd (none-some stands_for found)
 punctuator_among-passes test (row ∷ rows) text stands_for all found =
     let parts = and_parts (test row.spelling) (list_all (λ other. test other.spelling) rows) all in
@@ -27,7 +29,8 @@ punctuator_among-passes test (row ∷ rows) text stands_for all found =
     ]
 
 -- so it is with the table of punctuators
-punctuator_of-passes : (test : List ℕ → Bool) (text stands_for : List ℕ) → list_all (λ row. test row.spelling) punctuators ≡ true → punctuator_of text ≡ Some stands_for → test text ≡ true
+punctuator_of-passes :
+    (test : List ℕ → Bool) (text stands_for : List ℕ) → list_all (λ row. test row.spelling) punctuators ≡ true → punctuator_of text ≡ Some stands_for → test text ≡ true
 unfolding punctuator_of
 punctuator_of-passes test text stands_for all found = punctuator_among-passes test punctuators text stands_for all found
 
@@ -157,7 +160,9 @@ found_punctuator_of-IsNoShorter least count text below within =
     found_spelling-IsNoShorter least (punctuator_of (take count text)) (take count text) (omega (arith, length-take count text))
 
 -- a front that is a punctuator is found among fronts of its length
-found_punctuator_of-Reaches : (count : ℕ) (front rest stands_for : List ℕ) → length front ≡ count → punctuator_of front ≡ Some stands_for → Reaches count (found_punctuator_of count (front ++ rest))
+found_punctuator_of-Reaches :
+    (count : ℕ) (front rest stands_for : List ℕ) → length front ≡ count → punctuator_of front ≡ Some stands_for
+    → Reaches count (found_punctuator_of count (front ++ rest))
 found_punctuator_of-Reaches count front rest stands_for size is =
     let whole = take_at front rest count size in
     subst (λ (spelling : List ℕ). Reaches count (found_spelling (punctuator_of spelling) spelling)) (sym whole)

@@ -34,9 +34,11 @@ is_empty-true (b ∷ text) empty = absurd (true≢false (sym empty))
 
 module _ (stops : ℕ → Bool) (closes next : Bool → ℕ → Bool) (found : Bool → List ℕ → Option ℕ) (ends : Bool → List ℕ → Bool)
     (found-nil : (state : Bool) → found state [] ≡ None)
-    (found-cons : (state : Bool) (b : ℕ) (text : List ℕ) → found state (b ∷ text) ≡ (if stops b then None else (if closes state b then Some 1 else longer_by 1 (found (next state b) text))))
+    (found-cons : (state : Bool) (b : ℕ) (text : List ℕ)
+    → found state (b ∷ text) ≡ (if stops b then None else (if closes state b then Some 1 else longer_by 1 (found (next state b) text))))
     (ends-nil : (state : Bool) → ends state [] ≡ false)
-    (ends-cons : (state : Bool) (b : ℕ) (text : List ℕ) → ends state (b ∷ text) ≡ (not (stops b) && (if closes state b then is_empty text else ends (next state b) text))) where
+    (ends-cons : (state : Bool) (b : ℕ) (text : List ℕ)
+    → ends state (b ∷ text) ≡ (not (stops b) && (if closes state b then is_empty text else ends (next state b) text))) where
   -- the front of the found length ends where it should
   scan-passes : (state : Bool) (text : List ℕ) (count : ℕ) → found state text ≡ Some count → Passes (ends state) text count
   scan-passes state [] count e = absurd (none-some count (sym (found-nil state) ∙ e))
@@ -67,7 +69,8 @@ module _ (stops : ℕ → Bool) (closes next : Bool → ℕ → Bool) (found : B
               let empty : front ≡ [] = is_empty-true front (rw (goes, close) at here) in
               found-cons state b (front ++ rest) ∙ rw (goes, close) (ap (λ (tail : List ℕ). Some (length (b ∷ tail))) (sym empty))
           | inr further ↦
-              found-cons state b (front ++ rest) ∙ rw (goes, further) (ap (longer_by 1) (scan-finds (next state b) front rest (rw (goes, further) at here)) ∙ ap Some (one-add (length front)))
+              found-cons state b (front ++ rest)
+              ∙ rw (goes, further) (ap (longer_by 1) (scan-finds (next state b) front rest (rw (goes, further) at here)) ∙ ap Some (one-add (length front)))
         ]
       ]
 

@@ -66,13 +66,15 @@ begins_universal-cases b c text is =
     ]
 
 -- the digits behind the letter are what counts
-short_name-kept : (b c : ℕ) (text other : List ℕ) → (begins_hexadecimal 4 text ≡ true → begins_hexadecimal 4 other ≡ true) → short_name b c text ≡ true → short_name b c other ≡ true
+short_name-kept :
+    (b c : ℕ) (text other : List ℕ) → (begins_hexadecimal 4 text ≡ true → begins_hexadecimal 4 other ≡ true) → short_name b c text ≡ true → short_name b c other ≡ true
 short_name-kept b c text other digits short =
     let parts = and_parts (b == backslash && c == lower_u) _ short in
     and_from _ _ parts.0 (digits parts.1)
 
 -- the same with eight digits
-long_name-kept : (b c : ℕ) (text other : List ℕ) → (begins_hexadecimal 8 text ≡ true → begins_hexadecimal 8 other ≡ true) → long_name b c text ≡ true → long_name b c other ≡ true
+long_name-kept :
+    (b c : ℕ) (text other : List ℕ) → (begins_hexadecimal 8 text ≡ true → begins_hexadecimal 8 other ≡ true) → long_name b c text ≡ true → long_name b c other ≡ true
 long_name-kept b c text other digits long =
     let parts = and_parts (b == backslash && c == upper_u) _ long in
     and_from _ _ parts.0 (digits parts.1)

@@ -76,7 +76,8 @@ word_goes_on-append (b ∷ front) rest is =
     (or_cases (is_word_byte b) (begins_universal (b ∷ front)) is)
 
 -- a name at the front of a text is in the word that begins there
-begins_universal-front : (b : ℕ) (text : List ℕ) (taken : ℕ) → word_length text ≤ taken → begins_universal (b ∷ text) ≡ true → begins_universal (b ∷ take taken text) ≡ true
+begins_universal-front :
+    (b : ℕ) (text : List ℕ) (taken : ℕ) → word_length text ≤ taken → begins_universal (b ∷ text) ≡ true → begins_universal (b ∷ take taken text) ≡ true
 begins_universal-front b text taken enough is =
     begins_universal-take (b ∷ text) (suc taken) (omega (arith, universal_length-word_length b text)) is
 

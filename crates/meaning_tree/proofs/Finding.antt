@@ -21,11 +21,13 @@ slice_get-append_right (x ∷ xs) ys k (suc i) is = slice_get-append_right xs ys
 -- Handles
 
 -- a handle has one node
-pub node_unique : {Spelling : Type 0} (list : NodeList Spelling) (handle : ℕ) (node other : TreeNode Spelling) → HasNode list handle node → HasNode list handle other → node ≡ other
+pub node_unique :
+    {Spelling : Type 0} (list : NodeList Spelling) (handle : ℕ) (node other : TreeNode Spelling) → HasNode list handle node → HasNode list handle other → node ≡ other
 node_unique list handle node other has also = same_Some node other (sym has.1 ∙ also.1)
 
 -- each handle of the list has a node
-pub HasNode-exists : {Spelling : Type 0} (list : NodeList Spelling) (handle : ℕ) → list.first ≤ handle → handle < end_of list → (node : TreeNode Spelling) × HasNode list handle node
+pub HasNode-exists :
+    {Spelling : Type 0} (list : NodeList Spelling) (handle : ℕ) → list.first ≤ handle → handle < end_of list → (node : TreeNode Spelling) × HasNode list handle node
 HasNode-exists list handle from below =
     ⊎_elim
     (λ within. (within.0, (from, within.2)))
@@ -62,25 +64,32 @@ pub end_of-joined : {Spelling : Type 0} (list part : NodeList Spelling) → part
 end_of-joined list part begins = omega (arith, begins, length-append list.nodes part.nodes)
 
 -- a node keeps its handle where nodes are added
-pub HasNode-grows : {Spelling : Type 0} (before after : NodeList Spelling) → Grows before after → (handle : ℕ) (node : TreeNode Spelling) → HasNode before handle node → HasNode after handle node
+pub HasNode-grows :
+    {Spelling : Type 0} (before after : NodeList Spelling) → Grows before after → (handle : ℕ) (node : TreeNode Spelling) → HasNode before handle node
+    → HasNode after handle node
 HasNode-grows before after grows handle node has = (
   omega (arith, grows.0, has.0),
   ap₂ slice_get grows.1.1 (ap (λ first. handle - first) grows.0) ∙ slice_get-append_left before.nodes grows.1.0 (handle - before.first) node has.1,
 )
 
 -- a node of the front keeps its handle in a joined list
-pub HasNode-joined_front : {Spelling : Type 0} (list part : NodeList Spelling) (handle : ℕ) (node : TreeNode Spelling) → HasNode list handle node → HasNode (joined list part) handle node
+pub HasNode-joined_front :
+    {Spelling : Type 0} (list part : NodeList Spelling) (handle : ℕ) (node : TreeNode Spelling) → HasNode list handle node → HasNode (joined list part) handle node
 HasNode-joined_front list part = HasNode-grows list (joined list part) (Grows-joined list part)
 
 -- so does a node of the part behind
-pub HasNode-joined_part : {Spelling : Type 0} (list part : NodeList Spelling) → part.first ≡ end_of list → (handle : ℕ) (node : TreeNode Spelling) → HasNode part handle node → HasNode (joined list part) handle node
+pub HasNode-joined_part :
+    {Spelling : Type 0} (list part : NodeList Spelling) → part.first ≡ end_of list → (handle : ℕ) (node : TreeNode Spelling) → HasNode part handle node
+    → HasNode (joined list part) handle node
 HasNode-joined_part list part begins handle node has = (
   omega (arith, begins, has.0),
   slice_get-append_right list.nodes part.nodes (handle - part.first) (handle - list.first) (omega (arith, begins, has.0)) ∙ has.1,
 )
 
 -- and the joined list has no other nodes
-pub HasNode-joined_cases : {Spelling : Type 0} (list part : NodeList Spelling) → part.first ≡ end_of list → (handle : ℕ) (node : TreeNode Spelling) → HasNode (joined list part) handle node → HasNode list handle node ⊎ HasNode part handle node
+pub HasNode-joined_cases :
+    {Spelling : Type 0} (list part : NodeList Spelling) → part.first ≡ end_of list → (handle : ℕ) (node : TreeNode Spelling)
+    → HasNode (joined list part) handle node → HasNode list handle node ⊎ HasNode part handle node
 HasNode-joined_cases list part begins handle node has =
     ⊎_elim
     (λ within. inl (has.0, within.2 ∙ sym (slice_get-append_left list.nodes part.nodes (handle - list.first) within.0 within.2) ∙ has.1))
@@ -97,11 +106,14 @@ pub stand_before-nil : {Spelling : Type 0} (first : ℕ) → ChildrenStandBefore
 stand_before-nil first handle node has = absurd (omega (arith, slice_get_within [] (handle - first) node has.1))
 
 -- and where a part is joined in which they do, too
-pub stand_before-joined : {Spelling : Type 0} (list part : NodeList Spelling) → part.first ≡ end_of list → ChildrenStandBefore list → ChildrenStandBefore part → ChildrenStandBefore (joined list part)
+pub stand_before-joined :
+    {Spelling : Type 0} (list part : NodeList Spelling) → part.first ≡ end_of list → ChildrenStandBefore list → ChildrenStandBefore part
+    → ChildrenStandBefore (joined list part)
 stand_before-joined list part begins front behind handle node has =
     ⊎_elim
     (λ of_list. front handle node of_list)
-    (λ of_part. All-weaker (λ child. (part.first ≤ child.0) × (child.0 < handle)) (λ child. (list.first ≤ child.0) × (child.0 < handle)) (λ child stands. (omega (arith, begins, stands.0), stands.1)) node.children (behind handle node of_part))
+    (λ of_part. All-weaker (λ child. (part.first ≤ child.0) × (child.0 < handle)) (λ child. (list.first ≤ child.0) × (child.0 < handle))
+    (λ child stands. (omega (arith, begins, stands.0), stands.1)) node.children (behind handle node of_part))
     (HasNode-joined_cases list part begins handle node has)
 
 -- a node that is added has the next handle
@@ -109,7 +121,9 @@ pub HasNode-added : {Spelling : Type 0} (list : NodeList Spelling) (node : TreeN
 HasNode-added list node = (omega arith, slice_get-append_right list.nodes (node ∷ []) 0 (end_of list - list.first) (omega arith))
 
 -- where there is one node, it has the first handle
-HasNode-alone : {Spelling : Type 0} (first : ℕ) (node : TreeNode Spelling) (handle : ℕ) (other : TreeNode Spelling) → HasNode (record { first = first; nodes = node ∷ [] }) handle other → (first ≡ handle) × (node ≡ other)
+HasNode-alone :
+    {Spelling : Type 0} (first : ℕ) (node : TreeNode Spelling) (handle : ℕ) (other : TreeNode Spelling)
+    → HasNode (record { first = first; nodes = node ∷ [] }) handle other → (first ≡ handle) × (node ≡ other)
 HasNode-alone {Spelling} first node handle other has =
     let is_first : first ≡ handle = omega (arith, has.0, slice_get_within (node ∷ []) (handle - first) other has.1) in
     (is_first, same_Some node other (subst (λ k. slice_get {X = TreeNode Spelling} (node ∷ []) k ≡ Some other) (alone is_first) has.1))
@@ -118,7 +132,9 @@ HasNode-alone {Spelling} first node handle other has =
     alone is_first = omega (arith, is_first)
 
 -- children stand before their parents where one node is added, whose children are in the list
-pub stand_before-added : {Spelling : Type 0} (list : NodeList Spelling) (node : TreeNode Spelling) → ChildrenStandBefore list → All (λ child. (list.first ≤ child.0) × (child.0 < end_of list)) node.children → ChildrenStandBefore (with_node list node)
+pub stand_before-added :
+    {Spelling : Type 0} (list : NodeList Spelling) (node : TreeNode Spelling) → ChildrenStandBefore list
+    → All (λ child. (list.first ≤ child.0) × (child.0 < end_of list)) node.children → ChildrenStandBefore (with_node list node)
 stand_before-added list node order children handle other has =
     ⊎_elim
     (λ of_list. order handle other of_list)

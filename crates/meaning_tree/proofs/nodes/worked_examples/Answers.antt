@@ -32,8 +32,22 @@ returns-clause-parts c = record {
 
 pub returns-clause-nodes : goal.returns-clause-nodes
 returns-clause-nodes c = record {
-  tree = (omega arith, ((2, 0) ∷ [], (omega arith, refl), (refl, ((0, 0) ∷ (1, 0) ∷ [], (omega arith, refl), (refl, ([], (omega arith, refl), tt), (refl, ([], (omega arith, refl), tt), tt))), tt)));
+  tree = (
+    omega arith,
+    (
+      (2, 0) ∷ [],
+      (omega arith, refl),
+      (refl, ((0, 0) ∷ (1, 0) ∷ [], (omega arith, refl), (refl, ([], (omega arith, refl), tt), (refl, ([], (omega arith, refl), tt), tt))), tt),
+    ),
+  );
   in_order = assignment_order;
-  in_two_parts = (omega arith, ((2, 0) ∷ [], (omega arith, refl), (refl, ((0, 0) ∷ (1, 0) ∷ [], (omega arith, refl), (refl, ([], (omega arith, refl), tt), (refl, ([], (omega arith, refl), tt), tt))), tt)));
+  in_two_parts = (
+    omega arith,
+    (
+      (2, 0) ∷ [],
+      (omega arith, refl),
+      (refl, ((0, 0) ∷ (1, 0) ∷ [], (omega arith, refl), (refl, ([], (omega arith, refl), tt), (refl, ([], (omega arith, refl), tt), tt))), tt),
+    ),
+  );
   part_alone = λ order. absurd (omega (arith, (order 2 (node_at Assignment 1 [] ((0, 0) ∷ (1, 0) ∷ [])) (omega arith, refl) 0 (0, 0) (omega arith)).0));
 }

@@ -1,5 +1,5 @@
 -- Worked examples: small units, with runs of them.
-use Rattle.std.specs.Prelude.{◌≡◌, ℕ, suc, zero, true, false, pos, List, [], ◌∷◌, Some, None, codes, replicate}
+use Rattle.std.specs.Prelude.{◌≡◌, ℕ, ◌+◌, suc, zero, true, false, pos, List, [], ◌∷◌, Some, None, codes, replicate}
 use Rattle.std.specs.List.{flat_map, list_all}
 use Rattle.meaning_types.specs.Types.{IntKind, no_flags, TypeTree, Typed, IntegerTree}
 use Rattle.meaning_tree.specs.Kinds.{CompoundStatement, ExpressionStatement}
@@ -17,7 +17,7 @@ use Rattle.meaning_machine.specs.Values.{Spot, Null, Foreign, In, Value, Integer
 use Rattle.meaning_machine.specs.Outcomes.{NullPointer, ForeignPointer, IndeterminateValue, AccessFault, SpaceFault, ShapeFault, Gives, IsUndefined}
 use Rattle.meaning_machine.specs.Memory.{adopt, load}
 use Rattle.meaning_machine.specs.Code.{ValueCode, statement_code}
-use Rattle.meaning_machine.specs.Machine.{Control, EnterStatement, Finished, Outcome, Next, Done, Undefined, Fault, step}
+use Rattle.meaning_machine.specs.Machine.{Control, EnterStatement, Leave, Finished, Outcome, Next, Done, Undefined, Fault, step}
 use Rattle.meaning_machine.specs.Runs.{World, Move, Start, Step, Write, Runs}
 use Rattle.meaning_machine.specs.Played.{onto, outcome_of}
 
@@ -110,18 +110,22 @@ abbrev pub silent_unit : List Item
 silent_unit = Object [] 2 (codes "p") ∷ Object [] 1 (codes "q") ∷ Object [] 0 (codes "x") ∷ Object [] 0 (codes "y") ∷ function_of silent_body ∷ []
 
 -- two activities run the function, step by step in turn, behind a write of 7 into `y`
-abbrev pub silent_moves : List Move
-silent_moves = Start 4 ∷ Write 3 [] (int_of 7) ∷ Start 4 ∷ turns 38
+abbrev pub silent_moves : ℕ → List Move
+silent_moves count = Start 4 ∷ Write 3 [] (int_of 7) ∷ Start 4 ∷ turns count
+
+-- they enter the body, take 6 steps for each plain assignment and 9 for each through a pointer, and leave
+abbrev pub SilentUnitLeaves : Type 0
+SilentUnitLeaves = Ends silent_unit (silent_moves (1 + 6 + 6 + 9 + 6 + 9)) (Leave ∷ Leave ∷ []) 2 plain_int (int_of 7)
 
 -- both activities end, and `p` points to `q`
 abbrev pub SilentUnitEnds : Type 0
 SilentUnitEnds =
-    Ends silent_unit silent_moves (Finished ∷ Finished ∷ []) 0
+    Ends silent_unit (silent_moves 38) (Finished ∷ Finished ∷ []) 0
     (pointer_to (pointer_to plain_int)) (Pointer (pointer_to plain_int) (object_spot 1))
 
 -- and `x` is 7
 abbrev pub SilentUnitCopies : Type 0
-SilentUnitCopies = Ends silent_unit silent_moves (Finished ∷ Finished ∷ []) 2 plain_int (int_of 7)
+SilentUnitCopies = Ends silent_unit (silent_moves 38) (Finished ∷ Finished ∷ []) 2 plain_int (int_of 7)
 
 -- `extern int *q; extern int x; void f(void) { *q = x; }`
 abbrev pub through_unit : List Item

@@ -1,6 +1,6 @@
 -- Worked examples: the numbers of each kind, what fits, single loads and stores, and blocks that outlast others.
 use Rattle.std.specs.Prelude.{◌≡◌, ℕ, ◌-◌, ◌^◌, Bool, true, false, ℤ, pos, negsuc, List, [], ◌∷◌, Some, None, map, replicate, codes}
-use Rattle.meaning_types.specs.Types.{Kind, BoolKind, CharKind, SignedCharKind, UnsignedCharKind, ShortKind, UnsignedShortKind, IntKind, UnsignedIntKind, LongKind, UnsignedLongKind, LongLongKind, UnsignedLongLongKind, TypeTree}
+use Rattle.meaning_types.specs.Types.{Kind, BoolKind, CharKind, SignedCharKind, UnsignedCharKind, ShortKind, UnsignedShortKind, IntKind, UnsignedIntKind, LongKind, UnsignedLongKind, LongLongKind, UnsignedLongLongKind, NumberedSpace, Flags, TypeTree}
 use Rattle.meaning_syntax.specs.Items.{Object}
 use Rattle.meaning_syntax.specs.Trees.{unit_tree}
 use Rattle.meaning_rules.specs.Bindings.{pointer_to}
@@ -50,6 +50,10 @@ dead = int_block plain_int false 3 ∷ []
 abbrev pub constant : List Block
 constant = int_block const_int true 3 ∷ []
 
+-- the flags that `__attribute__((address_space(2)))` gives
+abbrev pub space_flags : Flags
+space_flags = record { noderef = false; space = NumberedSpace 2 }
+
 -- a block for a function
 abbrev pub function_block : Block
 function_block = record { made = ForFunction; is_alive = true; cells = [] }
@@ -79,7 +83,9 @@ pub record RowExamples : Type 0 where
   pub dead_loaded_behind_the_end : load dead (record { type_ = plain_int; spot = behind_the_end }) ≡ IsUndefined DeadBlock
   -- a fault is looked for before what is undefined
   pub loaded_as_pointer : load dead (record { type_ = pointer_to plain_int; spot = object_spot 0 }) ≡ IsFault ShapeFault
-  pub flagged_null_loaded : load [] (record { type_ = int_with noderef_flags; spot = Null }) ≡ IsFault AccessFault
+  pub noderef_null_loaded : load [] (record { type_ = int_with noderef_flags; spot = Null }) ≡ IsFault AccessFault
+  -- a space alone is a flag too
+  pub space_null_loaded : load [] (record { type_ = int_with space_flags; spot = Null }) ≡ IsFault AccessFault
   -- what is no object of this type is none that one may load
   pub function_loaded : load (function_block ∷ []) (record { type_ = plain_int; spot = object_spot 0 }) ≡ IsFault ShapeFault
   pub no_block_loaded : load [] (record { type_ = plain_int; spot = object_spot 0 }) ≡ IsFault ShapeFault

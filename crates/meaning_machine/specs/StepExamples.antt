@@ -1,12 +1,15 @@
 -- Worked examples: single steps that no run of the small units takes, or that end one.
 use Rattle.std.specs.Prelude.{◌≡◌, true, List, [], ◌∷◌, ◌++◌, Some, None, codes}
+use Rattle.meaning_types.specs.Types.{Flags}
 use Rattle.meaning_rules.specs.Bindings.{Binding, pointer_to}
+use Rattle.meaning_rules.specs.Typing.{int_with}
+use Rattle.meaning_rules.specs.Examples.{noderef_flags}
 use Rattle.meaning_machine.specs.Values.{Null, Value, Pointer, Place, ForObject, Block}
-use Rattle.meaning_machine.specs.Outcomes.{NullPointer, ShapeFault}
+use Rattle.meaning_machine.specs.Outcomes.{NullPointer, AccessFault, ShapeFault}
 use Rattle.meaning_machine.specs.Code.{Named}
 use Rattle.meaning_machine.specs.Machine.{ThenLoad, AfterValue, ThenStore, ThenGoOn, EnterBody, EnterPlace, Load, Move, Store, Leave, Finished, Next, Done, Undefined, Fault, step}
 use Rattle.meaning_machine.specs.Examples.{plain_int, int_of, object_spot}
-use Rattle.meaning_machine.specs.RowExamples.{living}
+use Rattle.meaning_machine.specs.RowExamples.{living, space_flags}
 
 -- `extern int *p; extern int *q; void f(void) { .. }`
 abbrev pub two_pointers : List Binding
@@ -38,6 +41,10 @@ int_place = record { type_ = plain_int; spot = object_spot 0 }
 abbrev pub null_place : Place
 null_place = record { type_ = plain_int; spot = Null }
 
+-- a flagged int behind a null pointer
+abbrev pub null_with : Flags → Place
+null_with flags = record { type_ = int_with flags; spot = Null }
+
 -- the body ends behind the value
 abbrev pub then_end : AfterValue
 then_end = ThenGoOn []
@@ -66,6 +73,11 @@ pub record StepExamples : Type 0 where
       (scope : List Binding) (blocks : List Block) → step scope blocks (Move (int_of 0) 4 (ThenLoad 4 then_end)) ≡ Fault ShapeFault 4
   -- but a null pointer's place isn't loaded
   pub null_loaded : (scope : List Binding) (blocks : List Block) → step scope blocks (Load null_place 4 then_end) ≡ Undefined NullPointer 4
+  -- a store to a flagged place is a fault at the place, whatever the value
+  pub noderef_stored :
+      (scope : List Binding) (blocks : List Block) → step scope blocks (Store (null_with noderef_flags) 3 (int_of 0) 4 then_end) ≡ Fault AccessFault 3
+  pub space_stored :
+      (scope : List Binding) (blocks : List Block) → step scope blocks (Store (null_with space_flags) 3 (int_of 0) 4 then_end) ≡ Fault AccessFault 3
   -- `q = p = 0`: the value of an assignment is the stored one, a null pointer here (6.5.16 p3)
   pub assignment_valued :
       (scope : List Binding)

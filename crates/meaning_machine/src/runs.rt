@@ -1,7 +1,7 @@
 ghost use Rattle.meaning_machine.specs.Played.{MovesArePlayed, PlayedIsRun, RunIsPlayed};
 ghost use Rattle.meaning_machine.specs.RowExamples.{CellExamples, FitExamples, LastExamples, RangeExamples, RowExamples};
 ghost use Rattle.meaning_machine.specs.StepExamples.{StepExamples};
-ghost use Rattle.meaning_machine.specs.Examples.{SpaceIsLost, NoderefIsAccessed, FlaggedIntIsLoaded, SilentUnitEnds, SilentUnitCopies, NullIsUndefined, ForeignIsUndefined, ConstIsCopied, IndeterminateIsUndefined, ConstIsAdopted, AddressIsNoPlace, StatementWithoutRowIsFault};
+ghost use Rattle.meaning_machine.specs.Examples.{SpaceIsLost, NoderefIsAccessed, FlaggedIntIsLoaded, SilentUnitLeaves, SilentUnitEnds, SilentUnitCopies, NullIsUndefined, ForeignIsUndefined, ConstIsCopied, IndeterminateIsUndefined, ConstIsAdopted, AddressIsNoPlace, StatementWithoutRowIsFault};
 
 /// What the plain program plays is a run.
 pub fn played_is_run()
@@ -20,6 +20,7 @@ pub fn worked_runs()
     ensures space_lost { SpaceIsLost }
     ensures noderef_accessed { NoderefIsAccessed }
     ensures flagged_loaded { FlaggedIntIsLoaded }
+    ensures silent_leaves { SilentUnitLeaves }
     ensures silent_ends { SilentUnitEnds }
     ensures silent_copies { SilentUnitCopies }
     ensures null_undefined { NullIsUndefined }

@@ -30,7 +30,8 @@ returns-clause-rows c = record {
   loaded_behind_the_end = refl;
   dead_loaded_behind_the_end = refl;
   loaded_as_pointer = refl;
-  flagged_null_loaded = refl;
+  noderef_null_loaded = refl;
+  space_null_loaded = refl;
   function_loaded = refl;
   no_block_loaded = refl;
   stored = refl;
@@ -105,5 +106,7 @@ returns-clause-steps c = record {
   null_moved = λ scope blocks. refl;
   number_moved = λ scope blocks. refl;
   null_loaded = λ scope blocks. refl;
+  noderef_stored = λ scope blocks. refl;
+  space_stored = λ scope blocks. refl;
   assignment_valued = λ scope. refl;
 }

@@ -50,6 +50,10 @@ pub returns-clause-flagged_loaded : goal.returns-clause-flagged_loaded
 unfolding opened
 returns-clause-flagged_loaded c = meets _ refl refl refl refl refl
 
+pub returns-clause-silent_leaves : goal.returns-clause-silent_leaves
+unfolding opened
+returns-clause-silent_leaves c = ends _ refl refl refl refl refl refl
+
 pub returns-clause-silent_ends : goal.returns-clause-silent_ends
 unfolding opened
 returns-clause-silent_ends c = ends _ refl refl refl refl refl refl

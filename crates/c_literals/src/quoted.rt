@@ -10,8 +10,9 @@ use sparse_model::{IntConst, IntKind};
 use std::alloc::Global;
 
 /// The value of a character constant, as an int: that of its one byte, which is a signed char (C11
-/// 6.4.4.4). A text without a value is told Wide for a prefix, else Empty where nothing stands between
-/// its quotation marks, else the first of Universal and BadEscape from the left. It takes no memory.
+/// 6.4.4.4). A text without a value is told Wide where it doesn't begin with its quotation mark, as
+/// behind a prefix, else Empty where nothing stands between its quotation marks, else the first of
+/// Universal and BadEscape from the left. It takes no memory.
 pub fn read_char(text: &[u8]) -> Result<IntConst, LiteralFault>
     ensures value { IfOk result (λ found. char_of text.now ≡ Ok (constant_seen found)) }
     ensures wide { IsErrOf result LiteralFault.Wide ↔ (char_of text.now ≡ Err WideFault) }
@@ -33,8 +34,9 @@ pub fn read_char(text: &[u8]) -> Result<IntConst, LiteralFault>
     }
 }
 
-/// The bytes of a string literal, without a last zero (C11 6.4.5). A text without bytes is told Wide for
-/// a prefix, else the first of Universal and BadEscape from the left. Memory tells of want of memory.
+/// The bytes of a string literal, without a last zero (C11 6.4.5). A text without bytes is told Wide
+/// where it doesn't begin with its quotation mark, as behind a prefix, else the first of Universal and
+/// BadEscape from the left. Memory tells of want of memory.
 pub fn read_string(alloc: Global, text: &[u8]) -> Result<Vec<u8>, LiteralFault>
     ensures value { IfOk result (λ bytes. string_of text.now ≡ Ok bytes.items) }
 

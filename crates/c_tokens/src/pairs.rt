@@ -1,9 +1,11 @@
-ghost use Rattle.std.specs.Prelude.{◌^◌, ◌<◌, length};
+ghost use Rattle.std.specs.Prelude.{◌^◌, ◌<◌, All, length};
+ghost use Rattle.c_tokens.specs.Seen.{IsKnown};
 
-use super::{LexFault, Names, lex};
+use super::{LexFault, Names, Token, lex};
 use sparse_model::TokenKind;
 use std::alloc::{AllocError, Global};
 use std::fmt::Write;
+use std::process::Abort;
 use std::test::Fail;
 
 // A punctuator or a digraph (C11 6.4.6), and the kind of its token.
@@ -82,6 +84,12 @@ fn longest(text: &[u8]) -> Option<&'static Row> {
     best
 }
 
+// A token on a line: its kind and its spelling.
+fn write_token(lines: &mut String, kind: TokenKind, spelling: &str) -> Result<(), AllocError> {
+    writeln!(lines, "{kind:?} {spelling}")?;
+    Ok(())
+}
+
 // What a plain scanner finds in a text of punctuators: each on a line, its kind and its spelling, or
 // else that a comment opens and is never closed.
 fn plain(alloc: Global, text: &[u8]) -> Result<String, AllocError> {
@@ -97,45 +105,58 @@ fn plain(alloc: Global, text: &[u8]) -> Result<String, AllocError> {
         let Some(row) = longest(rest) else {
             return Ok(lines);
         };
-        let kind = row.kind;
-        let spelling = row.spelling;
-        writeln!(lines, "{kind:?} {spelling}")?;
-        rest = rest.strip_prefix(spelling.as_bytes()).unwrap_or(b"");
+        write_token(&mut lines, row.kind, row.spelling)?;
+        rest = rest.strip_prefix(row.spelling.as_bytes()).unwrap_or(b"");
     }
     Ok(lines)
 }
 
+// The tokens in the same form.
+fn token_lines(alloc: Global, names: &Names, tokens: &[Token]) -> Result<String, AllocError>
+    requires { All (λ token. IsKnown names.now token.name) tokens.now }
+{
+    let mut lines = String::new(alloc);
+    for token in tokens {
+        let spelling = str::from_utf8(names.spelling(token.name)).unwrap_or("?");
+        write_token(&mut lines, token.kind, spelling)?;
+    }
+    Ok(lines)
+}
+
+fn fault_line(fault: LexFault) -> &'static str {
+    match fault {
+        LexFault::OpenComment(_) => "open comment",
+        LexFault::OpenLiteral(_) => "open literal",
+        LexFault::Memory => "memory",
+    }
+}
+
 // What `lex` finds, in the same form.
-fn found(alloc: Global, text: &[u8]) -> Result<String, Fail>
+fn found(alloc: Global, text: &[u8]) -> Result<String, AllocError>
     requires { length text.now < 2 ^ 30 }
 {
     let mut names = Names::new(alloc)?;
-    let tokens = match lex(alloc, &mut names, 1, text) {
-        Ok(tokens) => tokens,
-        Err(LexFault::OpenComment(_)) => return Ok(String::from_str(alloc, "open comment")?),
-        Err(LexFault::OpenLiteral(_)) => return Ok(String::from_str(alloc, "open literal")?),
-        Err(LexFault::Memory) => return Ok(String::from_str(alloc, "memory")?),
-    };
-    let mut lines = String::new(alloc);
-    for token in tokens.iter() {
-        let kind = token.kind;
-        let spelling = str::from_utf8(names.spelling(token.name)).unwrap_or("?");
-        writeln!(lines, "{kind:?} {spelling}")?;
+    match lex(alloc, &mut names, 1, text) {
+        Ok(tokens) => token_lines(alloc, &names, &tokens),
+        Err(fault) => String::from_str(alloc, fault_line(fault)),
     }
-    Ok(lines)
+}
+
+// Both find the same in these two side by side.
+fn assert_pair(rt: &impl Abort, alloc: Global, left: &str, right: &str) -> Result<(), Fail> {
+    let text = format!(in alloc; "{left}{right}")?;
+    let fits = text.len() < 16;
+    assert!(rt; fits);
+    let expected = plain(alloc, text.as_bytes())?;
+    assert_eq!(rt; found(alloc, text.as_bytes())?, expected, "{text}");
+    Ok(())
 }
 
 #[test]
 fn punctuators_side_by_side(rt: HostRuntime) -> Result<(), Fail> {
     for left in &ROWS {
         for right in &ROWS {
-            let first = left.spelling;
-            let second = right.spelling;
-            let text = format!(in rt.alloc(); "{first}{second}")?;
-            let fits = text.len() < 16;
-            assert!(rt; fits);
-            let expected = plain(rt.alloc(), text.as_bytes())?;
-            assert_eq!(rt; found(rt.alloc(), text.as_bytes())?, expected, "{text}");
+            assert_pair(&rt, rt.alloc(), left.spelling, right.spelling)?;
         }
     }
     Ok(())

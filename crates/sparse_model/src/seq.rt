@@ -37,6 +37,14 @@ impl<T> Seq<T> {
         Seq { items }
     }
 
+    /// The vector of the values, which takes no memory.
+    pub fn into_vec(self) -> Vec<T>
+        ensures { result.items ≡ self }
+    {
+        let Seq { items } = self;
+        items
+    }
+
     /// Appends the value, or hands it back.
     pub fn push(&mut self, value: T) -> Result<(), (AllocError, T)>
         ensures ok { OnOk result (self.new ≡ self.old ++ value ∷ []) }

@@ -5,7 +5,7 @@ use crate::role::Role;
 /// A node with all that stands below it, which is the value that a node of a unit has.
 ///
 /// Nothing builds one: a unit keeps its nodes in a list, and this is what contracts call the value of a
-/// node. They see it as the `Tree` of `meaning_tree`, by `tree_of` in `specs/Values.antt` of `c_tree`.
+/// node. They say it as the `Tree` of `meaning_tree` that the node stands for.
 #[derive(Debug, Drop)]
 #[cycle(tree)]
 pub struct Tree {

@@ -1,4 +1,2 @@
-pub mod Chunks
-pub mod LentFront
 pub mod LentValue
 pub mod Region

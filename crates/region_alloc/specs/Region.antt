@@ -1,7 +1,7 @@
 -- What always holds of a region's fields.
 use Rattle.std.specs.Prelude.{◌≡◌, ℕ, ◌+◌, ◌^◌, ◌≤◌, List, length}
 use Rattle.std.specs.Global.{Vec}
-use Rattle.region_alloc.specs.Chunks.{AllFilled, contents}
+use Rattle.chunk_list.specs.Chunks.{AllFilled, contents}
 
 -- two chains with no empty vector hold `len` values together, at most 2 ^ 30
 pub record IsCounted {X : Type 0} (before after : List (Vec X)) (len : ℕ) : Type 0 where

@@ -5,7 +5,6 @@
 //! [`Region`].
 #![tactic(auto)]
 
-mod chunks;
 mod region;
 #[cfg(test)]
 mod tests;

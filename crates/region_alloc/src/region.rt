@@ -1,5 +1,5 @@
 // A region: values in the order in which they came.
-use crate::chunks::Chunks;
+use chunk_list::Chunks;
 use std::alloc::{AllocError, Global};
 use std::marker::Model;
 
@@ -26,7 +26,7 @@ pub struct Region<T> {
 
 impl<T> Model for Region<T> {
     ghost use Rattle.std.specs.Prelude.{List, ◌++◌};
-    ghost use Rattle.region_alloc.specs.Chunks.{contents};
+    ghost use Rattle.chunk_list.specs.Chunks.{contents};
     ghost use Rattle.region_alloc.specs.Region.{IsCounted};
 
     ghost Value = { List T };
@@ -68,7 +68,7 @@ impl<T> Region<T> {
     }
 
     /// Appends a value, in amortised constant time. A refused value comes back.
-    #[tactic(auto, using(crate::proofs::ChunkLemmas::joined))]
+    #[tactic(auto, using(crate::proofs::RegionLemmas::joined))]
     pub fn put(&mut self, v: T) -> Result<Handle, (AllocError, T)>
         requires { length self.old < 2 ^ 30 }
         ensures handle { IfOk result (λ h. h ≡ length self.old) }
@@ -95,7 +95,7 @@ impl<T> Region<T> {
     }
 
     /// The value with this handle, to be changed in its place.
-    #[tactic(auto, using(crate::proofs::ChunkLemmas::joined))]
+    #[tactic(auto, using(crate::proofs::RegionLemmas::joined))]
     pub fn get_mut(&mut self, h: Handle) -> &mut T
         requires { h < length self.old }
         ensures* writes_back { sem 𝓛 (LendsValue T.row self.entry h result) }
@@ -108,7 +108,7 @@ impl<T> Region<T> {
     }
 
     /// Appends all values of another region, and answers where they begin.
-    #[tactic(auto, using(crate::proofs::ChunkLemmas::joined))]
+    #[tactic(auto, using(crate::proofs::RegionLemmas::joined))]
     pub fn absorb(&mut self, other: Region<T>) -> u32
         requires { length self.old + length other ≤ 2 ^ 30 }
         ensures start { result ≡ length self.old }
@@ -134,7 +134,7 @@ impl<T: Drop> Region<T> {
     ghost use Rattle.std.specs.Prelude.{◌≡◌, ◌≤◌, length, take};
 
     /// Goes back to a mark: drops all values that came after it.
-    #[tactic(auto, using(crate::proofs::ChunkLemmas::joined))]
+    #[tactic(auto, using(crate::proofs::RegionLemmas::joined))]
     pub fn release(&mut self, m: Mark)
         requires { m.len ≤ length self.old }
         ensures after { self.new ≡ take m.len self.old }

@@ -1,1 +1,1 @@
-pub mod ChunkLemmas
+pub mod ListLemmas

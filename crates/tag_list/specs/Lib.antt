@@ -1,3 +1,2 @@
-pub mod Chunks
 pub mod Tagged
 pub mod TagList

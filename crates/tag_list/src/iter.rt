@@ -14,7 +14,7 @@ pub struct TagIter<'a> {
 
 impl<'a> Model for TagIter<'a> {
     ghost use Rattle.std.specs.Prelude.{List, ℕ, ◌++◌};
-    ghost use Rattle.tag_list.specs.Chunks.{AllFilled, contents};
+    ghost use Rattle.chunk_list.specs.Chunks.{AllFilled, contents};
 
     ghost Value = { List (ℕ × ℕ) };
 
@@ -25,7 +25,7 @@ impl<'a> Model for TagIter<'a> {
 
 impl<'a> TagIter<'a> {
     ghost use Rattle.std.specs.Prelude.{◌≡◌};
-    ghost use Rattle.tag_list.specs.Chunks.{AllFilled, contents};
+    ghost use Rattle.chunk_list.specs.Chunks.{AllFilled, contents};
 
     pub(crate) fn new(chunks: linked_list::Iter<'a, Vec<Tagged>>) -> TagIter<'a>
         requires { AllFilled chunks }
@@ -70,7 +70,7 @@ impl<'a> DoubleEndedIterator for TagIter<'a> {
 
     ghost next_back_gives = { YieldsLast (λ rest. rest) };
 
-    #[tactic(auto, using(crate::proofs::ChunkLemmas::last_of))]
+    #[tactic(auto, using(crate::proofs::ListLemmas::last_of))]
     fn next_back(&mut self) -> Option<(Handle, u8)> {
         if let Some((last, others)) = self.back.split_last() {
             self.back = others;

@@ -4,7 +4,6 @@
 //! names and what a tag means is the caller's. Start reading at [`TagList`].
 #![tactic(auto)]
 
-mod chunks;
 mod iter;
 mod list;
 mod tagged;

@@ -1,7 +1,7 @@
 // A list of tagged handles.
-use crate::chunks::Chunks;
 use crate::iter::TagIter;
 use crate::tagged::{Handle, Tagged};
+use chunk_list::Chunks;
 use std::alloc::{AllocError, Global};
 use std::marker::Model;
 
@@ -18,7 +18,7 @@ pub struct TagList {
 
 impl Model for TagList {
     ghost use Rattle.std.specs.Prelude.{List, ℕ};
-    ghost use Rattle.tag_list.specs.Chunks.{contents};
+    ghost use Rattle.chunk_list.specs.Chunks.{contents};
     ghost use Rattle.tag_list.specs.TagList.{IsTagList};
 
     ghost Value = { List (ℕ × ℕ) };
@@ -59,13 +59,15 @@ impl TagList {
         ensures ok { OnOk result (self.new ≡ self.old ++ (h, t) ∷ []) }
         ensures err { OnErr result (self.new ≡ self.old) }
     {
-        self.chunks.push(Tagged::pack(h, t))?;
+        if let Err((error, _)) = self.chunks.push(Tagged::pack(h, t)) {
+            return Err(error);
+        }
         self.len += 1;
         Ok(())
     }
 
     /// Appends all pairs of another list, in constant time.
-    #[tactic(auto, using(crate::proofs::ChunkLemmas::joined))]
+    #[tactic(auto, using(crate::proofs::ListLemmas::joined))]
     pub fn join(&mut self, other: TagList)
         requires { length self.old + length other ≤ 2 ^ 30 }
         ensures after { self.new ≡ self.old ++ other }
@@ -81,22 +83,22 @@ impl TagList {
         ensures value { slice_get self.now i ≡ Some result }
         ensures tagged { IsTagged result }
     {
-        self.chunks.item(i as usize).unpack()
+        self.chunks.find(i as usize).unwrap().unpack()
     }
 
     /// Changes the tag of the pair at a place.
-    #[tactic(auto, using(crate::proofs::ChunkLemmas::joined))]
+    #[tactic(auto, using(crate::proofs::ListLemmas::joined))]
     pub fn set_tag(&mut self, i: u32, t: u8)
         requires place { i < length self.old }
         requires tag { t < 4 }
         ensures after { self.new ≡ with_tag self.old i t }
     {
-        let (handle, _) = self.chunks.item(i as usize).unpack();
+        let (handle, _) = self.chunks.find(i as usize).unwrap().unpack();
         self.chunks.set(i as usize, Tagged::pack(handle, t));
     }
 
     /// Takes the last pair.
-    #[tactic(auto, using(crate::proofs::ChunkLemmas::last_gone))]
+    #[tactic(auto, using(crate::proofs::ListLemmas::last_gone))]
     pub fn pop(&mut self) -> Option<(Handle, u8)>
         ensures found { IsSome result ↔ (0 < length self.old) }
         ensures last { IfSome result (λ entry. self.old ≡ self.new ++ entry ∷ []) }

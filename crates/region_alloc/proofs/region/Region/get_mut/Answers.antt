@@ -2,8 +2,9 @@
 use Rattle.std.proofs.Common.{◌≡◌, ◌+◌, length, set, refl, sym, ap, ◌∙◌, arith, subst, length-append}
 use Rattle.std.proofs.lemmas.List.{length-set}
 use Rattle.std.specs.List.{slice_get}
-use Rattle.region_alloc.specs.Chunks.{AllFilled, IsPlaceInFront, contents}
-use Rattle.region_alloc.proofs.ChunkLemmas.{AllFilled-append, AllFilled-drop, AllFilled-take, AllFilled-with_front_item, contents-append, contents-cut, contents-with_front_item, set-behind_cut, slice_get-behind_cut}
+use Rattle.chunk_list.specs.Chunks.{AllFilled, IsPlaceInFront, contents}
+use Rattle.chunk_list.proofs.ChunkLemmas.{AllFilled-append, AllFilled-drop, AllFilled-take, AllFilled-with_front_item, contents-append, contents-with_front_item}
+use Rattle.region_alloc.proofs.RegionLemmas.{contents-cut, set-behind_cut, slice_get-behind_cut}
 use Rattle.region_alloc.proofs.region.Region.get_mut.Goals as goal
 
 pub invariant_of-self-lent : goal.invariant_of-self-lent

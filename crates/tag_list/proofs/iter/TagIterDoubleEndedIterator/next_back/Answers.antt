@@ -1,8 +1,8 @@
 -- The walk from the back comes to the last vector of what is in the middle.
 use Rattle.std.proofs.Common.{◌≡◌, ◌<◌, ◌++◌, ◌∷◌, [], length, ap, subst, ◌∙◌, sym, arith, rules, length-append, MatchOption}
 use Rattle.std.specs.List.{IsLastAndRest}
-use Rattle.tag_list.specs.Chunks.{contents}
-use Rattle.tag_list.proofs.ChunkLemmas.{contents-walked_back, nil-from_length}
+use Rattle.chunk_list.specs.Chunks.{contents}
+use Rattle.tag_list.proofs.ListLemmas.{contents-walked_back, nil-from_length}
 use Rattle.tag_list.proofs.iter.TagIterDoubleEndedIterator.next_back.Goals as goal
 
 pub returns-in-Some-next_back-clause-steps : goal.returns-in-Some-next_back-clause-steps

@@ -1,9 +1,9 @@
 -- The counts add up, and each pair of either list is a tagged handle.
 use Rattle.std.proofs.Common.{◌≡◌, ◌++◌, length, ap, ◌∙◌, subst, sym, arith, length-append}
 use Rattle.std.proofs.lemmas.List.Elements.{All-append, All-same}
-use Rattle.tag_list.specs.Chunks.{AllFilled, contents}
+use Rattle.chunk_list.specs.Chunks.{AllFilled, contents}
 use Rattle.tag_list.specs.Tagged.{IsTagged}
-use Rattle.tag_list.proofs.ChunkLemmas.{AllFilled-append, contents-append}
+use Rattle.chunk_list.proofs.ChunkLemmas.{AllFilled-append, contents-append}
 use Rattle.tag_list.proofs.list.TagList.join.Goals as goal
 
 pub invariant_of-self : goal.invariant_of-self

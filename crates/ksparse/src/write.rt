@@ -2,13 +2,14 @@ ghost use Rattle.std.specs.Prelude.{◌≡◌, true, false};
 ghost use Rattle.std.specs.Io.KnownBytes.{Appends};
 ghost use Rattle.meaning_outside.specs.Faults.{Told, ToldOfTwo};
 ghost use Rattle.meaning_answer.specs.Delivery.{BreaksOff, Delivers};
-ghost use Rattle.ksparse.specs.Sinks.{AppendsFront};
+ghost use Rattle.ksparse.specs.Sinks.{AppendsFront, GoesOutFirst};
 ghost use Rattle.ksparse.specs.Written.{reply_of};
 
 use crate::reply::Written;
 use sparse_outside::{Put, Sink};
 
-/// Writes the texts of a reply, and says whether all of them went in. Where they didn't, a front did.
+/// Writes the texts of a reply, that for `out` first, and says whether all of them went in. Where they
+/// didn't, a front did.
 pub fn deliver<O: Sink, E: Sink>(written: &Written, out: &mut O, err: &mut E) -> bool
     ensures whole { result ≡ true → Delivers (reply_of written.now) (record {
       old_out = O.written out.old;
@@ -17,6 +18,12 @@ pub fn deliver<O: Sink, E: Sink>(written: &Written, out: &mut O, err: &mut E) ->
       new_err = E.written err.new;
     }) }
     ensures broken { result ≡ false → BreaksOff (reply_of written.now) (record {
+      old_out = O.written out.old;
+      new_out = O.written out.new;
+      old_err = E.written err.old;
+      new_err = E.written err.new;
+    }) }
+    ensures order { GoesOutFirst (reply_of written.now) (record {
       old_out = O.written out.old;
       new_out = O.written out.new;
       old_err = E.written err.old;

@@ -1,4 +1,4 @@
-use crate::run::check;
+use crate::run::expect_check;
 use ksparse::Exit;
 use std::alloc::{AllocError, Global};
 use std::test::Fail;
@@ -97,29 +97,35 @@ fn in_literal(byte: u8, quote: u8) -> Answer {
     }
 }
 
+const STATES: [State; 8] = [
+    State::BetweenTokens,
+    State::InWord,
+    State::InNumber,
+    State::InCharacter,
+    State::InString,
+    State::InLineComment,
+    State::InComment,
+    State::BehindBackslash,
+];
+
 #[test]
 fn each_byte_in_each_state(rt: HostRuntime) -> Result<(), Fail> {
-    let states = [
-        State::BetweenTokens,
-        State::InWord,
-        State::InNumber,
-        State::InCharacter,
-        State::InString,
-        State::InLineComment,
-        State::InComment,
-        State::BehindBackslash,
-    ];
-    for state in states {
+    for state in STATES {
         let (before, behind) = state.around();
         for byte in 0..=u8::MAX {
             let mut text = Vec::from_slice(rt.alloc(), before.as_bytes())?;
             text.push(byte)?;
             text.extend_from_slice(behind.as_bytes())?;
-            let ran = check(rt.alloc(), text.as_slice())?;
+            let case = format!(in rt.alloc(); "byte {byte} {state:?}")?;
             let answer = state.answer(byte);
             let err = answer.err(rt.alloc())?;
-            assert_eq!(rt; ran.exit, answer.exit(), "byte {byte} {state:?}");
-            assert_eq!(rt; ran.err.bytes(), err.as_bytes(), "byte {byte} {state:?}");
+            expect_check(
+                &rt,
+                case.as_str(),
+                text.as_slice(),
+                answer.exit(),
+                err.as_str(),
+            )?;
         }
     }
     Ok(())

@@ -1,4 +1,4 @@
-use crate::run::{ROOM, list};
+use crate::run::{ROOM, Ran, expect, list};
 use ksparse::{Exit, ksparse};
 use sparse_outside::{MemoryFiles, MemorySink};
 use std::alloc::{AllocError, Global};
@@ -10,56 +10,58 @@ const UNIT: &str =
 const WARNING: &str =
     "t.c:3:18: warning: incorrect type in assignment (different address spaces)\nt.c:3:18:    expected int *\nt.c:3:18:    got int noderef address_space(__user) *\n";
 
-// The files of which the loads with these numbers fail.
-fn files(alloc: Global, failing: &[u32]) -> Result<MemoryFiles, AllocError> {
+// What a run leaves where the loads with these numbers fail, and standard error has so much room.
+fn run_with(alloc: Global, failing: &[u32], room: usize) -> Result<Ran, AllocError> {
+    let words = list(alloc, &["t.c"])?;
     let mut files = MemoryFiles::new(alloc);
     files.add(b"t.c", UNIT.as_bytes())?;
     for number in failing {
         files.fail_call(*number)?;
     }
-    Ok(files)
-}
-
-// The exit, and what a sink of so much room holds.
-fn run_with(
-    alloc: Global,
-    mut files: MemoryFiles,
-    room: usize,
-) -> Result<(Exit, MemorySink), AllocError> {
-    let words = list(alloc, &["t.c"])?;
     let mut out = MemorySink::new(alloc, 0)?;
     let mut err = MemorySink::new(alloc, room)?;
     let exit = ksparse(alloc, &words, &mut files, &mut out, &mut err);
-    Ok((exit, err))
+    Ok(Ran { exit, out, err })
 }
 
-#[test]
-fn a_failed_load_is_no_missing_file(rt: HostRuntime) -> Result<(), Fail> {
-    let (exit, err) = run_with(rt.alloc(), files(rt.alloc(), &[1])?, ROOM)?;
-    assert_eq!(rt; exit, Exit::ReadFault);
-    assert_eq!(rt; err.bytes(), b"".as_slice());
+// A run in which something fails: what it shows, the numbers of the loads that fail, the room for
+// standard error, what stands there, and the exit.
+struct Faulty {
+    case: &'static str,
+    failing: &'static [u32],
+    room: usize,
+    err: &'static str,
+    exit: Exit,
+}
 
-    // A later load isn't made.
-    let (exit, err) = run_with(rt.alloc(), files(rt.alloc(), &[2])?, ROOM)?;
-    assert_eq!(rt; exit, Exit::Warned);
-    assert_eq!(rt; err.bytes(), WARNING.as_bytes());
+#[rattlefmt::skip]
+const FAULTY: [Faulty; 3] = [
+    Faulty { case: "a failed load is no missing file", failing: &[1], room: ROOM, err: "", exit: Exit::ReadFault },
+    Faulty { case: "a later load isn't made", failing: &[2], room: ROOM, err: WARNING, exit: Exit::Warned },
+    Faulty { case: "room for a place alone", failing: &[], room: 10, err: "t.c:3:18: ", exit: Exit::WriteFault },
+];
+
+#[test]
+fn faults_are_told(rt: HostRuntime) -> Result<(), Fail> {
+    for faulty in &FAULTY {
+        let ran = run_with(rt.alloc(), faulty.failing, faulty.room)?;
+        expect(&rt, faulty.case, &ran, faulty.exit, faulty.err.as_bytes());
+    }
     Ok(())
 }
 
 #[test]
-fn a_full_sink_holds_a_front(rt: HostRuntime) -> Result<(), Fail> {
+fn a_sink_holds_a_front(rt: HostRuntime) -> Result<(), Fail> {
     let warning = WARNING.as_bytes();
-    for room in 0..warning.len() {
-        let (exit, err) = run_with(rt.alloc(), files(rt.alloc(), &[])?, room)?;
-        assert_eq!(rt; exit, Exit::WriteFault, "room for {room}");
-        assert_eq!(rt; err.bytes(), &warning[..room], "room for {room}");
+    for room in 0..=warning.len() {
+        let exit = if room < warning.len() {
+            Exit::WriteFault
+        } else {
+            Exit::Warned
+        };
+        let case = format!(in rt.alloc(); "room for {room}")?;
+        let ran = run_with(rt.alloc(), &[], room)?;
+        expect(&rt, case.as_str(), &ran, exit, &warning[..room]);
     }
-    let (exit, err) = run_with(rt.alloc(), files(rt.alloc(), &[])?, warning.len())?;
-    assert_eq!(rt; exit, Exit::Warned);
-    assert_eq!(rt; err.bytes(), warning);
-
-    let (exit, err) = run_with(rt.alloc(), files(rt.alloc(), &[])?, 10)?;
-    assert_eq!(rt; exit, Exit::WriteFault);
-    assert_eq!(rt; err.bytes(), b"t.c:3:18: ".as_slice());
     Ok(())
 }

@@ -1,8 +1,10 @@
 // All pairs of flags over the three statements. What is expected is worked out from the rules' words.
 ghost use Rattle.std.specs.Prelude.{◌<◌};
 
-use crate::run::check;
+use crate::run::expect_check;
+use ksparse::Exit;
 use std::alloc::{AllocError, Global};
+use std::process::Abort;
 use std::test::Fail;
 
 #[derive(Clone, Copy, PartialEq, Eq)]
@@ -183,6 +185,20 @@ fn address_assigned(
     Ok((text, want))
 }
 
+// Asserts that these warnings are the answer to this text.
+fn expect_warnings(
+    rt: &(impl Abort + AllocGlobal),
+    text: &str,
+    warnings: &str,
+) -> Result<(), AllocError> {
+    let exit = if warnings.is_empty() {
+        Exit::Clean
+    } else {
+        Exit::Warned
+    };
+    expect_check(rt, text, text.as_bytes(), exit, warnings)
+}
+
 #[test]
 fn flags_meet_in_each_statement(rt: HostRuntime) -> Result<(), Fail> {
     let alloc = rt.alloc();
@@ -191,17 +207,14 @@ fn flags_meet_in_each_statement(rt: HostRuntime) -> Result<(), Fail> {
         for right in FLAGS {
             for stars in 0..4 {
                 let (text, want) = assigned(alloc, left, right, stars)?;
-                let ran = check(alloc, text.as_bytes())?;
-                assert_eq!(rt; ran.err.bytes(), want.as_bytes(), "{text}");
+                expect_warnings(&rt, text.as_str(), want.as_str())?;
                 count = count.saturating_add(1);
             }
             for stars in 0..3 {
                 let (text, want) = assigned_through(alloc, left, right, stars)?;
-                let ran = check(alloc, text.as_bytes())?;
-                assert_eq!(rt; ran.err.bytes(), want.as_bytes(), "{text}");
+                expect_warnings(&rt, text.as_str(), want.as_str())?;
                 let (text, want) = address_assigned(alloc, left, right, stars)?;
-                let ran = check(alloc, text.as_bytes())?;
-                assert_eq!(rt; ran.err.bytes(), want.as_bytes(), "{text}");
+                expect_warnings(&rt, text.as_str(), want.as_str())?;
                 count = count.saturating_add(2);
             }
         }

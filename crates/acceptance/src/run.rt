@@ -1,6 +1,7 @@
 use ksparse::{Exit, ksparse};
 use sparse_outside::{HonestFiles, MemorySink, Words};
 use std::alloc::{AllocError, Global};
+use std::process::Abort;
 
 /// Room for each text of a test.
 pub const ROOM: usize = 4096;
@@ -33,7 +34,27 @@ pub fn run(alloc: Global, words: &[&str], text: &[u8]) -> Result<Ran, AllocError
     Ok(Ran { exit, out, err })
 }
 
-/// Checks the file `t.c` with this text.
-pub fn check(alloc: Global, text: &[u8]) -> Result<Ran, AllocError> {
+// Checks the file `t.c` with this text.
+fn check(alloc: Global, text: &[u8]) -> Result<Ran, AllocError> {
     run(alloc, &["t.c"], text)
+}
+
+/// Asserts how a run ended and what it wrote to standard error, and that it wrote nothing else.
+pub fn expect(rt: &(impl Abort + AllocGlobal), case: &str, ran: &Ran, exit: Exit, err: &[u8]) {
+    assert_eq!(rt; ran.exit, exit, "{case}");
+    assert_eq!(rt; ran.err.bytes(), err, "{case}");
+    assert_eq!(rt; ran.out.bytes(), b"".as_slice(), "{case}");
+}
+
+/// Asserts the same of the check of the file `t.c` with this text.
+pub fn expect_check(
+    rt: &(impl Abort + AllocGlobal),
+    case: &str,
+    text: &[u8],
+    exit: Exit,
+    err: &str,
+) -> Result<(), AllocError> {
+    let ran = check(rt.alloc(), text)?;
+    expect(rt, case, &ran, exit, err.as_bytes());
+    Ok(())
 }

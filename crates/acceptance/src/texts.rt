@@ -1,4 +1,4 @@
-use crate::run::check;
+use crate::run::expect_check;
 use ksparse::Exit;
 use std::test::Fail;
 
@@ -166,71 +166,55 @@ const NOT_IN_FORM: [Text; 38] = [
     Text { case: "something behind the last item", text: "void f(void) { } }" },
 ];
 
+const NOT_BUILT: &str = "t.c:1:1: error[29]: form not built\n";
+
 #[test]
-fn failures_are_warned_of(rt: HostRuntime) -> Result<(), Fail> {
+fn texts_are_answered(rt: HostRuntime) -> Result<(), Fail> {
     for unit in &WARNED {
-        let case = unit.case;
-        let ran = check(rt.alloc(), unit.text.as_bytes())?;
-        assert_eq!(rt; ran.exit, Exit::Warned, "{case}");
-        assert_eq!(rt; ran.err.bytes(), unit.warnings.as_bytes(), "{case}");
-        assert_eq!(rt; ran.out.bytes(), b"".as_slice(), "{case}");
+        expect_check(
+            &rt,
+            unit.case,
+            unit.text.as_bytes(),
+            Exit::Warned,
+            unit.warnings,
+        )?;
     }
-    Ok(())
-}
-
-#[test]
-fn what_is_never_closed_is_told_at_its_opening(rt: HostRuntime) -> Result<(), Fail> {
     for opening in &OPENINGS {
-        let case = opening.case;
-        let ran = check(rt.alloc(), opening.text.as_bytes())?;
-        assert_eq!(rt; ran.exit, Exit::Refused, "{case}");
-        assert_eq!(rt; ran.err.bytes(), opening.err.as_bytes(), "{case}");
-        assert_eq!(rt; ran.out.bytes(), b"".as_slice(), "{case}");
+        expect_check(
+            &rt,
+            opening.case,
+            opening.text.as_bytes(),
+            Exit::Refused,
+            opening.err,
+        )?;
     }
-    Ok(())
-}
-
-#[test]
-fn units_without_failures_are_passed_in_silence(rt: HostRuntime) -> Result<(), Fail> {
     for unit in &CLEAN {
-        let case = unit.case;
-        let ran = check(rt.alloc(), unit.text.as_bytes())?;
-        assert_eq!(rt; ran.exit, Exit::Clean, "{case}");
-        assert_eq!(rt; ran.err.bytes(), b"".as_slice(), "{case}");
-        assert_eq!(rt; ran.out.bytes(), b"".as_slice(), "{case}");
+        expect_check(&rt, unit.case, unit.text.as_bytes(), Exit::Clean, "")?;
     }
-    Ok(())
-}
-
-#[test]
-fn texts_outside_the_form_are_refused(rt: HostRuntime) -> Result<(), Fail> {
     for text in &NOT_IN_FORM {
-        let case = text.case;
-        let ran = check(rt.alloc(), text.text.as_bytes())?;
-        assert_eq!(rt; ran.exit, Exit::Refused, "{case}");
-        assert_eq!(rt;
-            ran.err.bytes(),
-            b"t.c:1:1: error[29]: form not built\n".as_slice(),
-            "{case}"
-        );
-        assert_eq!(rt; ran.out.bytes(), b"".as_slice(), "{case}");
+        expect_check(
+            &rt,
+            text.case,
+            text.text.as_bytes(),
+            Exit::Refused,
+            NOT_BUILT,
+        )?;
     }
     Ok(())
 }
 
 // C11 6.4.1, and the three words that no name can be besides.
+const KEYWORDS: &str =
+    "auto break case char const continue default do double else enum extern float for goto if inline int long register restrict return short signed sizeof static struct switch typedef union unsigned void volatile while _Alignas _Alignof _Atomic _Bool _Complex _Generic _Imaginary _Noreturn _Static_assert _Thread_local asm typeof _Pragma";
+
 #[test]
 fn keywords_are_no_names(rt: HostRuntime) -> Result<(), Fail> {
-    let keywords =
-        "auto break case char const continue default do double else enum extern float for goto if inline int long register restrict return short signed sizeof static struct switch typedef union unsigned void volatile while _Alignas _Alignof _Atomic _Bool _Complex _Generic _Imaginary _Noreturn _Static_assert _Thread_local asm typeof _Pragma";
     let mut count = 0u32;
-    for keyword in keywords.split_whitespace() {
+    for keyword in KEYWORDS.split_whitespace() {
         let text = format!(in rt.alloc(); "extern int {keyword};")?;
-        let ran = check(rt.alloc(), text.as_bytes())?;
-        assert_eq!(rt; ran.exit, Exit::Refused, "{keyword}");
+        expect_check(&rt, keyword, text.as_bytes(), Exit::Refused, NOT_BUILT)?;
         let longer = format!(in rt.alloc(); "extern int {keyword}1;")?;
-        let ran = check(rt.alloc(), longer.as_bytes())?;
-        assert_eq!(rt; ran.exit, Exit::Clean, "{keyword}1");
+        expect_check(&rt, keyword, longer.as_bytes(), Exit::Clean, "")?;
         count = count.saturating_add(1);
     }
     assert_eq!(rt; count, 47);

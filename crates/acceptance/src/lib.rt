@@ -1,4 +1,5 @@
-//! The top call as its users meet it: words and files in, texts and an exit out.
+//! The top call as its users meet it: words and files in, texts and an exit out; and what crosses the
+//! crates below it.
 //!
 //! Tests alone, each a table whose rows are worked out by hand from the rules. What a contract below
 //! says needs no row here; these rows ask whether the contracts say what was meant.
@@ -18,5 +19,7 @@ mod run;
 mod sizes;
 #[cfg(test)]
 mod texts;
+#[cfg(test)]
+mod trees;
 #[cfg(test)]
 mod words;

@@ -18,8 +18,6 @@ mod object;
 mod read;
 mod scope;
 mod space;
-#[cfg(test)]
-mod tests;
 mod text;
 mod view;
 mod words;

@@ -1,7 +1,7 @@
 ghost use Rattle.std.specs.Prelude.{◌≤◌, length};
 
-use super::{build, read_items};
 use c_tokens::{Names, lex};
+use first_form::{build, read_items};
 use std::alloc::Global;
 use std::fmt::Write;
 use std::test::Fail;

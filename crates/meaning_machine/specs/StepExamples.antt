@@ -4,7 +4,7 @@ use Rattle.meaning_types.specs.Types.{Flags}
 use Rattle.meaning_rules.specs.Bindings.{Binding, pointer_to}
 use Rattle.meaning_rules.specs.Typing.{int_with}
 use Rattle.meaning_rules.specs.Examples.{noderef_flags}
-use Rattle.meaning_machine.specs.Values.{Null, Value, Pointer, Place, ForObject, Block}
+use Rattle.meaning_machine.specs.Values.{Null, Foreign, Value, Pointer, Place, ForObject, Block}
 use Rattle.meaning_machine.specs.Outcomes.{NullPointer, AccessFault, ShapeFault}
 use Rattle.meaning_machine.specs.Code.{Named}
 use Rattle.meaning_machine.specs.Machine.{ThenLoad, AfterValue, ThenStore, ThenGoOn, EnterBody, EnterPlace, Load, Move, Store, Leave, Finished, Next, Done, Undefined, Fault, step}
@@ -81,5 +81,5 @@ pub record StepExamples : Type 0 where
   -- `q = p = 0`: the value of an assignment is the stored one, a null pointer here (6.5.16 p3)
   pub assignment_valued :
       (scope : List Binding)
-      → step scope (pointer_blocks (Pointer plain_int (object_spot 0))) (Store p_place 5 (int_of 0) 6 (ThenStore q_place 3 4 then_end))
+      → step scope (pointer_blocks (Pointer plain_int Foreign)) (Store p_place 5 (int_of 0) 6 (ThenStore q_place 3 4 then_end))
       ≡ Next (pointer_blocks (Pointer plain_int Null)) (Store q_place 3 (Pointer plain_int Null) 4 then_end)

@@ -8,7 +8,7 @@ use Rattle.meaning_rules.specs.Typing.{int_with}
 use Rattle.meaning_rules.specs.Examples.{noderef_flags, function_of}
 use Rattle.meaning_machine.specs.Values.{Spot, Null, Foreign, In, Value, Integer, Pointer, ForObject, ForFunction, Cell, Block, least, greatest, Fits}
 use Rattle.meaning_machine.specs.Outcomes.{DeadBlock, ForeignPointer, OutOfBounds, ReadOnly, AccessFault, SpaceFault, ShapeFault, Gives, IsFault, IsUndefined}
-use Rattle.meaning_machine.specs.Memory.{adopt, content_at, with_content, load, store}
+use Rattle.meaning_machine.specs.Memory.{adopt, content_at, with_content, block_with, load, store}
 use Rattle.meaning_machine.specs.Runs.{IsWritable, opening}
 use Rattle.meaning_machine.specs.Soundness.{Last}
 use Rattle.meaning_machine.specs.Examples.{plain_int, const_int, int_of, object_spot}
@@ -129,6 +129,8 @@ pub record CellExamples : Type 0 where
   -- a write changes its one cell
   pub written : with_content (three_cells 4) (1 ∷ []) (int_of 7) ≡ three_cells 7
   pub nowhere : with_content (three_cells 4) [] (int_of 7) ≡ three_cells 4
+  -- and nothing else of its block
+  pub rest_kept : block_with (int_block const_int false 3) [] (int_of 5) ≡ int_block const_int false 5
 
 -- What fits
 

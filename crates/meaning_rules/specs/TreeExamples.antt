@@ -4,7 +4,7 @@ use Rattle.meaning_types.specs.Types.{NoSpace, NamedSpace, NumberedSpace, Flags,
 use Rattle.meaning_tree.specs.Kinds.{Declaration, Specifiers, ExternSpecifier, IntSpecifier, AttributeList, NoderefAttribute, AddressSpaceAttribute, ExpressionStatement, Evaluated, Condition, TypePart, Unevaluated}
 use Rattle.meaning_tree.specs.Trees.{SyntaxTree, Node, NoParts, Part, parts_of}
 use Rattle.meaning_syntax.specs.Items.{Noderef, AddressSpace, Assign, Object}
-use Rattle.meaning_syntax.specs.Trees.{plain_node, leaf, one_part, name_tree, assignment_tree, indirection_tree, address_tree, declarator_tree, object_tree, function_declarator, function_tree, unit_tree}
+use Rattle.meaning_syntax.specs.Trees.{plain_node, leaf, one_part, two_parts, name_tree, assignment_tree, indirection_tree, address_tree, declarator_tree, object_tree, function_declarator, function_tree, unit_tree}
 use Rattle.meaning_rules.specs.Bindings.{Binding, pointer_to, bindings_of, type_in}
 use Rattle.meaning_rules.specs.Expressions.{no_fact, fact_of}
 use Rattle.meaning_rules.specs.Evaluation.{ForValue, InAssignment, accesses_of, conversions_of, accesses_in}
@@ -121,6 +121,8 @@ pub record DeclarationExamples : Type 0 where
   pub function : bindings_of (function_tree 0 (codes "f") []) ≡ record { name = codes "f"; object = None } ∷ []
   -- what returns an int is no int
   pub function_of_int : bindings_of function_declaration ≡ record { name = codes "g"; object = None } ∷ []
+  -- without specifiers nothing is bound
+  pub no_specifiers : bindings_of (plain_node Declaration 0 (two_parts (leaf IntSpecifier 0) (declarator_tree 1 0 (codes "r")))) ≡ []
   -- each list adds its flags, and each declarator a name with its own stars
   pub lists_and_declarators :
       bindings_of lists_and_declarators_tree

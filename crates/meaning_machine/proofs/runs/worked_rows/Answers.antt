@@ -54,7 +54,7 @@ returns-clause-rows c = record {
 }
 
 pub returns-clause-cells : goal.returns-clause-cells
-returns-clause-cells c = record { found = refl; none = refl; written = refl; nowhere = refl }
+returns-clause-cells c = record { found = refl; none = refl; written = refl; nowhere = refl; rest_kept = refl }
 
 pub returns-clause-fits : goal.returns-clause-fits
 returns-clause-fits c = record {

@@ -9,6 +9,7 @@ returns-clause-declarations c = record {
   number = refl;
   function = refl;
   function_of_int = refl;
+  no_specifiers = refl;
   lists_and_declarators = refl;
   first_declaration = refl;
   first_declaration_accessed = refl;

@@ -128,5 +128,6 @@ fn a_list_keeps_its_values_in_order(rt: HostRuntime) -> Result<(), Fail> {
     assert_eq!(rt; list.len(), 3);
     assert_eq!(rt; *list.get(1), 9);
     assert_eq!(rt; list.as_slice(), [7, 9, 8].as_slice());
+    assert_eq!(rt; list.into_vec().as_slice(), [7, 9, 8].as_slice());
     Ok(())
 }

@@ -48,6 +48,7 @@ USES = [
     (["character.c"], "character.c:1:1: error[4]: unterminated literal\n", 2),
     (["missing.c"], "ksparse: error[1]: no such file: missing.c\n", 2),
     ([""], "ksparse: error[1]: no such file: \n", 2),
+    ([" t.c "], "ksparse: error[1]: no such file:  t.c \n", 2),
     ([], "ksparse: missing file\n", 3),
     (["t.c", "clean.c"], "ksparse: bad word: clean.c\n", 3),
     ([str(n) for n in range(100)], "ksparse: bad word: 1\n", 3),

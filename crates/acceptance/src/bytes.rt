@@ -1,4 +1,4 @@
-use crate::run::expect_check;
+use crate::run::assert_check;
 use ksparse::Exit;
 use std::alloc::{AllocError, Global};
 use std::test::Fail;
@@ -119,7 +119,7 @@ fn each_byte_in_each_state(rt: HostRuntime) -> Result<(), Fail> {
             let case = format!(in rt.alloc(); "byte {byte} {state:?}")?;
             let answer = state.answer(byte);
             let err = answer.err(rt.alloc())?;
-            expect_check(
+            assert_check(
                 &rt,
                 case.as_str(),
                 text.as_slice(),

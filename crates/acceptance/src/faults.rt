@@ -1,4 +1,4 @@
-use crate::run::{ROOM, Ran, expect, list};
+use crate::run::{ROOM, Ran, assert_ran, list};
 use ksparse::{Exit, ksparse};
 use sparse_outside::{MemoryFiles, MemorySink};
 use std::alloc::{AllocError, Global};
@@ -45,7 +45,7 @@ const FAULTY: [Faulty; 3] = [
 fn faults_are_told(rt: HostRuntime) -> Result<(), Fail> {
     for faulty in &FAULTY {
         let ran = run_with(rt.alloc(), faulty.failing, faulty.room)?;
-        expect(&rt, faulty.case, &ran, faulty.exit, faulty.err.as_bytes());
+        assert_ran(&rt, faulty.case, &ran, faulty.exit, faulty.err.as_bytes());
     }
     Ok(())
 }
@@ -61,7 +61,7 @@ fn a_sink_holds_a_front(rt: HostRuntime) -> Result<(), Fail> {
         };
         let case = format!(in rt.alloc(); "room for {room}")?;
         let ran = run_with(rt.alloc(), &[], room)?;
-        expect(&rt, case.as_str(), &ran, exit, &warning[..room]);
+        assert_ran(&rt, case.as_str(), &ran, exit, &warning[..room]);
     }
     Ok(())
 }

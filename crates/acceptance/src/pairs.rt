@@ -1,7 +1,7 @@
 // All pairs of flags over the three statements. What is expected is worked out from the rules' words.
 ghost use Rattle.std.specs.Prelude.{◌<◌};
 
-use crate::run::expect_check;
+use crate::run::assert_check;
 use ksparse::Exit;
 use std::alloc::{AllocError, Global};
 use std::process::Abort;
@@ -186,7 +186,7 @@ fn address_assigned(
 }
 
 // Asserts that these warnings are the answer to this text.
-fn expect_warnings(
+fn assert_warnings(
     rt: &(impl Abort + AllocGlobal),
     text: &str,
     warnings: &str,
@@ -196,7 +196,7 @@ fn expect_warnings(
     } else {
         Exit::Warned
     };
-    expect_check(rt, text, text.as_bytes(), exit, warnings)
+    assert_check(rt, text, text.as_bytes(), exit, warnings)
 }
 
 #[test]
@@ -207,14 +207,14 @@ fn flags_meet_in_each_statement(rt: HostRuntime) -> Result<(), Fail> {
         for right in FLAGS {
             for stars in 0..4 {
                 let (text, want) = assigned(alloc, left, right, stars)?;
-                expect_warnings(&rt, text.as_str(), want.as_str())?;
+                assert_warnings(&rt, text.as_str(), want.as_str())?;
                 count = count.saturating_add(1);
             }
             for stars in 0..3 {
                 let (text, want) = assigned_through(alloc, left, right, stars)?;
-                expect_warnings(&rt, text.as_str(), want.as_str())?;
+                assert_warnings(&rt, text.as_str(), want.as_str())?;
                 let (text, want) = address_assigned(alloc, left, right, stars)?;
-                expect_warnings(&rt, text.as_str(), want.as_str())?;
+                assert_warnings(&rt, text.as_str(), want.as_str())?;
                 count = count.saturating_add(2);
             }
         }

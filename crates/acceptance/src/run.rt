@@ -40,14 +40,14 @@ fn check(alloc: Global, text: &[u8]) -> Result<Ran, AllocError> {
 }
 
 /// Asserts how a run ended and what it wrote to standard error, and that it wrote nothing else.
-pub fn expect(rt: &(impl Abort + AllocGlobal), case: &str, ran: &Ran, exit: Exit, err: &[u8]) {
+pub fn assert_ran(rt: &(impl Abort + AllocGlobal), case: &str, ran: &Ran, exit: Exit, err: &[u8]) {
     assert_eq!(rt; ran.exit, exit, "{case}");
     assert_eq!(rt; ran.err.bytes(), err, "{case}");
     assert_eq!(rt; ran.out.bytes(), b"".as_slice(), "{case}");
 }
 
 /// Asserts the same of the check of the file `t.c` with this text.
-pub fn expect_check(
+pub fn assert_check(
     rt: &(impl Abort + AllocGlobal),
     case: &str,
     text: &[u8],
@@ -55,6 +55,6 @@ pub fn expect_check(
     err: &str,
 ) -> Result<(), AllocError> {
     let ran = check(rt.alloc(), text)?;
-    expect(rt, case, &ran, exit, err.as_bytes());
+    assert_ran(rt, case, &ran, exit, err.as_bytes());
     Ok(())
 }

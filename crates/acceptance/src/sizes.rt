@@ -1,4 +1,4 @@
-use crate::run::expect_check;
+use crate::run::assert_check;
 use ksparse::Exit;
 use std::alloc::{AllocError, Global};
 use std::test::Fail;
@@ -9,12 +9,12 @@ const MOST_BYTES: usize = 8_388_608;
 #[test]
 fn a_file_may_have_so_many_bytes(rt: HostRuntime) -> Result<(), Fail> {
     let mut text = vec![in rt.alloc(); b' '; MOST_BYTES]?;
-    expect_check(&rt, "the most bytes", text.as_slice(), Exit::Clean, "")?;
+    assert_check(&rt, "the most bytes", text.as_slice(), Exit::Clean, "")?;
 
     // A literal opens in the byte too many, and the size goes before it.
     text.push(b'"')?;
     let limit = "ksparse: limit: file size\n";
-    expect_check(&rt, "a byte too many", text.as_slice(), Exit::Limit, limit)?;
+    assert_check(&rt, "a byte too many", text.as_slice(), Exit::Limit, limit)?;
     Ok(())
 }
 
@@ -58,7 +58,7 @@ const LONG_UNITS: [LongUnit; 4] = [
 fn a_unit_may_have_so_many_tokens(rt: HostRuntime) -> Result<(), Fail> {
     for unit in &LONG_UNITS {
         let text = long_unit(rt.alloc(), unit.object, unit.end)?;
-        expect_check(&rt, unit.case, text.as_slice(), unit.exit, unit.err)?;
+        assert_check(&rt, unit.case, text.as_slice(), unit.exit, unit.err)?;
     }
     Ok(())
 }

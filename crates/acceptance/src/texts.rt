@@ -1,4 +1,4 @@
-use crate::run::expect_check;
+use crate::run::assert_check;
 use ksparse::Exit;
 use std::test::Fail;
 
@@ -171,7 +171,7 @@ const NOT_BUILT: &str = "t.c:1:1: error[29]: form not built\n";
 #[test]
 fn texts_are_answered(rt: HostRuntime) -> Result<(), Fail> {
     for unit in &WARNED {
-        expect_check(
+        assert_check(
             &rt,
             unit.case,
             unit.text.as_bytes(),
@@ -180,7 +180,7 @@ fn texts_are_answered(rt: HostRuntime) -> Result<(), Fail> {
         )?;
     }
     for opening in &OPENINGS {
-        expect_check(
+        assert_check(
             &rt,
             opening.case,
             opening.text.as_bytes(),
@@ -189,10 +189,10 @@ fn texts_are_answered(rt: HostRuntime) -> Result<(), Fail> {
         )?;
     }
     for unit in &CLEAN {
-        expect_check(&rt, unit.case, unit.text.as_bytes(), Exit::Clean, "")?;
+        assert_check(&rt, unit.case, unit.text.as_bytes(), Exit::Clean, "")?;
     }
     for text in &NOT_IN_FORM {
-        expect_check(
+        assert_check(
             &rt,
             text.case,
             text.text.as_bytes(),
@@ -212,9 +212,9 @@ fn keywords_are_no_names(rt: HostRuntime) -> Result<(), Fail> {
     let mut count = 0u32;
     for keyword in KEYWORDS.split_whitespace() {
         let text = format!(in rt.alloc(); "extern int {keyword};")?;
-        expect_check(&rt, keyword, text.as_bytes(), Exit::Refused, NOT_BUILT)?;
+        assert_check(&rt, keyword, text.as_bytes(), Exit::Refused, NOT_BUILT)?;
         let longer = format!(in rt.alloc(); "extern int {keyword}1;")?;
-        expect_check(&rt, keyword, longer.as_bytes(), Exit::Clean, "")?;
+        assert_check(&rt, keyword, longer.as_bytes(), Exit::Clean, "")?;
         count = count.saturating_add(1);
     }
     assert_eq!(rt; count, 47);

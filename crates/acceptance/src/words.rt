@@ -1,4 +1,4 @@
-use crate::run::{expect, run};
+use crate::run::{assert_ran, run};
 use ksparse::Exit;
 use std::test::Fail;
 
@@ -47,7 +47,7 @@ const STATUSES: [(Exit, u8); 8] = [
 fn words_are_read(rt: HostRuntime) -> Result<(), Fail> {
     for command in &COMMANDS {
         let ran = run(rt.alloc(), command.words, b"")?;
-        expect(&rt, command.err, &ran, command.exit, command.err.as_bytes());
+        assert_ran(&rt, command.err, &ran, command.exit, command.err.as_bytes());
     }
     for (exit, status) in STATUSES {
         assert_eq!(rt; exit.status(), status, "{exit:?}");

@@ -7,7 +7,7 @@ use std::test::Fail;
 // What a row is of, a path, the most bytes, the answer, and what is in the buffer then.
 type Row<'a> = (&'a str, &'a str, usize, Load, &'a str);
 
-fn expect_loads<F: Files>(rt: &(impl Abort + AllocGlobal), files: &mut F, rows: &[Row]) {
+fn assert_loads<F: Files>(rt: &(impl Abort + AllocGlobal), files: &mut F, rows: &[Row]) {
     for &(case, path, max, answer, bytes) in rows {
         let mut into = Vec::new(rt.alloc());
         let got = files.load(path.as_bytes(), max, &mut into);
@@ -17,12 +17,12 @@ fn expect_loads<F: Files>(rt: &(impl Abort + AllocGlobal), files: &mut F, rows: 
 }
 
 #[rattlefmt::skip]
-fn expect_memory_files(rt: &(impl Abort + AllocGlobal)) -> Result<(), Fail> {
+fn assert_memory_files(rt: &(impl Abort + AllocGlobal)) -> Result<(), Fail> {
     let mut files = MemoryFiles::new(rt.alloc());
     files.add(b"a.c", b"int b;")?;
     files.add(b"a.c", b"int a;")?;
     files.fail_call(1)?;
-    expect_loads(rt, &mut files, &[
+    assert_loads(rt, &mut files, &[
         ("load 1 is told to fail", "a.c", 6, Load::Failed, ""),
         ("load 2 has the newest bytes", "a.c", 6, Load::Whole, "int a;"),
         ("another path", "b.c", 6, Load::Missing, ""),
@@ -32,16 +32,16 @@ fn expect_memory_files(rt: &(impl Abort + AllocGlobal)) -> Result<(), Fail> {
 }
 
 #[rattlefmt::skip]
-fn expect_honest_files(rt: &(impl Abort + AllocGlobal)) -> Result<(), Fail> {
+fn assert_honest_files(rt: &(impl Abort + AllocGlobal)) -> Result<(), Fail> {
     let mut files = HonestFiles::new(rt.alloc());
     files.add(b"a.c", b"int a;")?;
-    expect_loads(rt, &mut files, &[("it is there", "a.c", 6, Load::Whole, "int a;")]);
+    assert_loads(rt, &mut files, &[("it is there", "a.c", 6, Load::Whole, "int a;")]);
     Ok(())
 }
 
 #[rattlefmt::skip]
-fn expect_real_files(rt: &(impl Abort + AllocGlobal + SystemFiles)) {
-    expect_loads(rt, &mut RealFiles::new(rt), &[
+fn assert_real_files(rt: &(impl Abort + AllocGlobal + SystemFiles)) {
+    assert_loads(rt, &mut RealFiles::new(rt), &[
         ("an empty file", "/dev/null", 0, Load::Whole, ""),
         ("bytes without end", "/dev/zero", 100_000, Load::TooLong, ""),
         ("a directory", "/", 6, Load::Failed, ""),
@@ -52,9 +52,9 @@ fn expect_real_files(rt: &(impl Abort + AllocGlobal + SystemFiles)) {
 
 #[test]
 fn files_are_loaded(rt: HostRuntime) -> Result<(), Fail> {
-    expect_memory_files(&rt)?;
-    expect_honest_files(&rt)?;
-    expect_real_files(&rt);
+    assert_memory_files(&rt)?;
+    assert_honest_files(&rt)?;
+    assert_real_files(&rt);
     Ok(())
 }
 

@@ -6,7 +6,7 @@ PYTHON ?= python3
 PROGRAM := build/ksparse
 SOURCES := $(shell find crates crates.txt HANDLES -name out -prune -o -type f -print)
 
-.PHONY: all run test bench fuzz smoke install clean kit
+.PHONY: all run test costs bench fuzz smoke install clean kit
 
 all: $(PROGRAM)
 
@@ -27,6 +27,10 @@ run: $(PROGRAM)
 
 test: | kit
 	$(RT) ci
+
+# What each crate costs the gate. Nothing that an earlier run proved is used.
+costs: | kit
+	$(PYTHON) scripts/costs.py $(RT)
 
 bench: $(PROGRAM)
 	$(PYTHON) scripts/bench.py $(PROGRAM)

@@ -54,28 +54,40 @@ pub record IsNextStatement (names : List (List ℕ)) (unit : NodeList NameId) (b
   pub left : IsLeft names before first statements old failures at (statement ∷ others)
 
 -- before the first statement all are left
-pub IsBodyJudgedTo-begin : (names : List (List ℕ)) (unit : NodeList NameId) (before : List syntax.Item) (first : ℕ) (statements : List syntax.Statement) (old : List Failure) (children : List (ℕ × ℕ)) → ShowParts names unit children (parts_of Evaluated (statement_trees first statements))
+pub IsBodyJudgedTo-begin :
+    (names : List (List ℕ)) (unit : NodeList NameId) (before : List syntax.Item) (first : ℕ) (statements : List syntax.Statement) (old : List Failure) (children : List (ℕ × ℕ))
+    → ShowParts names unit children (parts_of Evaluated (statement_trees first statements))
     → IsBodyJudgedTo names unit before first statements old children old
 IsBodyJudgedTo-begin names unit before first statements old children show =
     record { at = first; rest = statements; show = show; left = record { bound = refl; found_of = refl; counted = refl; known = λ count within known. known } }
 
 -- a child that is left is a statement
-pub IsBodyJudgedTo-next : (names : List (List ℕ)) (unit : NodeList NameId) (before : List syntax.Item) (first : ℕ) (statements : List syntax.Statement) (old : List Failure) (list children : List (ℕ × ℕ)) (child : ℕ × ℕ) (failures : List Failure) → list ≡ child ∷ children → IsBodyJudgedTo names unit before first statements old list failures
+pub IsBodyJudgedTo-next :
+    (names : List (List ℕ)) (unit : NodeList NameId) (before : List syntax.Item) (first : ℕ) (statements : List syntax.Statement) (old : List Failure) (list children : List (ℕ × ℕ)) (child : ℕ × ℕ) (failures : List Failure)
+    → list ≡ child ∷ children → IsBodyJudgedTo names unit before first statements old list failures
     → IsNextStatement names unit before first statements old child.0 children failures
 IsBodyJudgedTo-next names unit before first statements old list children child failures begins judged =
     next judged.rest (subst (λ (l : List (ℕ × ℕ)). ShowParts names unit l (parts_of Evaluated (statement_trees judged.at judged.rest))) begins judged.show) judged.left
   where
-    next : (rest : List syntax.Statement) → ShowParts names unit (child ∷ children) (parts_of Evaluated (statement_trees judged.at rest)) → IsLeft names before first statements old failures judged.at rest → IsNextStatement names unit before first statements old child.0 children failures
+    next :
+        (rest : List syntax.Statement) → ShowParts names unit (child ∷ children) (parts_of Evaluated (statement_trees judged.at rest))
+        → IsLeft names before first statements old failures judged.at rest
+        → IsNextStatement names unit before first statements old child.0 children failures
     next [] show left = absurd show
     next (statement ∷ others) show left = record { at = judged.at; statement = statement; others = others; shows = show.1; show = show.2; left = left }
 
 -- where no child is left, all statements are judged
-pub IsBodyJudgedTo-end : (names : List (List ℕ)) (unit : NodeList NameId) (before : List syntax.Item) (first : ℕ) (statements : List syntax.Statement) (old : List Failure) (list : List (ℕ × ℕ)) (failures : List Failure) → list ≡ [] → IsBodyJudgedTo names unit before first statements old list failures
+pub IsBodyJudgedTo-end :
+    (names : List (List ℕ)) (unit : NodeList NameId) (before : List syntax.Item) (first : ℕ) (statements : List syntax.Statement) (old : List Failure) (list : List (ℕ × ℕ)) (failures : List Failure)
+    → list ≡ [] → IsBodyJudgedTo names unit before first statements old list failures
     → (true ≡ list_all (statement_binds before) statements) × AreJudged names before first statements old failures
 IsBodyJudgedTo-end names unit before first statements old list failures empty judged =
     ends judged.rest (subst (λ (l : List (ℕ × ℕ)). ShowParts names unit l (parts_of Evaluated (statement_trees judged.at judged.rest))) empty judged.show) judged.left
   where
-    ends : (rest : List syntax.Statement) → ShowParts names unit [] (parts_of Evaluated (statement_trees judged.at rest)) → IsLeft names before first statements old failures judged.at rest → (true ≡ list_all (statement_binds before) statements) × AreJudged names before first statements old failures
+    ends :
+        (rest : List syntax.Statement) → ShowParts names unit [] (parts_of Evaluated (statement_trees judged.at rest))
+        → IsLeft names before first statements old failures judged.at rest
+        → (true ≡ list_all (statement_binds before) statements) × AreJudged names before first statements old failures
     ends [] show left = (
       left.bound,
       record { found_of = sym (append-nil (failures_of names failures)) ∙ left.found_of; known = λ count within known. left.known count (omega (arith, within, left.counted)) known },
@@ -83,14 +95,19 @@ IsBodyJudgedTo-end names unit before first statements old list failures empty ju
     ends (statement ∷ others) show left = absurd show
 
 -- where a statement isn't bound, the body isn't
-pub body-unbound : (names : List (List ℕ)) (before : List syntax.Item) (first : ℕ) (statements : List syntax.Statement) (old failures : List Failure) (at : ℕ) (statement : syntax.Statement) (others : List syntax.Statement) (scope : Scope) (kept : Statement)
-    → IsLeft names before first statements old failures at (statement ∷ others) → IsScopeOf names before scope → IsKnownStatement names kept → statement_of names kept ≡ statement → false ≡ found.is_bound scope kept → false ≡ list_all (statement_binds before) statements
+pub body-unbound :
+    (names : List (List ℕ)) (before : List syntax.Item) (first : ℕ) (statements : List syntax.Statement) (old failures : List Failure) (at : ℕ) (statement : syntax.Statement) (others : List syntax.Statement) (scope : Scope) (kept : Statement)
+    → IsLeft names before first statements old failures at (statement ∷ others) → IsScopeOf names before scope → IsKnownStatement names kept
+    → statement_of names kept ≡ statement → false ≡ found.is_bound scope kept → false ≡ list_all (statement_binds before) statements
 body-unbound names before first statements old failures at statement others scope kept left is_scope known seen unbound =
     ap (λ bound. bound && list_all (statement_binds before) others) (unbound ∙ is_bound-statement names before scope kept is_scope known ∙ ap (statement_binds before) seen) ∙ left.bound
 
 -- and where it is, fewer are left
-IsLeft-more : (names : List (List ℕ)) (before : List syntax.Item) (first : ℕ) (statements : List syntax.Statement) (old failures later : List Failure) (at : ℕ) (others : List syntax.Statement) (scope : Scope) (kept : Statement)
-    → AreApart names → IsLeft names before first statements old failures at (statement_of names kept ∷ others) → IsScopeOf names before scope → IsKnownStatement names kept → true ≡ found.is_bound scope kept → later ≡ failures ++ found.statement_found scope (tokens_of at (statement_of names kept)) kept
+IsLeft-more :
+    (names : List (List ℕ)) (before : List syntax.Item) (first : ℕ) (statements : List syntax.Statement) (old failures later : List Failure) (at : ℕ) (others : List syntax.Statement) (scope : Scope) (kept : Statement)
+    → AreApart names → IsLeft names before first statements old failures at (statement_of names kept ∷ others) → IsScopeOf names before scope
+    → IsKnownStatement names kept → true ≡ found.is_bound scope kept
+    → later ≡ failures ++ found.statement_found scope (tokens_of at (statement_of names kept)) kept
     → IsLeft names before first statements old later (at + length (syntax.statement_spelled (statement_of names kept))) others
 IsLeft-more names before first statements old failures later at others scope kept apart left is_scope known bound is_later =
     let statement = statement_of names kept in
@@ -110,8 +127,11 @@ IsLeft-more names before first statements old failures later at others scope kep
     }
 
 -- so the statement is judged
-pub IsBodyJudgedTo-more : (names : List (List ℕ)) (unit : NodeList NameId) (before : List syntax.Item) (first : ℕ) (statements : List syntax.Statement) (old failures later : List Failure) (child : ℕ) (children : List (ℕ × ℕ)) (scope : Scope) (tokens : AssignmentTokens) (kept : Statement)
-    → AreApart names → (next : IsNextStatement names unit before first statements old child children failures) → IsScopeOf names before scope → IsKnownStatement names kept → tokens ≡ tokens_of next.at next.statement → statement_of names kept ≡ next.statement → true ≡ found.is_bound scope kept → later ≡ failures ++ found.statement_found scope tokens kept
+pub IsBodyJudgedTo-more :
+    (names : List (List ℕ)) (unit : NodeList NameId) (before : List syntax.Item) (first : ℕ) (statements : List syntax.Statement) (old failures later : List Failure) (child : ℕ) (children : List (ℕ × ℕ)) (scope : Scope) (tokens : AssignmentTokens) (kept : Statement)
+    → AreApart names → (next : IsNextStatement names unit before first statements old child children failures) → IsScopeOf names before scope
+    → IsKnownStatement names kept → tokens ≡ tokens_of next.at next.statement → statement_of names kept ≡ next.statement
+    → true ≡ found.is_bound scope kept → later ≡ failures ++ found.statement_found scope tokens kept
     → IsBodyJudgedTo names unit before first statements old children later
 IsBodyJudgedTo-more names unit before first statements old failures later child children scope tokens kept apart next is_scope known stands seen bound is_later =
     let left : IsLeft names before first statements old failures next.at (statement_of names kept ∷ next.others) = subst (λ (s : syntax.Statement). IsLeft names before first statements old failures next.at (s ∷ next.others)) (sym seen) next.left in

@@ -19,7 +19,9 @@ length-further_word names words.Noderef = refl
 length-further_word names (words.AddressSpace id) = refl
 
 -- the tokens of words with their commas
-length-further_words : (names : List (List ℕ)) (all : List Word) → length (flat_map syntax.further_word_spelled (map (word_of names) all)) ≡ sum_by further_word_count all
+length-further_words :
+    (names : List (List ℕ)) (all : List Word)
+    → length (flat_map syntax.further_word_spelled (map (word_of names) all)) ≡ sum_by further_word_count all
 length-further_words names [] = refl
 length-further_words names (word ∷ all) =
     rw (sum_by-cons further_word_count word all)
@@ -32,13 +34,16 @@ length-attribute names (word ∷ all) =
     simp length-append (omega (arith, length-further_word names word, length-further_words names all, sum_by-cons further_word_count word all))
 
 -- the tokens of a statement
-pub length-statement : (names : List (List ℕ)) (statement : Statement) → length (syntax.statement_spelled (statement_of names statement)) ≡ statement_count statement
+pub length-statement :
+    (names : List (List ℕ)) (statement : Statement) → length (syntax.statement_spelled (statement_of names statement)) ≡ statement_count statement
 length-statement names (statements.Assign target source) = refl
 length-statement names (statements.AssignThrough pointer source) = refl
 length-statement names (statements.AssignAddress target object) = refl
 
 -- the tokens of statements
-length-statements : (names : List (List ℕ)) (all : List Statement) → length (flat_map syntax.statement_spelled (map (statement_of names) all)) ≡ sum_by statement_count all
+length-statements :
+    (names : List (List ℕ)) (all : List Statement)
+    → length (flat_map syntax.statement_spelled (map (statement_of names) all)) ≡ sum_by statement_count all
 length-statements names [] = refl
 length-statements names (statement ∷ all) =
     rw (sum_by-cons statement_count statement all)

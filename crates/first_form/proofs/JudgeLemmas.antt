@@ -40,7 +40,9 @@ is_space-space_of names (spaces.Number number) = refl
 is_space-space_of names (spaces.Named id) = refl
 
 -- spaces of the table are equal where they are seen as equal
-are_equal_spaces-space_of : (names : List (List ℕ)) (a b : Space) → AreApart names → IsKnownSpace names a → IsKnownSpace names b → judging.are_equal_spaces (space_of names a) (space_of names b) ≡ found.are_equal_spaces a b
+are_equal_spaces-space_of :
+    (names : List (List ℕ)) (a b : Space) → AreApart names → IsKnownSpace names a → IsKnownSpace names b
+    → judging.are_equal_spaces (space_of names a) (space_of names b) ≡ found.are_equal_spaces a b
 are_equal_spaces-space_of names spaces.None spaces.None apart known_a known_b = refl
 are_equal_spaces-space_of names spaces.None (spaces.Number n) apart known_a known_b = refl
 are_equal_spaces-space_of names spaces.None (spaces.Named y) apart known_a known_b = refl
@@ -52,7 +54,9 @@ are_equal_spaces-space_of names (spaces.Named x) (spaces.Number n) apart known_a
 are_equal_spaces-space_of names (spaces.Named x) (spaces.Named y) apart known_a known_b = bytes_eq-text_of names x y apart known_a known_b
 
 -- and so are flags
-are_equal_flags-flags_of : (names : List (List ℕ)) (a b : ObjectType) → AreApart names → IsKnownObject names a → IsKnownObject names b → judging.are_equal_flags (flags_of names a) (flags_of names b) ≡ found.have_equal_flags a b
+are_equal_flags-flags_of :
+    (names : List (List ℕ)) (a b : ObjectType) → AreApart names → IsKnownObject names a → IsKnownObject names b
+    → judging.are_equal_flags (flags_of names a) (flags_of names b) ≡ found.have_equal_flags a b
 are_equal_flags-flags_of names a b apart known_a known_b =
     ap (λ same. judging.are_equal_bools a.noderef b.noderef && same) (are_equal_spaces-space_of names a.space b.space apart known_a known_b)
 
@@ -65,7 +69,9 @@ access_judged token stars flags =
     else []
 
 -- what is found of an access is what is judged of it
-failures_of-access : (names : List (List ℕ)) (token : ℕ) (place : ObjectType) (declared : binding.Declared) → IsDeclaredSo names place declared → failures_of names (found.access_found token place) ≡ judging.judged_access token declared
+failures_of-access :
+    (names : List (List ℕ)) (token : ℕ) (place : ObjectType) (declared : binding.Declared) → IsDeclaredSo names place declared
+    → failures_of names (found.access_found token place) ≡ judging.judged_access token declared
 failures_of-access names token place declared so =
     map-if (failure_of names) (found.is_flagged_int place) _
     ∙ ap (λ flagged. if nat_eq place.stars 0 && (place.noderef || flagged) then failure_of names (record { token = token; cause = causes.FlaggedAccess place }) ∷ [] else []) (sym (is_space-space_of names place.space))
@@ -80,7 +86,9 @@ assignment_judged token target target_flags source source_flags =
     else []
 
 -- what is found of an assignment is what is judged of it
-failures_of-assignment : (names : List (List ℕ)) (token : ℕ) (target source : ObjectType) (to from : binding.Declared) → AreApart names → IsDeclaredSo names target to → IsDeclaredSo names source from → failures_of names (found.assignment_found token target source) ≡ judging.judged_assignment token to from
+failures_of-assignment :
+    (names : List (List ℕ)) (token : ℕ) (target source : ObjectType) (to from : binding.Declared) → AreApart names → IsDeclaredSo names target to
+    → IsDeclaredSo names source from → failures_of names (found.assignment_found token target source) ≡ judging.judged_assignment token to from
 failures_of-assignment names token target source to from apart so_target so_source =
     map-if (failure_of names) (nat_lt 0 target.stars && not (found.have_equal_flags target source)) _
     ∙ ap (λ equal. if nat_lt 0 target.stars && not equal then failure_of names (record { token = token; cause = causes.SpacesMixed target source }) ∷ [] else []) (sym (are_equal_flags-flags_of names target source apart so_target.known so_source.known))
@@ -97,7 +105,9 @@ Agree names (Some object) None = ⊥
 Agree names (Some object) (Some declared) = IsDeclaredSo names object declared
 
 -- what a name stands for agrees with what is declared
-Agree-StandsFor : (names : List (List ℕ)) (stands : Option Binding) (is_there : Bool) (declared : Option binding.Declared) → StandsFor names stands is_there declared → Agree names (bound_object stands) declared
+Agree-StandsFor :
+    (names : List (List ℕ)) (stands : Option Binding) (is_there : Bool) (declared : Option binding.Declared)
+    → StandsFor names stands is_there declared → Agree names (bound_object stands) declared
 Agree-StandsFor names None is_there declared says = subst (Agree names None) (sym says.1) tt
 Agree-StandsFor names (Some bindings.Function) is_there None says = tt
 Agree-StandsFor names (Some bindings.Function) is_there (Some declared) says = says.1
@@ -119,29 +129,39 @@ Agree-both names P no_left no_right both (Some left) (Some right) (Some to) None
 Agree-both names P no_left no_right both (Some left) (Some right) (Some to) (Some from) agree_left agree_right = both left right to from agree_left agree_right
 
 -- equal stars are those that are declared
-have_equal_stars-Agree : (names : List (List ℕ)) (left right : Option ObjectType) (to from : Option binding.Declared) → Agree names left to → Agree names right from → found.both_pass (λ a b. nat_eq a.stars b.stars) left right ≡ binding.have_equal_stars to from
+have_equal_stars-Agree :
+    (names : List (List ℕ)) (left right : Option ObjectType) (to from : Option binding.Declared) → Agree names left to → Agree names right from
+    → found.both_pass (λ a b. nat_eq a.stars b.stars) left right ≡ binding.have_equal_stars to from
 have_equal_stars-Agree names =
     Agree-both names (λ left right to from. found.both_pass (λ a b. nat_eq a.stars b.stars) left right ≡ binding.have_equal_stars to from) (λ _ _. refl) (λ _ _. refl)
     (λ left right to from so_left so_right. ap (λ stars. nat_eq stars right.stars) so_left.stars ∙ ap (λ stars. nat_eq to.stars stars) so_right.stars)
 
 -- and so is one star more
-has_one_star_more-Agree : (names : List (List ℕ)) (left right : Option ObjectType) (to from : Option binding.Declared) → Agree names left to → Agree names right from → found.both_pass found.can_point_to left right ≡ binding.has_one_star_more to from
+has_one_star_more-Agree :
+    (names : List (List ℕ)) (left right : Option ObjectType) (to from : Option binding.Declared) → Agree names left to → Agree names right from
+    → found.both_pass found.can_point_to left right ≡ binding.has_one_star_more to from
 has_one_star_more-Agree names =
     Agree-both names (λ left right to from. found.both_pass found.can_point_to left right ≡ binding.has_one_star_more to from) (λ _ _. refl) (λ _ _. refl)
     (λ left right to from so_left so_right. ap (λ stars. nat_eq stars (right.stars + 1)) so_left.stars ∙ ap (λ stars. nat_eq to.stars (stars + 1)) so_right.stars)
 
 -- what a pointer points to is declared so where the pointer is
-IsDeclaredSo-target : (names : List (List ℕ)) (pointer : ObjectType) (declared : binding.Declared) → IsDeclaredSo names pointer declared → IsDeclaredSo names (target_of pointer) (judging.behind_pointer declared)
+IsDeclaredSo-target :
+    (names : List (List ℕ)) (pointer : ObjectType) (declared : binding.Declared) → IsDeclaredSo names pointer declared
+    → IsDeclaredSo names (target_of pointer) (judging.behind_pointer declared)
 IsDeclaredSo-target names pointer declared so =
     record { stars = ap (λ stars. stars - 1) so.stars; flags = so.flags; known = so.known }
 
 -- and so is the address of an object
-IsDeclaredSo-address : (names : List (List ℕ)) (object : ObjectType) (declared : binding.Declared) → IsDeclaredSo names object declared → IsDeclaredSo names (address_of object) (judging.address_of declared)
+IsDeclaredSo-address :
+    (names : List (List ℕ)) (object : ObjectType) (declared : binding.Declared) → IsDeclaredSo names object declared
+    → IsDeclaredSo names (address_of object) (judging.address_of declared)
 IsDeclaredSo-address names object declared so =
     record { stars = omega (arith, so.stars); flags = so.flags; known = so.known }
 
 -- failures one behind the other are seen so
-failures_of-three : (names : List (List ℕ)) (a b c : List Failure) (x y z : List rules.Failure) → failures_of names a ≡ x → failures_of names b ≡ y → failures_of names c ≡ z → failures_of names (a ++ b ++ c) ≡ x ++ y ++ z
+failures_of-three :
+    (names : List (List ℕ)) (a b c : List Failure) (x y z : List rules.Failure) → failures_of names a ≡ x → failures_of names b ≡ y
+    → failures_of names c ≡ z → failures_of names (a ++ b ++ c) ≡ x ++ y ++ z
 failures_of-three names a b c x y z is_x is_y is_z =
     map-append (failure_of names) (a ++ b) c
     ∙ ap (λ front. front ++ failures_of names c) (map-append (failure_of names) a b)
@@ -150,7 +170,10 @@ failures_of-three names a b c x y z is_x is_y is_z =
     ∙ ap (λ back. x ++ y ++ back) is_z
 
 -- what is found of `target = source ;` is what is judged of it
-failures_of-assign : (names : List (List ℕ)) (first : ℕ) → AreApart names → (target source : ObjectType) (to from : binding.Declared) → IsDeclaredSo names target to → IsDeclaredSo names source from → failures_of names (found.assign_found (record { left = first; equals = first + 1; right = first + 2 }) target source) ≡ judging.judged_assign first to from
+failures_of-assign :
+    (names : List (List ℕ)) (first : ℕ) → AreApart names → (target source : ObjectType) (to from : binding.Declared) → IsDeclaredSo names target to
+    → IsDeclaredSo names source from
+    → failures_of names (found.assign_found (record { left = first; equals = first + 1; right = first + 2 }) target source) ≡ judging.judged_assign first to from
 failures_of-assign names first apart target source to from so_target so_source =
     failures_of-three names _ _ _ _ _ _
     (failures_of-access names first target to so_target)
@@ -158,7 +181,10 @@ failures_of-assign names first apart target source to from so_target so_source =
     (failures_of-access names (first + 2) source from so_source)
 
 -- the same of `* pointer = source ;`
-failures_of-assign_through : (names : List (List ℕ)) (first : ℕ) → AreApart names → (pointer source : ObjectType) (to from : binding.Declared) → IsDeclaredSo names pointer to → IsDeclaredSo names source from → failures_of names (found.assign_through_found (record { left = first; equals = first + 2; right = first + 3 }) pointer source) ≡ judging.judged_assign_through first to from
+failures_of-assign_through :
+    (names : List (List ℕ)) (first : ℕ) → AreApart names → (pointer source : ObjectType) (to from : binding.Declared) → IsDeclaredSo names pointer to
+    → IsDeclaredSo names source from
+    → failures_of names (found.assign_through_found (record { left = first; equals = first + 2; right = first + 3 }) pointer source) ≡ judging.judged_assign_through first to from
 failures_of-assign_through names first apart pointer source to from so_pointer so_source =
     let so_target = IsDeclaredSo-target names pointer to so_pointer in
     failures_of-three names _ _ _ _ _ _
@@ -167,25 +193,33 @@ failures_of-assign_through names first apart pointer source to from so_pointer s
     (failures_of-access names (first + 3) source from so_source)
 
 -- and of `target = & object ;`
-failures_of-assign_address : (names : List (List ℕ)) (first : ℕ) → AreApart names → (target object : ObjectType) (to from : binding.Declared) → IsDeclaredSo names target to → IsDeclaredSo names object from → failures_of names (found.assign_address_found (record { left = first; equals = first + 1; right = first + 2 }) target object) ≡ judging.judged_assign_address first to from
+failures_of-assign_address :
+    (names : List (List ℕ)) (first : ℕ) → AreApart names → (target object : ObjectType) (to from : binding.Declared) → IsDeclaredSo names target to
+    → IsDeclaredSo names object from
+    → failures_of names (found.assign_address_found (record { left = first; equals = first + 1; right = first + 2 }) target object) ≡ judging.judged_assign_address first to from
 failures_of-assign_address names first apart target object to from so_target so_object =
     failures_of-assignment names (first + 1) target (address_of object) to (judging.address_of from) apart so_target (IsDeclaredSo-address names object from so_object)
 
 -- what is found where both are objects is what is judged there
 failures_of-both : (names : List (List ℕ)) (both : ObjectType → ObjectType → List Failure) (judged : binding.Declared → binding.Declared → List rules.Failure)
     → ((left right : ObjectType) (to from : binding.Declared) → IsDeclaredSo names left to → IsDeclaredSo names right from → failures_of names (both left right) ≡ judged to from)
-    → (left right : Option ObjectType) (to from : Option binding.Declared) → Agree names left to → Agree names right from → failures_of names (found.both_found both left right) ≡ judging.judged_objects judged to from
+    → (left right : Option ObjectType) (to from : Option binding.Declared) → Agree names left to → Agree names right from
+    → failures_of names (found.both_found both left right) ≡ judging.judged_objects judged to from
 failures_of-both names both judged same =
     Agree-both names (λ left right to from. failures_of names (found.both_found both left right) ≡ judging.judged_objects judged to from) (λ _ _. refl) (λ _ _. refl) same
 
 -- A statement
 
 -- the object of a name in a scope agrees with the one among the items before
-Agree-name : (names : List (List ℕ)) (before : List syntax.Item) (scope : Scope) (name : NameId) → IsScopeOf names before scope → IsKnown names name → Agree names (object_in scope name) (binding.object_of before (text_of names name))
+Agree-name :
+    (names : List (List ℕ)) (before : List syntax.Item) (scope : Scope) (name : NameId) → IsScopeOf names before scope → IsKnown names name
+    → Agree names (object_in scope name) (binding.object_of before (text_of names name))
 Agree-name names before scope name is_scope known = Agree-StandsFor names (binding_in scope name) _ _ (is_scope name known)
 
 -- a statement is bound where the definition binds it
-pub is_bound-statement : (names : List (List ℕ)) (before : List syntax.Item) (scope : Scope) (statement : Statement) → IsScopeOf names before scope → IsKnownStatement names statement → found.is_bound scope statement ≡ binding.statement_binds before (statement_of names statement)
+pub is_bound-statement :
+    (names : List (List ℕ)) (before : List syntax.Item) (scope : Scope) (statement : Statement) → IsScopeOf names before scope
+    → IsKnownStatement names statement → found.is_bound scope statement ≡ binding.statement_binds before (statement_of names statement)
 is_bound-statement names before scope (Assign target source) is_scope known =
     have_equal_stars-Agree names _ _ _ _ (Agree-name names before scope target is_scope known.0) (Agree-name names before scope source is_scope known.1)
 is_bound-statement names before scope (AssignThrough pointer source) is_scope known =
@@ -194,7 +228,10 @@ is_bound-statement names before scope (AssignAddress target object) is_scope kno
     has_one_star_more-Agree names _ _ _ _ (Agree-name names before scope target is_scope known.0) (Agree-name names before scope object is_scope known.1)
 
 -- what is found in a statement is what is judged of it
-pub failures_of-statement : (names : List (List ℕ)) (before : List syntax.Item) (scope : Scope) (first : ℕ) (statement : Statement) → AreApart names → IsScopeOf names before scope → IsKnownStatement names statement → failures_of names (found.statement_found scope (tokens_of first (statement_of names statement)) statement) ≡ judging.judged_statement before first (statement_of names statement)
+pub failures_of-statement :
+    (names : List (List ℕ)) (before : List syntax.Item) (scope : Scope) (first : ℕ) (statement : Statement) → AreApart names
+    → IsScopeOf names before scope → IsKnownStatement names statement
+    → failures_of names (found.statement_found scope (tokens_of first (statement_of names statement)) statement) ≡ judging.judged_statement before first (statement_of names statement)
 failures_of-statement names before scope first (Assign target source) apart is_scope known =
     failures_of-both names (found.assign_found (record { left = first; equals = first + 1; right = first + 2 })) (judging.judged_assign first) (failures_of-assign names first apart) _ _ _ _ (Agree-name names before scope target is_scope known.0) (Agree-name names before scope source is_scope known.1)
 failures_of-statement names before scope first (AssignThrough pointer source) apart is_scope known =
@@ -205,15 +242,22 @@ failures_of-statement names before scope first (AssignAddress target object) apa
 -- Where failures stand, and which spaces they name
 
 -- what is found of an access stands at its token, and names a space of the table
-known-access : (names : List (List ℕ)) (count token : ℕ) (place : ObjectType) → token < count → IsKnownObject names place → AreKnownFailures names count (found.access_found token place)
+known-access :
+    (names : List (List ℕ)) (count token : ℕ) (place : ObjectType) → token < count → IsKnownObject names place
+    → AreKnownFailures names count (found.access_found token place)
 known-access names count token place within known = All-if (IsKnownFailure names count) _ _ (within, known)
 
 -- the same of an assignment
-known-assignment : (names : List (List ℕ)) (count token : ℕ) (target source : ObjectType) → token < count → IsKnownObject names target → IsKnownObject names source → AreKnownFailures names count (found.assignment_found token target source)
+known-assignment :
+    (names : List (List ℕ)) (count token : ℕ) (target source : ObjectType) → token < count → IsKnownObject names target → IsKnownObject names source
+    → AreKnownFailures names count (found.assignment_found token target source)
 known-assignment names count token target source within known_target known_source = All-if (IsKnownFailure names count) _ _ (within, (known_target, known_source))
 
 -- what is found of the objects in a statement stands in the statement, and names spaces of the table
-known-objects : (names : List (List ℕ)) (count first : ℕ) (statement : Statement) (left right : ObjectType) → first + length (syntax.statement_spelled (statement_of names statement)) ≤ count → IsKnownObject names left → IsKnownObject names right → AreKnownFailures names count (found.objects_found (tokens_of first (statement_of names statement)) statement left right)
+known-objects :
+    (names : List (List ℕ)) (count first : ℕ) (statement : Statement) (left right : ObjectType)
+    → first + length (syntax.statement_spelled (statement_of names statement)) ≤ count → IsKnownObject names left → IsKnownObject names right
+    → AreKnownFailures names count (found.objects_found (tokens_of first (statement_of names statement)) statement left right)
 known-objects names count first (Assign target source) left right within known_left known_right =
     All-three (IsKnownFailure names count) _ _ _
     (known-access names count first left (omega arith) known_left)
@@ -228,13 +272,19 @@ known-objects names count first (AssignAddress target object) left right within 
     known-assignment names count (first + 1) left (address_of right) (omega arith) known_left known_right
 
 -- the names on both sides of a known statement are known
-known-sides : (names : List (List ℕ)) (statement : Statement) → IsKnownStatement names statement → IsKnown names (found.left_of statement) × IsKnown names (found.right_of statement)
+known-sides :
+    (names : List (List ℕ)) (statement : Statement) → IsKnownStatement names statement
+    → IsKnown names (found.left_of statement) × IsKnown names (found.right_of statement)
 known-sides names (Assign target source) known = known
 known-sides names (AssignThrough pointer source) known = known
 known-sides names (AssignAddress target object) known = known
 
 -- what is found in a statement stands in it, and names spaces of the table
-pub known-statement : (names : List (List ℕ)) (before : List syntax.Item) (scope : Scope) (count first : ℕ) (statement : Statement) → first + length (syntax.statement_spelled (statement_of names statement)) ≤ count → IsScopeOf names before scope → IsKnownStatement names statement → AreKnownFailures names count (found.statement_found scope (tokens_of first (statement_of names statement)) statement)
+pub known-statement :
+    (names : List (List ℕ)) (before : List syntax.Item) (scope : Scope) (count first : ℕ) (statement : Statement)
+    → first + length (syntax.statement_spelled (statement_of names statement)) ≤ count → IsScopeOf names before scope
+    → IsKnownStatement names statement
+    → AreKnownFailures names count (found.statement_found scope (tokens_of first (statement_of names statement)) statement)
 known-statement names before scope count first statement within is_scope known =
     let sides = known-sides names statement known in
     Agree-both names (λ left right to from. AreKnownFailures names count (found.both_found (found.objects_found (tokens_of first (statement_of names statement)) statement) left right)) (λ _ _. All-nil _) (λ _ _. All-nil _)

@@ -16,7 +16,9 @@ passes_at p xs i d x all inside is =
     (cases_Bool (p x))
 
 -- the same of a list that is mapped
-pub passes_mapped_at : {X Y : Type 0} (p : Y → Bool) (f : X → Y) (xs : List X) (i : ℕ) (d x : X) → list_all p (map f xs) ≡ true → i < length xs → slice_index_or xs i d ≡ x → p (f x) ≡ true
+pub passes_mapped_at :
+    {X Y : Type 0} (p : Y → Bool) (f : X → Y) (xs : List X) (i : ℕ) (d x : X) → list_all p (map f xs) ≡ true → i < length xs
+    → slice_index_or xs i d ≡ x → p (f x) ≡ true
 passes_mapped_at p f xs i d x all inside is = passes_at (λ y. p (f y)) xs i d x (sym (list_all-map p f xs) ∙ all) inside is
 
 -- what holds of each element, and of the one that joins them, holds of each

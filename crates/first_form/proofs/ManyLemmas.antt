@@ -9,7 +9,10 @@ abbrev pub LeadsTo : {B : Type 0} → (Texts → Option (B × Texts)) → List B
 LeadsTo read done rest whole = (done ++ (read_many read rest).0, (read_many read rest).1) ≡ whole
 
 -- the next one joins what was read
-pub LeadsTo-more : {A B : Type 0} (read : Texts → Option (B × Texts)) → Shrinks read → (see : A → B) (items more : List A) (x : A) (rest others : Texts) (whole : List B × Texts) → more ≡ items ++ x ∷ [] → Some (see x, others) ≡ read rest → LeadsTo read (map see items) rest whole → LeadsTo read (map see more) others whole
+pub LeadsTo-more :
+    {A B : Type 0} (read : Texts → Option (B × Texts)) → Shrinks read
+    → (see : A → B) (items more : List A) (x : A) (rest others : Texts) (whole : List B × Texts) → more ≡ items ++ x ∷ []
+    → Some (see x, others) ≡ read rest → LeadsTo read (map see items) rest whole → LeadsTo read (map see more) others whole
 LeadsTo-more read shrinks see items more x rest others whole pushed found leads =
     let step = read_many_some read shrinks rest (see x) others (sym found) in
     let grown = map-append see items (x ∷ []) in
@@ -17,7 +20,9 @@ LeadsTo-more read shrinks see items more x rest others whole pushed found leads 
     rw (pushed, grown, grouped) (rw step at leads)
 
 -- where the reader finds nothing, what was read is the whole
-pub LeadsTo-end : {B : Type 0} (read : Texts → Option (B × Texts)) (done : List B) (rest : Texts) (whole : List B × Texts) → None ≡ read rest → LeadsTo read done rest whole → (done, rest) ≡ whole
+pub LeadsTo-end :
+    {B : Type 0} (read : Texts → Option (B × Texts)) (done : List B) (rest : Texts) (whole : List B × Texts) → None ≡ read rest
+    → LeadsTo read done rest whole → (done, rest) ≡ whole
 LeadsTo-end read done rest whole nothing leads =
     let step = read_many_none read rest (sym nothing) in
     rw append-nil at (rw step at leads)

@@ -36,12 +36,16 @@ plain_decimal_parts [] is = absurd (false≢true is)
 plain_decimal_parts (digit ∷ rest) is = record { some = omega arith; digits = (and_parts _ _ is).0 }
 
 -- digits are parsed exactly where their number fits
-parsed_where_it_fits : {E : Type 0} (text : List ℕ) (r : Result ℕ E) → OkIff r ((0 < length text) × (number_of text < 2 ^ 32)) (number_of text) → 0 < length text → is_ok r ≡ nat_le (number_of text) 4294967295
+parsed_where_it_fits :
+    {E : Type 0} (text : List ℕ) (r : Result ℕ E) → OkIff r ((0 < length text) × (number_of text < 2 ^ 32)) (number_of text) → 0 < length text
+    → is_ok r ≡ nat_le (number_of text) 4294967295
 parsed_where_it_fits text (Ok number) is some = sym (le-leb _ _ (omega (arith, is.0.1)))
 parsed_where_it_fits text (Err fault) is some =
     sym (lt-leb _ _ (⊎_elim (λ small. absurd (is (some, omega (arith, small)))) (λ large. omega (arith, large)) (cases_lt (number_of text) 4294967296)))
 
-pub parsed_digits : {E : Type 0} (spelling text : List ℕ) → text ≡ spelling → (r : Result ℕ E) → ParsesUnsigned 32 10 text r → IsDigits spelling → is_ok r ≡ nat_le (number_of spelling) 4294967295
+pub parsed_digits :
+    {E : Type 0} (spelling text : List ℕ) → text ≡ spelling → (r : Result ℕ E) → ParsesUnsigned 32 10 text r → IsDigits spelling
+    → is_ok r ≡ nat_le (number_of spelling) 4294967295
 parsed_digits {E} spelling text same r parses is =
     let own = subst (λ (t : List ℕ). ParsesUnsigned {E = E} 32 10 t r) same parses in
     parsed_where_it_fits spelling r (parse_digits digits 32 spelling r own is.digits) is.some

@@ -22,7 +22,9 @@ slice_get-known names id known =
     e ∙ ap Some (sym (ap (λ found. unwrap_or found []) e))
 
 -- known ids are equal exactly where their spellings are
-pub bytes_eq-text_of : (names : List (List ℕ)) (a b : NameId) → AreApart names → IsKnown names a → IsKnown names b → bytes_eq (text_of names a) (text_of names b) ≡ nat_eq a.0 b.0
+pub bytes_eq-text_of :
+    (names : List (List ℕ)) (a b : NameId) → AreApart names → IsKnown names a → IsKnown names b
+    → bytes_eq (text_of names a) (text_of names b) ≡ nat_eq a.0 b.0
 bytes_eq-text_of names a b apart known_a known_b =
     ⊎_elim
     (λ equal.
@@ -35,28 +37,38 @@ bytes_eq-text_of names a b apart known_a known_b =
     (cases_Bool (nat_eq a.0 b.0))
 
 -- an item more declares its name
-pub is_declared-push : (before : List syntax.Item) (item : syntax.Item) (name : List ℕ) → is_declared (before ++ item ∷ []) name ≡ (is_declared before name || bytes_eq (item_name item) name)
+pub is_declared-push :
+    (before : List syntax.Item) (item : syntax.Item) (name : List ℕ)
+    → is_declared (before ++ item ∷ []) name ≡ (is_declared before name || bytes_eq (item_name item) name)
 is_declared-push before item name =
     list_any-append (λ other. bytes_eq (item_name other) name) before (item ∷ []) ∙ ap (λ last. is_declared before name || last) (or-false (bytes_eq (item_name item) name))
 
 -- a choice by two tests, the later one first
-cond-or : (x y : Bool) (first rest later last : Option Declared) → later ≡ (if y then rest else last) → (if x then first else later) ≡ (if x || y then (if x then first else rest) else last)
+cond-or :
+    (x y : Bool) (first rest later last : Option Declared) → later ≡ (if y then rest else last)
+    → (if x then first else later) ≡ (if x || y then (if x then first else rest) else last)
 cond-or true y first rest later last is = refl
 cond-or false y first rest later last is = is
 
 -- and where the name isn't declared before, it stands for that item's object
-pub object_of-push : (before : List syntax.Item) (item : syntax.Item) (name : List ℕ) → object_of (before ++ item ∷ []) name ≡ (if is_declared before name then object_of before name else (if bytes_eq (item_name item) name then item_declared item else None))
+pub object_of-push :
+    (before : List syntax.Item) (item : syntax.Item) (name : List ℕ)
+    → object_of (before ++ item ∷ []) name ≡ (if is_declared before name then object_of before name else (if bytes_eq (item_name item) name then item_declared item else None))
 object_of-push [] item name = refl
 object_of-push (first ∷ before) item name =
     cond-or (bytes_eq (item_name first) name) (is_declared before name) _ _ _ _ (object_of-push before item name)
 
 -- what a name stands for says whether it is declared
-pub is_some-binding : (names : List (List ℕ)) (binding : Option Binding) (is_there : Bool) (declared : Option Declared) → StandsFor names binding is_there declared → is_some binding ≡ is_there
+pub is_some-binding :
+    (names : List (List ℕ)) (binding : Option Binding) (is_there : Bool) (declared : Option Declared) → StandsFor names binding is_there declared
+    → is_some binding ≡ is_there
 is_some-binding names None is_there declared stands = sym stands.0
 is_some-binding names (Some binding) is_there declared stands = sym stands.0
 
 -- what a name stands for once one more binding is there, at the same name or at another
-StandsFor-push : (names : List (List ℕ)) (same : Bool) (binding : Binding) (old : Option Binding) (is_there : Bool) (declared last : Option Declared) → StandsFor names old is_there declared → IsBindingOf names binding last → (same ≡ true → is_there ≡ false)
+StandsFor-push :
+    (names : List (List ℕ)) (same : Bool) (binding : Binding) (old : Option Binding) (is_there : Bool) (declared last : Option Declared)
+    → StandsFor names old is_there declared → IsBindingOf names binding last → (same ≡ true → is_there ≡ false)
     → StandsFor names (if same then Some binding else old) (is_there || same) (if is_there then declared else (if same then last else None))
 StandsFor-push names true binding old true declared last stands is_binding unlike = absurd (false≢true (sym (unlike refl)))
 StandsFor-push names true binding old false declared last stands is_binding unlike = (refl, is_binding)
@@ -65,14 +77,18 @@ StandsFor-push names false binding None false declared last stands is_binding un
 StandsFor-push names false binding (Some old) false declared last stands is_binding unlike = absurd (false≢true stands.0)
 
 -- the same by equal parts
-StandsFor-same : (names : List (List ℕ)) (binding other : Option Binding) (is_there is_here : Bool) (declared found : Option Declared) → other ≡ binding → is_here ≡ is_there → found ≡ declared → StandsFor names binding is_there declared → StandsFor names other is_here found
+StandsFor-same :
+    (names : List (List ℕ)) (binding other : Option Binding) (is_there is_here : Bool) (declared found : Option Declared) → other ≡ binding
+    → is_here ≡ is_there → found ≡ declared → StandsFor names binding is_there declared → StandsFor names other is_here found
 StandsFor-same names binding other is_there is_here declared found same_binding same_there same_declared stands =
     subst (λ (x : Option Binding). StandsFor names x is_here found) (sym same_binding)
     (subst (λ (x : Bool). StandsFor names binding x found) (sym same_there)
     (subst (λ (x : Option Declared). StandsFor names binding is_there x) (sym same_declared) stands))
 
 -- a scope that has an item's name besides is the scope of one item more
-pub IsScopeOf-push : (names : List (List ℕ)) (before : List syntax.Item) (item : syntax.Item) (name : NameId) (binding : Binding) (old new : Scope) → AreApart names → IsKnown names name → text_of names name ≡ item_name item → is_declared before (item_name item) ≡ false
+pub IsScopeOf-push :
+    (names : List (List ℕ)) (before : List syntax.Item) (item : syntax.Item) (name : NameId) (binding : Binding) (old new : Scope) → AreApart names
+    → IsKnown names name → text_of names name ≡ item_name item → is_declared before (item_name item) ≡ false
     → IsScopeOf names before old → IsBindingOf names binding (item_declared item) → Binds old new name binding → IsScopeOf names (before ++ item ∷ []) new
 IsScopeOf-push names before item name binding old new apart known_name named fresh scope is_binding binds =
     λ other known.

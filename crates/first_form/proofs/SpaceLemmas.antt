@@ -53,7 +53,9 @@ pub space_of_identifier : (spelling : List ℕ) → is_identifier spelling ≡ t
 space_of_identifier spelling identifier = rw identifier refl
 
 -- the space of any other has the number that its digits write
-pub numbered_by_digits : (text spelling : List ℕ) (number : ℕ) → text ≡ spelling → is_space_id spelling ≡ true → is_identifier spelling ≡ false → ParsesUnsigned {E = ℕ} 32 10 text (Ok number) → space_of spelling ≡ NumberedSpace number
+pub numbered_by_digits :
+    (text spelling : List ℕ) (number : ℕ) → text ≡ spelling → is_space_id spelling ≡ true → is_identifier spelling ≡ false
+    → ParsesUnsigned {E = ℕ} 32 10 text (Ok number) → space_of spelling ≡ NumberedSpace number
 numbered_by_digits text spelling number same is_id no_identifier parses =
     let own = subst (λ (t : List ℕ). ParsesUnsigned {E = ℕ} 32 10 t (Ok number)) same parses in
     let read = parse_digits digits {E = ℕ} 32 spelling (Ok number) own (number_unless_identifier spelling is_id no_identifier).all_digits in
@@ -64,7 +66,9 @@ pub number_is_text : (spelling : List ℕ) → is_space_id spelling ≡ true →
 number_is_text spelling is_id no_identifier = digits_are_text spelling (number_unless_identifier spelling is_id no_identifier).all_digits
 
 -- and their number is read
-pub number_is_read : {A : Type 0} (text spelling : List ℕ) → text ≡ spelling → is_space_id spelling ≡ true → is_identifier spelling ≡ false → ParsesUnsigned {E = ℕ} 32 10 text (Err 0) → A
+pub number_is_read :
+    {A : Type 0} (text spelling : List ℕ) → text ≡ spelling → is_space_id spelling ≡ true → is_identifier spelling ≡ false
+    → ParsesUnsigned {E = ℕ} 32 10 text (Err 0) → A
 number_is_read text spelling same is_id no_identifier parses =
     let unread = subst (λ (t : List ℕ). ParsesUnsigned {E = ℕ} 32 10 t (Err 0)) same parses in
     let number = number_unless_identifier spelling is_id no_identifier in

@@ -28,7 +28,9 @@ read_stars-other (text ∷ texts) nothing =
     (λ e. refl)
 
 -- a star joins the stars so far
-pub CountsOn-star : (count : ℕ) (rest others : Texts) (whole : ℕ × Texts) → Some others ≡ read_text (codes "*") rest → CountsOn count rest whole → CountsOn (count + 1) others whole
+pub CountsOn-star :
+    (count : ℕ) (rest others : Texts) (whole : ℕ × Texts) → Some others ≡ read_text (codes "*") rest → CountsOn count rest whole
+    → CountsOn (count + 1) others whole
 CountsOn-star count rest others whole found counts =
     let step = read_stars-star rest others found in
     let one : count + ((read_stars others).0 + 1) ≡ count + 1 + (read_stars others).0 = omega arith in

@@ -10,7 +10,9 @@ use Rattle.first_form.specs.Object.{outermost_of, value_of}
 use Rattle.first_form.specs.Seen.{flags_of, space_of, tree_of}
 
 -- a space has a mark where there is one
-pub space_mark-some : (names : List (List ℕ)) (space : Space) → (space ≡ spaces.None → ⊥) → space_mark (space_of names space) ≡ codes " address_space(" ++ space_spelling (space_of names space) ++ codes ")"
+pub space_mark-some :
+    (names : List (List ℕ)) (space : Space) → (space ≡ spaces.None → ⊥)
+    → space_mark (space_of names space) ≡ codes " address_space(" ++ space_spelling (space_of names space) ++ codes ")"
 space_mark-some names spaces.None some = absurd (some refl)
 space_mark-some names (spaces.Number number) some = refl
 space_mark-some names (spaces.Named id) some = refl
@@ -20,7 +22,9 @@ nat_eq-suc-zero : (n : ℕ) → nat_eq (suc n) 0 ≡ false
 nat_eq-suc-zero n = grind (arith, nat_tests)
 
 -- the type of a value, by the number of stars
-tree_of-value_at : (names : List (List ℕ)) (stars : ℕ) (noderef : Bool) (space : Space) → tree_of names (value_of (record { stars = stars; noderef = noderef; space = space })) ≡ types.value_type (tree_of names (record { stars = stars; noderef = noderef; space = space }))
+tree_of-value_at :
+    (names : List (List ℕ)) (stars : ℕ) (noderef : Bool) (space : Space)
+    → tree_of names (value_of (record { stars = stars; noderef = noderef; space = space })) ≡ types.value_type (tree_of names (record { stars = stars; noderef = noderef; space = space }))
 tree_of-value_at names zero noderef space = refl
 tree_of-value_at names (suc stars) noderef space = rw (nat_eq-suc-zero stars) refl
 
@@ -29,7 +33,9 @@ pub tree_of-value_of : (names : List (List ℕ)) (object : ObjectType) → tree_
 tree_of-value_of names object = tree_of-value_at names object.stars object.noderef object.space
 
 -- the flags of a type, by the number of stars
-flags_of-tree_at : (names : List (List ℕ)) (stars : ℕ) (noderef : Bool) (space : Space) → types.flags_of (tree_of names (record { stars = stars; noderef = noderef; space = space })) ≡ flags_of names (outermost_of (record { stars = stars; noderef = noderef; space = space }))
+flags_of-tree_at :
+    (names : List (List ℕ)) (stars : ℕ) (noderef : Bool) (space : Space)
+    → types.flags_of (tree_of names (record { stars = stars; noderef = noderef; space = space })) ≡ flags_of names (outermost_of (record { stars = stars; noderef = noderef; space = space }))
 flags_of-tree_at names zero noderef space = refl
 flags_of-tree_at names (suc stars) noderef space = rw (nat_eq-suc-zero stars) refl
 
@@ -43,6 +49,8 @@ appended_thrice text first second third a b c is_first is_second is_third =
     rw (is_third, is_second, is_first) (simp append_assoc)
 
 -- and a fourth
-pub appended_four : (text first second third fourth a b c d : List ℕ) → first ≡ text ++ a → second ≡ first ++ b → third ≡ second ++ c → fourth ≡ third ++ d → fourth ≡ text ++ (a ++ b ++ c ++ d)
+pub appended_four :
+    (text first second third fourth a b c d : List ℕ) → first ≡ text ++ a → second ≡ first ++ b → third ≡ second ++ c → fourth ≡ third ++ d
+    → fourth ≡ text ++ (a ++ b ++ c ++ d)
 appended_four text first second third fourth a b c d is_first is_second is_third is_fourth =
     rw (is_fourth, is_third, is_second, is_first) (simp append_assoc)

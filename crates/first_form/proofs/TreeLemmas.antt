@@ -17,7 +17,9 @@ use Rattle.first_form.specs.Seen.{item_of, items_of, statement_of, word_of}
 use Rattle.first_form.proofs.CountLemmas.{length-further_word, length-item, length-statement}
 
 -- the next word, and those behind its comma
-pub word_trees-at : (names : List (List ℕ)) (all : List Word) (i token next : ℕ) (d : Word) → i < length all → next ≡ token + further_word_count (slice_index_or all i d)
+pub word_trees-at :
+    (names : List (List ℕ)) (all : List Word) (i token next : ℕ) (d : Word) → i < length all
+    → next ≡ token + further_word_count (slice_index_or all i d)
     → word_trees token (map (word_of names) (drop i all)) ≡ word_tree token (word_of names (slice_index_or all i d)) ∷ word_trees next (map (word_of names) (drop (i + 1) all))
 word_trees-at names all i token next d inside is =
     let word = slice_index_or all i d in
@@ -26,7 +28,9 @@ word_trees-at names all i token next d inside is =
     ∙ ap (λ at. word_tree token (word_of names word) ∷ word_trees at (map (word_of names) (drop (i + 1) all))) behind
 
 -- the next star
-pub star_trees-at : (token star stars : ℕ) → star < stars → star_trees (token + star) (stars - star) ≡ leaf PointerDeclarator (token + star) ∷ star_trees (token + (star + 1)) (stars - (star + 1))
+pub star_trees-at :
+    (token star stars : ℕ) → star < stars
+    → star_trees (token + star) (stars - star) ≡ leaf PointerDeclarator (token + star) ∷ star_trees (token + (star + 1)) (stars - (star + 1))
 star_trees-at token star stars inside =
     let more : stars - star ≡ suc (stars - (star + 1)) = omega (arith, inside) in
     let behind : token + star + 1 ≡ token + (star + 1) = omega arith in
@@ -39,7 +43,9 @@ star_trees-end token star stars past =
     ap (star_trees (token + star)) none
 
 -- the next statement
-pub statement_trees-at : (names : List (List ℕ)) (all : List Statement) (i token next : ℕ) (d : Statement) → i < length all → next ≡ token + statement_count (slice_index_or all i d)
+pub statement_trees-at :
+    (names : List (List ℕ)) (all : List Statement) (i token next : ℕ) (d : Statement) → i < length all
+    → next ≡ token + statement_count (slice_index_or all i d)
     → statement_trees token (map (statement_of names) (drop i all)) ≡ statement_tree token (statement_of names (slice_index_or all i d)) ∷ statement_trees next (map (statement_of names) (drop (i + 1) all))
 statement_trees-at names all i token next d inside is =
     let statement = slice_index_or all i d in
@@ -47,7 +53,9 @@ statement_trees-at names all i token next d inside is =
     ∙ ap (λ at. statement_tree token (statement_of names statement) ∷ statement_trees at (map (statement_of names) (drop (i + 1) all))) (ap (λ count. token + count) (length-statement names statement) ∙ sym is)
 
 -- the next item
-pub item_trees-at : (names : List (List ℕ)) (all : List Item) (i token next : ℕ) (item : Item) → i < length all → item ≡ slice_index_or all i item → next ≡ token + token_count item
+pub item_trees-at :
+    (names : List (List ℕ)) (all : List Item) (i token next : ℕ) (item : Item) → i < length all → item ≡ slice_index_or all i item
+    → next ≡ token + token_count item
     → item_trees token (items_of names (drop i all)) ≡ item_tree token (item_of names item) ∷ item_trees next (items_of names (drop (i + 1) all))
 item_trees-at names all i token next item inside is is_next =
     ap (λ left. item_trees token (items_of names left)) (drop_more all i item inside ∙ ap (λ first. first ∷ drop (i + 1) all) (sym is))
@@ -61,17 +69,22 @@ attribute_trees-none names token [] none = refl
 attribute_trees-none names token (word ∷ rest) none = absurd (omega (arith, none))
 
 -- some words make one
-pub attribute_trees-some : (names : List (List ℕ)) (token : ℕ) (all : List Word) → 0 < length all → attribute_trees token (map (word_of names) all) ≡ plain_node AttributeList token (parts_of TypePart (word_trees (token + 3) (map (word_of names) all))) ∷ []
+pub attribute_trees-some :
+    (names : List (List ℕ)) (token : ℕ) (all : List Word) → 0 < length all
+    → attribute_trees token (map (word_of names) all) ≡ plain_node AttributeList token (parts_of TypePart (word_trees (token + 3) (map (word_of names) all))) ∷ []
 attribute_trees-some names token [] some = absurd (omega (arith, some))
 attribute_trees-some names token (word ∷ rest) some = refl
 
 -- what is read as a number has it and no name
-word_tree-number_if : (named : Bool) (token : ℕ) (id : List ℕ) (value number : ℕ) → (if named then NamedSpace id else NumberedSpace value) ≡ NumberedSpace number
+word_tree-number_if :
+    (named : Bool) (token : ℕ) (id : List ℕ) (value number : ℕ) → (if named then NamedSpace id else NumberedSpace value) ≡ NumberedSpace number
     → (if named then Node AddressSpaceAttribute token id 0 NoParts else Node AddressSpaceAttribute token [] value NoParts) ≡ Node AddressSpaceAttribute token [] number NoParts
 word_tree-number_if true token id value number is = absurd (cc)
 word_tree-number_if false token id value number is = cc
 
-pub word_tree-number : (token : ℕ) (id : List ℕ) (number : ℕ) → space_of id ≡ NumberedSpace number → word_tree token (AddressSpace id) ≡ Node AddressSpaceAttribute token [] number NoParts
+pub word_tree-number :
+    (token : ℕ) (id : List ℕ) (number : ℕ) → space_of id ≡ NumberedSpace number
+    → word_tree token (AddressSpace id) ≡ Node AddressSpaceAttribute token [] number NoParts
 word_tree-number token id number is = word_tree-number_if (is_identifier id) token id (number_of id) number is
 
 -- and what is read as a name has that and no number

@@ -25,7 +25,9 @@ use Rattle.first_form.specs.Seen.{failures_of}
 use Rattle.first_form.specs.View.{IsTableOf, Shows, ShowParts}
 
 -- the last node shows the tree of the unit
-pub Shows-root : (names : List (List ℕ)) (unit : NodeList NameId) (items : List syntax.Item) (count : ℕ) → IsUnitOf names unit items → count ≡ end_of unit → Shows names unit (count - 1) (unit_tree items)
+pub Shows-root :
+    (names : List (List ℕ)) (unit : NodeList NameId) (items : List syntax.Item) (count : ℕ) → IsUnitOf names unit items → count ≡ end_of unit
+    → Shows names unit (count - 1) (unit_tree items)
 Shows-root names unit items count form is_end =
     subst (λ (handle : ℕ). Shows names unit handle (unit_tree items)) (omega (arith, is_end, length-map unit.nodes (spelled_node names))) form.is_tree.1
 
@@ -61,7 +63,10 @@ pub record IsNextItem (names : List (List ℕ)) (unit : NodeList NameId) (all : 
   pub judged : IsJudgedTo names all before (item ∷ others) scope first failures
 
 -- before the first item all are left
-pub IsUnitJudgedTo-begin : (names : List (List ℕ)) (unit : NodeList NameId) (all : List syntax.Item) (children : List (ℕ × ℕ)) (scope : Scope) (failures : List Failure) → failures ≡ [] → IsScopeOf names [] scope → list_all syntax.item_fits all ≡ true → ShowParts names unit children (parts_of Evaluated (item_trees 0 all))
+pub IsUnitJudgedTo-begin :
+    (names : List (List ℕ)) (unit : NodeList NameId) (all : List syntax.Item) (children : List (ℕ × ℕ)) (scope : Scope) (failures : List Failure)
+    → failures ≡ [] → IsScopeOf names [] scope → list_all syntax.item_fits all ≡ true
+    → ShowParts names unit children (parts_of Evaluated (item_trees 0 all))
     → IsUnitJudgedTo names unit all children scope failures
 IsUnitJudgedTo-begin names unit all children scope failures none is_scope fits show =
     subst (λ (f : List Failure). IsUnitJudgedTo names unit all children scope f) (sym none)
@@ -74,22 +79,30 @@ IsUnitJudgedTo-begin names unit all children scope failures none is_scope fits s
     })
 
 -- a child that is left is an item
-pub IsUnitJudgedTo-next : (names : List (List ℕ)) (unit : NodeList NameId) (all : List syntax.Item) (list children : List (ℕ × ℕ)) (child : ℕ × ℕ) (scope : Scope) (failures : List Failure) → list ≡ child ∷ children → IsUnitJudgedTo names unit all list scope failures
+pub IsUnitJudgedTo-next :
+    (names : List (List ℕ)) (unit : NodeList NameId) (all : List syntax.Item) (list children : List (ℕ × ℕ)) (child : ℕ × ℕ) (scope : Scope) (failures : List Failure)
+    → list ≡ child ∷ children → IsUnitJudgedTo names unit all list scope failures
     → IsNextItem names unit all child.0 children scope failures
 IsUnitJudgedTo-next names unit all list children child scope failures begins judged =
     next judged.rest (subst (λ (l : List (ℕ × ℕ)). ShowParts names unit l (parts_of Evaluated (item_trees judged.first judged.rest))) begins judged.show) judged.judged
   where
-    next : (rest : List syntax.Item) → ShowParts names unit (child ∷ children) (parts_of Evaluated (item_trees judged.first rest)) → IsJudgedTo names all judged.before rest scope judged.first failures → IsNextItem names unit all child.0 children scope failures
+    next :
+        (rest : List syntax.Item) → ShowParts names unit (child ∷ children) (parts_of Evaluated (item_trees judged.first rest))
+        → IsJudgedTo names all judged.before rest scope judged.first failures → IsNextItem names unit all child.0 children scope failures
     next [] show to = absurd show
     next (item ∷ others) show to = record { before = judged.before; item = item; others = others; first = judged.first; shows = show.1; show = show.2; judged = to }
 
 -- where no child is left, all items are judged
-pub IsUnitJudgedTo-end : (names : List (List ℕ)) (unit : NodeList NameId) (all : List syntax.Item) (list : List (ℕ × ℕ)) (scope : Scope) (failures : List Failure) → list ≡ [] → IsUnitJudgedTo names unit all list scope failures
+pub IsUnitJudgedTo-end :
+    (names : List (List ℕ)) (unit : NodeList NameId) (all : List syntax.Item) (list : List (ℕ × ℕ)) (scope : Scope) (failures : List Failure)
+    → list ≡ [] → IsUnitJudgedTo names unit all list scope failures
     → (are_bound [] all ≡ true) × (failures_of names failures ≡ judging.failures_of all) × AreKnownFailures names (length (flat_map syntax.item_spelled all)) failures
 IsUnitJudgedTo-end names unit all list scope failures empty judged =
     ends judged.rest (subst (λ (l : List (ℕ × ℕ)). ShowParts names unit l (parts_of Evaluated (item_trees judged.first judged.rest))) empty judged.show) judged.judged
   where
-    ends : (rest : List syntax.Item) → ShowParts names unit [] (parts_of Evaluated (item_trees judged.first rest)) → IsJudgedTo names all judged.before rest scope judged.first failures
+    ends :
+        (rest : List syntax.Item) → ShowParts names unit [] (parts_of Evaluated (item_trees judged.first rest))
+        → IsJudgedTo names all judged.before rest scope judged.first failures
         → (are_bound [] all ≡ true) × (failures_of names failures ≡ judging.failures_of all) × AreKnownFailures names (length (flat_map syntax.item_spelled all)) failures
     ends [] show to = (
       sym to.bound,
@@ -99,22 +112,32 @@ IsUnitJudgedTo-end names unit all list scope failures empty judged =
     ends (item ∷ others) show to = absurd show
 
 -- the first child is the item that is to be judged next
-pub IsItemAt-next : (names : List (List ℕ)) (unit : NodeList NameId) (all : List syntax.Item) (child : ℕ) (children : List (ℕ × ℕ)) (scope : Scope) (failures : List Failure) → IsTableOf names unit → (next : IsNextItem names unit all child children scope failures) → IsItemAt names unit scope next.before child next.first next.item
+pub IsItemAt-next :
+    (names : List (List ℕ)) (unit : NodeList NameId) (all : List syntax.Item) (child : ℕ) (children : List (ℕ × ℕ)) (scope : Scope) (failures : List Failure)
+    → IsTableOf names unit → (next : IsNextItem names unit all child children scope failures)
+    → IsItemAt names unit scope next.before child next.first next.item
 IsItemAt-next names unit all child children scope failures table next =
     record { table = table; scope_of = next.judged.scope_of; fits = (and_parts _ _ next.judged.fits).0; shows = next.shows }
 
 -- where it isn't bound, the unit isn't
-pub unit-unbound : (names : List (List ℕ)) (all before others : List syntax.Item) (item : syntax.Item) (scope : Scope) (first : ℕ) (failures : List Failure) → IsJudgedTo names all before (item ∷ others) scope first failures → false ≡ is_item_bound before item → are_bound [] all ≡ false
+pub unit-unbound :
+    (names : List (List ℕ)) (all before others : List syntax.Item) (item : syntax.Item) (scope : Scope) (first : ℕ) (failures : List Failure)
+    → IsJudgedTo names all before (item ∷ others) scope first failures → false ≡ is_item_bound before item → are_bound [] all ≡ false
 unit-unbound names all before others item scope first failures judged unbound =
     sym judged.bound ∙ ap (λ bound. bound && are_bound (before ++ item ∷ []) others) (sym unbound)
 
 -- failures that stand before a token stand before a later one
-known-later : (names : List (List ℕ)) (count more : ℕ) (failures : List Failure) → count ≤ more → AreKnownFailures names count failures → AreKnownFailures names more failures
+known-later :
+    (names : List (List ℕ)) (count more : ℕ) (failures : List Failure) → count ≤ more → AreKnownFailures names count failures
+    → AreKnownFailures names more failures
 known-later names count more failures later known =
     All-weaker (IsKnownFailure names count) (IsKnownFailure names more) (λ failure is_known. (omega (arith, later, is_known.0), is_known.1)) failures known
 
 -- and where it is, the items up to it are judged
-IsJudgedTo-more : (names : List (List ℕ)) (all before others : List syntax.Item) (item : syntax.Item) (old new : Scope) (first : ℕ) (failures later : List Failure) → IsJudgedTo names all before (item ∷ others) old first failures → true ≡ is_item_bound before item → IsItemJudged names before first item failures later new
+IsJudgedTo-more :
+    (names : List (List ℕ)) (all before others : List syntax.Item) (item : syntax.Item) (old new : Scope) (first : ℕ) (failures later : List Failure)
+    → IsJudgedTo names all before (item ∷ others) old first failures → true ≡ is_item_bound before item
+    → IsItemJudged names before first item failures later new
     → IsJudgedTo names all (before ++ item ∷ []) others new (first + length (syntax.item_spelled item)) later
 IsJudgedTo-more names all before others item old new first failures later judged bound more =
     let next : ℕ = first + length (syntax.item_spelled item) in
@@ -132,7 +155,10 @@ IsJudgedTo-more names all before others item old new first failures later judged
     }
 
 -- so the item is judged
-pub IsUnitJudgedTo-more : (names : List (List ℕ)) (unit : NodeList NameId) (all : List syntax.Item) (child : ℕ) (children : List (ℕ × ℕ)) (old new : Scope) (failures later : List Failure) → (next : IsNextItem names unit all child children old failures) → true ≡ is_item_bound next.before next.item → IsItemJudged names next.before next.first next.item failures later new
+pub IsUnitJudgedTo-more :
+    (names : List (List ℕ)) (unit : NodeList NameId) (all : List syntax.Item) (child : ℕ) (children : List (ℕ × ℕ)) (old new : Scope) (failures later : List Failure)
+    → (next : IsNextItem names unit all child children old failures) → true ≡ is_item_bound next.before next.item
+    → IsItemJudged names next.before next.first next.item failures later new
     → IsUnitJudgedTo names unit all children new later
 IsUnitJudgedTo-more names unit all child children old new failures later next bound more =
     record {

@@ -23,7 +23,9 @@ use Rattle.first_form.specs.View.{IsFoundAt, Shows, ShowParts, left_tree, right_
 use Rattle.first_form.proofs.ListLemmas.{mapped-Some}
 
 -- a node has its handle when its name is spelled out, too
-HasNode-spelled : (names : List (List ℕ)) (unit : NodeList NameId) (handle : ℕ) (node : TreeNode NameId) → HasNode unit handle node → HasNode (spelled names unit) handle (spelled_node names node)
+HasNode-spelled :
+    (names : List (List ℕ)) (unit : NodeList NameId) (handle : ℕ) (node : TreeNode NameId) → HasNode unit handle node
+    → HasNode (spelled names unit) handle (spelled_node names node)
 HasNode-spelled names unit handle node has =
     (has.0, slice_get-map (spelled_node names) unit.nodes (handle - unit.first) ∙ ap (option_map (spelled_node names)) has.1)
 
@@ -36,7 +38,8 @@ pub record NodeShows (names : List (List ℕ)) (unit : NodeList NameId) (node : 
   pub parts_are : ShowParts names unit node.children parts
 
 -- the node with a handle is that of the tree which the handle shows
-pub Shows-node : (names : List (List ℕ)) (unit : NodeList NameId) (handle : ℕ) (node : TreeNode NameId) (kind : NodeKind) (token : ℕ) (spelling : List ℕ) (number : ℕ) (parts : SyntaxParts)
+pub Shows-node :
+    (names : List (List ℕ)) (unit : NodeList NameId) (handle : ℕ) (node : TreeNode NameId) (kind : NodeKind) (token : ℕ) (spelling : List ℕ) (number : ℕ) (parts : SyntaxParts)
     → HasNode unit handle node → Shows names unit handle (Node kind token spelling number parts) → NodeShows names unit node kind token spelling number parts
 Shows-node names unit handle node kind token spelling number parts has shows =
     let same = node_unique (spelled names unit) handle (spelled_node names node) _ (HasNode-spelled names unit handle node has) shows.1 in
@@ -59,18 +62,24 @@ abbrev pub root_parts : SyntaxTree → SyntaxParts
 root_parts (Node kind token spelling number parts) = parts
 
 -- a handle that shows a tree is one of a node of its kind
-pub Shows-kind : (names : List (List ℕ)) (unit : NodeList NameId) (handle : ℕ) (tree : SyntaxTree) → Shows names unit handle tree → HasNodeWith unit handle (λ node. node.kind ≡ root_kind tree)
+pub Shows-kind :
+    (names : List (List ℕ)) (unit : NodeList NameId) (handle : ℕ) (tree : SyntaxTree) → Shows names unit handle tree
+    → HasNodeWith unit handle (λ node. node.kind ≡ root_kind tree)
 Shows-kind names unit handle (Node kind token spelling number parts) shows =
     let (node, found, same) = mapped-Some (spelled_node names) unit.nodes (handle - unit.first) _ shows.1.1 in
     (node, (shows.1.0, found), ap (λ n. n.kind) same)
 
 -- a handle has one node, and so one kind
-pub same-kind : (names : List (List ℕ)) (unit : NodeList NameId) (handle : ℕ) (kind : NodeKind) (tree : SyntaxTree) → HasNodeWith unit handle (λ node. node.kind ≡ kind) → Shows names unit handle tree → kind ≡ root_kind tree
+pub same-kind :
+    (names : List (List ℕ)) (unit : NodeList NameId) (handle : ℕ) (kind : NodeKind) (tree : SyntaxTree)
+    → HasNodeWith unit handle (λ node. node.kind ≡ kind) → Shows names unit handle tree → kind ≡ root_kind tree
 same-kind names unit handle kind (Node other token spelling number parts) has shows =
     sym has.2 ∙ (Shows-node names unit handle has.0 other token spelling number parts has.1 shows).kind_is
 
 -- and stands at one token
-pub same-token : (names : List (List ℕ)) (unit : NodeList NameId) (handle token : ℕ) (tree : SyntaxTree) → HasNodeWith unit handle (λ node. node.token ≡ token) → Shows names unit handle tree → token ≡ root_token tree
+pub same-token :
+    (names : List (List ℕ)) (unit : NodeList NameId) (handle token : ℕ) (tree : SyntaxTree) → HasNodeWith unit handle (λ node. node.token ≡ token)
+    → Shows names unit handle tree → token ≡ root_token tree
 same-token names unit handle token (Node kind other spelling number parts) has shows =
     sym has.2 ∙ (Shows-node names unit handle has.0 kind other spelling number parts has.1 shows).token_is
 
@@ -88,7 +97,9 @@ part_at (Part role tree parts) zero = Some tree
 part_at (Part role tree parts) (suc i) = part_at parts i
 
 -- there are as many children as parts
-pub ShowParts-length : (names : List (List ℕ)) (unit : NodeList NameId) (children : List (ℕ × ℕ)) (parts : SyntaxParts) → ShowParts names unit children parts → length children ≡ part_count parts
+pub ShowParts-length :
+    (names : List (List ℕ)) (unit : NodeList NameId) (children : List (ℕ × ℕ)) (parts : SyntaxParts) → ShowParts names unit children parts
+    → length children ≡ part_count parts
 ShowParts-length names unit [] NoParts show = refl
 ShowParts-length names unit [] (Part role tree parts) show = absurd show
 ShowParts-length names unit (child ∷ children) NoParts show = absurd show
@@ -108,13 +119,16 @@ ShowParts-at names unit (first ∷ children) (Part role front parts) (suc i) chi
 
 -- the expression of a statement is an assignment of its sides
 pub Shows-sides : (names : List (List ℕ)) (unit : NodeList NameId) (handle first : ℕ) (statement : syntax.Statement)
-    → Shows names unit handle (expression_tree first statement) → Shows names unit handle (assignment_tree (tokens_of first statement).equals (left_tree first statement) (right_tree first statement))
+    → Shows names unit handle (expression_tree first statement)
+    → Shows names unit handle (assignment_tree (tokens_of first statement).equals (left_tree first statement) (right_tree first statement))
 Shows-sides names unit handle first (syntax.Assign target source) shows = shows
 Shows-sides names unit handle first (syntax.AssignThrough pointer source) shows = shows
 Shows-sides names unit handle first (syntax.AssignAddress target object) shows = shows
 
 -- records are equal where their fields are
-same_tokens : (left equals right : ℕ) (tokens : AssignmentTokens) → left ≡ tokens.left → equals ≡ tokens.equals → right ≡ tokens.right → record { left = left; equals = equals; right = right } ≡ tokens
+same_tokens :
+    (left equals right : ℕ) (tokens : AssignmentTokens) → left ≡ tokens.left → equals ≡ tokens.equals → right ≡ tokens.right
+    → record { left = left; equals = equals; right = right } ≡ tokens
 same_tokens left equals right tokens same_left same_equals same_right = rw (same_left, same_equals, same_right) refl
 
 -- the sides of a statement stand where it says, and so does its `=`
@@ -127,7 +141,8 @@ tokens-sides first (syntax.AssignAddress target object) = (refl, refl, refl)
 -- so do the nodes that show them
 pub tokens-statement : (names : List (List ℕ)) (unit : NodeList NameId) (left expression right l e r first : ℕ) (statement : syntax.Statement)
     → HasNodeWith unit left (λ node. node.token ≡ l) → HasNodeWith unit expression (λ node. node.token ≡ e) → HasNodeWith unit right (λ node. node.token ≡ r)
-    → Shows names unit left (left_tree first statement) → Shows names unit expression (expression_tree first statement) → Shows names unit right (right_tree first statement)
+    → Shows names unit left (left_tree first statement) → Shows names unit expression (expression_tree first statement)
+    → Shows names unit right (right_tree first statement)
     → record { left = l; equals = e; right = r } ≡ tokens_of first statement
 tokens-statement names unit left expression right l e r first statement has_left has_equals has_right shows_left shows_equals shows_right =
     let (at_left, at_equals, at_right) = tokens-sides first statement in
@@ -144,7 +159,8 @@ IsFound names result statement = IsSomeAnd result (λ found. statement_of names 
 pub found-through : (names : List (List ℕ)) (unit : NodeList NameId) (left right : ℕ) (result : Option Statement)
     → HasNodeWith unit left (λ node. node.kind ≡ kinds.Indirection)
     → ((at below other : ℕ) (pointer source : List ℕ) → Shows names unit left (indirection_tree at (name_tree below pointer)) → Shows names unit right (name_tree other source) → IsFound names result (syntax.AssignThrough pointer source))
-    → (first : ℕ) (statement : syntax.Statement) → Shows names unit left (left_tree first statement) → Shows names unit right (right_tree first statement) → IsFound names result statement
+    → (first : ℕ) (statement : syntax.Statement) → Shows names unit left (left_tree first statement)
+    → Shows names unit right (right_tree first statement) → IsFound names result statement
 found-through names unit left right result has found first (syntax.Assign target source) shows_left shows_right =
     let same = same-kind names unit left _ (left_tree first (syntax.Assign target source)) has shows_left in absurd (cc)
 found-through names unit left right result has found first (syntax.AssignThrough pointer source) shows_left shows_right =
@@ -156,7 +172,8 @@ found-through names unit left right result has found first (syntax.AssignAddress
 pub found-address : (names : List (List ℕ)) (unit : NodeList NameId) (left right : ℕ) (result : Option Statement)
     → (HasNodeWith unit left (λ node. node.kind ≡ kinds.Indirection) → ⊥) → HasNodeWith unit right (λ node. node.kind ≡ kinds.Address)
     → ((at other below : ℕ) (target object : List ℕ) → Shows names unit left (name_tree at target) → Shows names unit right (address_tree other (name_tree below object)) → IsFound names result (syntax.AssignAddress target object))
-    → (first : ℕ) (statement : syntax.Statement) → Shows names unit left (left_tree first statement) → Shows names unit right (right_tree first statement) → IsFound names result statement
+    → (first : ℕ) (statement : syntax.Statement) → Shows names unit left (left_tree first statement)
+    → Shows names unit right (right_tree first statement) → IsFound names result statement
 found-address names unit left right result other has found first (syntax.Assign target source) shows_left shows_right =
     let same = same-kind names unit right _ (right_tree first (syntax.Assign target source)) has shows_right in absurd (cc)
 found-address names unit left right result other has found first (syntax.AssignThrough pointer source) shows_left shows_right =
@@ -168,7 +185,8 @@ found-address names unit left right result other has found first (syntax.AssignA
 pub found-assign : (names : List (List ℕ)) (unit : NodeList NameId) (left right : ℕ) (result : Option Statement)
     → (HasNodeWith unit left (λ node. node.kind ≡ kinds.Indirection) → ⊥) → (HasNodeWith unit right (λ node. node.kind ≡ kinds.Address) → ⊥)
     → ((at other : ℕ) (target source : List ℕ) → Shows names unit left (name_tree at target) → Shows names unit right (name_tree other source) → IsFound names result (syntax.Assign target source))
-    → (first : ℕ) (statement : syntax.Statement) → Shows names unit left (left_tree first statement) → Shows names unit right (right_tree first statement) → IsFound names result statement
+    → (first : ℕ) (statement : syntax.Statement) → Shows names unit left (left_tree first statement)
+    → Shows names unit right (right_tree first statement) → IsFound names result statement
 found-assign names unit left right result no_star no_address found first (syntax.Assign target source) shows_left shows_right =
     found first (first + 2) target source shows_left shows_right
 found-assign names unit left right result no_star no_address found first (syntax.AssignThrough pointer source) shows_left shows_right =
@@ -184,7 +202,9 @@ part_count-stars token zero = refl
 part_count-stars token (suc stars) = omega (arith, part_count-stars (token + 1) stars)
 
 -- a child among stars shows a star, and further stars stand behind it
-pub star-first : (names : List (List ℕ)) (unit : NodeList NameId) (list children : List (ℕ × ℕ)) (child : ℕ × ℕ) (token stars : ℕ) → list ≡ child ∷ children → ShowParts names unit list (parts_of kinds.TypePart (star_trees token stars))
+pub star-first :
+    (names : List (List ℕ)) (unit : NodeList NameId) (list children : List (ℕ × ℕ)) (child : ℕ × ℕ) (token stars : ℕ) → list ≡ child ∷ children
+    → ShowParts names unit list (parts_of kinds.TypePart (star_trees token stars))
     → Shows names unit child.0 (leaf kinds.PointerDeclarator token) × ((next left : ℕ) × ShowParts names unit children (parts_of kinds.TypePart (star_trees next left)))
 star-first names unit list children child token stars begins show =
     first stars (subst (λ (l : List (ℕ × ℕ)). ShowParts names unit l (parts_of kinds.TypePart (star_trees token stars))) begins show)
@@ -195,18 +215,24 @@ star-first names unit list children child token stars begins show =
     first (suc stars) show = (show.1, (token + 1, stars, show.2))
 
 -- a declaration is an object
-pub found-object : (names : List (List ℕ)) (unit : NodeList NameId) (node : ℕ) (result : Option External) → HasNodeWith unit node (λ found. found.kind ≡ kinds.Declaration)
+pub found-object :
+    (names : List (List ℕ)) (unit : NodeList NameId) (node : ℕ) (result : Option External)
+    → HasNodeWith unit node (λ found. found.kind ≡ kinds.Declaration)
     → ((first : ℕ) (words : List syntax.Word) (stars : ℕ) (spelling : List ℕ) → list_all syntax.word_fits words ≡ true → Shows names unit node (object_tree first words stars spelling) → IsSomeAnd result (IsFoundAt names unit first (syntax.Object words stars spelling)))
-    → (first : ℕ) (item : syntax.Item) → syntax.item_fits item ≡ true → Shows names unit node (item_tree first item) → IsSomeAnd result (IsFoundAt names unit first item)
+    → (first : ℕ) (item : syntax.Item) → syntax.item_fits item ≡ true → Shows names unit node (item_tree first item)
+    → IsSomeAnd result (IsFoundAt names unit first item)
 found-object names unit node result has found first (syntax.Object words stars spelling) fits shows =
     found first words stars spelling (and_parts _ _ (and_parts _ _ fits).0).0 shows
 found-object names unit node result has found first (syntax.Function spelling statements) fits shows =
     let same = same-kind names unit node _ (function_tree first spelling statements) has shows in absurd (cc)
 
 -- and another node is a function
-pub found-function : (names : List (List ℕ)) (unit : NodeList NameId) (node : ℕ) (result : Option External) → (HasNodeWith unit node (λ found. found.kind ≡ kinds.Declaration) → ⊥)
+pub found-function :
+    (names : List (List ℕ)) (unit : NodeList NameId) (node : ℕ) (result : Option External)
+    → (HasNodeWith unit node (λ found. found.kind ≡ kinds.Declaration) → ⊥)
     → ((first : ℕ) (spelling : List ℕ) (statements : List syntax.Statement) → Shows names unit node (function_tree first spelling statements) → IsSomeAnd result (IsFoundAt names unit first (syntax.Function spelling statements)))
-    → (first : ℕ) (item : syntax.Item) → syntax.item_fits item ≡ true → Shows names unit node (item_tree first item) → IsSomeAnd result (IsFoundAt names unit first item)
+    → (first : ℕ) (item : syntax.Item) → syntax.item_fits item ≡ true → Shows names unit node (item_tree first item)
+    → IsSomeAnd result (IsFoundAt names unit first item)
 found-function names unit node result other found first (syntax.Object words stars spelling) fits shows =
     absurd (other (Shows-kind names unit node (object_tree first words stars spelling) shows))
 found-function names unit node result other found first (syntax.Function spelling statements) fits shows = found first spelling statements shows

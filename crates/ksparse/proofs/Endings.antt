@@ -27,7 +27,9 @@ no_write_fault : (ending : Ending) (out err : List ℕ) → HasShape ending out 
 no_write_fault ending out err shape is = subst (λ (e : Ending). HasShape e out err) is shape
 
 -- so what was delivered completes the command, whatever counts rose
-pub delivered_completes : (words : List (List ℕ)) (told : Option FileMap) (rose : Type 0) (reply : Reply) (sinks : Sinks) → IsRight words told reply → Delivers reply sinks → Completes words told rose reply.ending sinks
+pub delivered_completes :
+    (words : List (List ℕ)) (told : Option FileMap) (rose : Type 0) (reply : Reply) (sinks : Sinks) → IsRight words told reply → Delivers reply sinks
+    → Completes words told rose reply.ending sinks
 delivered_completes words told rose reply sinks right delivers =
     Outcome-Completes words told rose reply.ending sinks (delivered (IsRight words told) reply right sinks delivers right.shape)
     (λ is. absurd (no_read_fault reply.ending reply.out reply.err right.shape is))

@@ -25,7 +25,9 @@ Appends-Keeps (Some old) (Some mid) None text first second = absurd second
 Appends-Keeps (Some old) (Some mid) (Some new) text first second = second ∙ first
 
 -- a text of which a front is appended grows by a front of the rest
-pub Appends-take : (old mid new : Option (List ℕ)) (text : List ℕ) (done count : ℕ) → Appends old mid (take done text) → Appends mid new (take count (take (length text - done) (drop done text))) → Appends old new (take (done + count) text)
+pub Appends-take :
+    (old mid new : Option (List ℕ)) (text : List ℕ) (done count : ℕ) → Appends old mid (take done text)
+    → Appends mid new (take count (take (length text - done) (drop done text))) → Appends old new (take (done + count) text)
 Appends-take old mid new text done count first second =
     subst (Appends old new) (ap (λ (rest : List ℕ). take done text ++ take count rest) (take_rest text done) ∙ sym (take-add done count text))
     (Appends-append old mid new (take done text) (take count (take (length text - done) (drop done text))) first second)

@@ -78,7 +78,9 @@ module _ (path into : List ℕ) (reply : Reply) (is : reply ≡ line Limit file_
       }
 
 -- the reply to a file is that to words that ask for its check
-pub checked_right : (words : List (List ℕ)) (path : List ℕ) (told : Option FileMap) (reply : Reply) → request_of words ≡ Check path → IsRightOfFile path told reply → IsRight words told reply
+pub checked_right :
+    (words : List (List ℕ)) (path : List ℕ) (told : Option FileMap) (reply : Reply) → request_of words ≡ Check path → IsRightOfFile path told reply
+    → IsRight words told reply
 checked_right words path None reply asks right =
     record {
       exact = tt;

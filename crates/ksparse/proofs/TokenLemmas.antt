@@ -20,5 +20,7 @@ length-item_spelled names tokens items read =
     ∙ length-map tokens (tok_of names)
 
 -- and fit
-pub item_fits-read : (names : List (List ℕ)) (tokens : List Token) (items : List Item) → read_items (spellings_of names tokens) ≡ Some items → list_all item_fits items ≡ true
+pub item_fits-read :
+    (names : List (List ℕ)) (tokens : List Token) (items : List Item) → read_items (spellings_of names tokens) ≡ Some items
+    → list_all item_fits items ≡ true
 item_fits-read names tokens items read = (IsSpelled-read_items (spellings_of names tokens) items read).fits

@@ -6,4 +6,5 @@ pub add_over-requires-clause-inside : goal.add_over-requires-clause-inside
 add_over-requires-clause-inside c = AddsParts-nodes (AddsParts-cons Evaluated c.in_ok-left.ensures.adds (AddsParts-one Evaluated c.in_ok-right.ensures.adds))
 
 pub returns-clause-adds : goal.returns-clause-adds
-returns-clause-adds c = IfOk-plain _ _ _ _ (AddsParts-cons Evaluated c.in_ok-left.ensures.adds (AddsParts-one Evaluated c.in_ok-right.ensures.adds)) c.add_over.ensures.adds
+returns-clause-adds c =
+    IfOk-plain _ _ _ _ (AddsParts-cons Evaluated c.in_ok-left.ensures.adds (AddsParts-one Evaluated c.in_ok-right.ensures.adds)) c.add_over.ensures.adds

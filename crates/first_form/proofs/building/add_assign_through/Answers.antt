@@ -6,7 +6,9 @@ pub add_over-requires-clause-inside : goal.add_over-requires-clause-inside
 add_over-requires-clause-inside c = AddsParts-nodes (AddsParts-one Evaluated c.in_ok-pointer.ensures.adds)
 
 pub add_over-requires-2-clause-inside : goal.add_over-requires-2-clause-inside
-add_over-requires-2-clause-inside c = AddsParts-nodes (AddsParts-cons Evaluated (c.in_ok-left.ensures.adds _ _ (AddsParts-one Evaluated c.in_ok-pointer.ensures.adds)) (AddsParts-one Evaluated c.in_ok-right.ensures.adds))
+add_over-requires-2-clause-inside c =
+    AddsParts-nodes (AddsParts-cons Evaluated (c.in_ok-left.ensures.adds _ _ (AddsParts-one Evaluated c.in_ok-pointer.ensures.adds)) (AddsParts-one Evaluated c.in_ok-right.ensures.adds))
 
 pub returns-clause-adds : goal.returns-clause-adds
-returns-clause-adds c = IfOk-plain _ _ _ _ (AddsParts-cons Evaluated (c.in_ok-left.ensures.adds _ _ (AddsParts-one Evaluated c.in_ok-pointer.ensures.adds)) (AddsParts-one Evaluated c.in_ok-right.ensures.adds)) c.add_over-2.ensures.adds
+returns-clause-adds c =
+    IfOk-plain _ _ _ _ (AddsParts-cons Evaluated (c.in_ok-left.ensures.adds _ _ (AddsParts-one Evaluated c.in_ok-pointer.ensures.adds)) (AddsParts-one Evaluated c.in_ok-right.ensures.adds)) c.add_over-2.ensures.adds

@@ -6,7 +6,9 @@ pub add_plain-requires-clause-inside : goal.add_plain-requires-clause-inside
 add_plain-requires-clause-inside c = AddsParts-nodes (c.in_ok-statements.ensures.adds)
 
 pub add_over-requires-clause-inside : goal.add_over-requires-clause-inside
-add_over-requires-clause-inside c = AddsParts-nodes (AddsParts-cons TypePart c.in_ok-specifiers.ensures.adds (AddsParts-cons TypePart c.in_ok-declarator.ensures.adds (AddsParts-one Evaluated (c.in_ok-compound.ensures.adds _ _ c.in_ok-statements.ensures.adds))))
+add_over-requires-clause-inside c =
+    AddsParts-nodes (AddsParts-cons TypePart c.in_ok-specifiers.ensures.adds (AddsParts-cons TypePart c.in_ok-declarator.ensures.adds (AddsParts-one Evaluated (c.in_ok-compound.ensures.adds _ _ c.in_ok-statements.ensures.adds))))
 
 pub returns-clause-adds : goal.returns-clause-adds
-returns-clause-adds c = IfOk-plain _ _ _ _ (AddsParts-cons TypePart c.in_ok-specifiers.ensures.adds (AddsParts-cons TypePart c.in_ok-declarator.ensures.adds (AddsParts-one Evaluated (c.in_ok-compound.ensures.adds _ _ c.in_ok-statements.ensures.adds)))) c.add_over.ensures.adds
+returns-clause-adds c =
+    IfOk-plain _ _ _ _ (AddsParts-cons TypePart c.in_ok-specifiers.ensures.adds (AddsParts-cons TypePart c.in_ok-declarator.ensures.adds (AddsParts-one Evaluated (c.in_ok-compound.ensures.adds _ _ c.in_ok-statements.ensures.adds)))) c.add_over.ensures.adds

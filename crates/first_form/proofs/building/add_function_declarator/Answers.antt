@@ -5,7 +5,8 @@ use Rattle.first_form.proofs.BuildLemmas.{AddsParts-nodes, AddsParts-one, AddsPa
 use Rattle.first_form.proofs.building.add_function_declarator.Goals as goal
 
 pub add_over-requires-2-clause-inside : goal.add_over-requires-2-clause-inside
-add_over-requires-2-clause-inside c = AddsParts-nodes (AddsParts-one TypePart (c.in_ok-parameter.ensures.adds _ _ (AddsParts-one TypePart c.in_ok-specifiers.ensures.adds)))
+add_over-requires-2-clause-inside c =
+    AddsParts-nodes (AddsParts-one TypePart (c.in_ok-parameter.ensures.adds _ _ (AddsParts-one TypePart c.in_ok-specifiers.ensures.adds)))
 
 pub children-requires-clause-small : goal.children-requires-clause-small
 children-requires-clause-small c =
@@ -13,7 +14,8 @@ children-requires-clause-small c =
     All-cons (λ part. part.1 < 2 ^ 30) _ [] (omega (arith, function.last, c.in_ok-function.ensures.few, c.in_ok-parameter.ensures.few, c.in_ok-specifiers.ensures.few, c.requires.room)) (All-nil (λ part. part.1 < 2 ^ 30))
 
 pub add-requires-clause-inside : goal.add-requires-clause-inside
-add-requires-clause-inside c = AddsParts-nodes (AddsParts-same _ c.in_ok-parts.ensures (AddsParts-one TypePart (c.in_ok-function.ensures.adds _ _ (AddsParts-one TypePart (c.in_ok-parameter.ensures.adds _ _ (AddsParts-one TypePart c.in_ok-specifiers.ensures.adds))))))
+add-requires-clause-inside c =
+    AddsParts-nodes (AddsParts-same _ c.in_ok-parts.ensures (AddsParts-one TypePart (c.in_ok-function.ensures.adds _ _ (AddsParts-one TypePart (c.in_ok-parameter.ensures.adds _ _ (AddsParts-one TypePart c.in_ok-specifiers.ensures.adds))))))
 
 pub returns-clause-adds : goal.returns-clause-adds
 returns-clause-adds c =

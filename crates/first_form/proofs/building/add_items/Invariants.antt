@@ -15,5 +15,6 @@ invariant-loop-item l =
       at : l.first ≡ sum_by token_count (take l.item-index l.items);
       few : 2 * end_of l.unit ≤ 2 * end_of l.fn.unit + 3 * sum_by token_count (take l.item-index l.items);
       short : length l.children ≤ l.first;
-      some : AddsSome l.names Evaluated l.fn.unit l.unit l.children (item_trees l.first (items_of l.names (drop l.item-index l.items))) (parts_of Evaluated (item_trees 0 (items_of l.names l.items)));
+      some :
+          AddsSome l.names Evaluated l.fn.unit l.unit l.children (item_trees l.first (items_of l.names (drop l.item-index l.items))) (parts_of Evaluated (item_trees 0 (items_of l.names l.items)));
     }

@@ -11,5 +11,6 @@ invariant-loop-star l =
     record {
       few : end_of l.unit ≡ end_of l.fn.unit + l.star;
       short : length l.children ≡ l.star;
-      some : AddsSome l.names TypePart l.fn.unit l.unit l.children (star_trees (l.token + l.star) (l.stars - l.star)) (parts_of TypePart (star_trees l.token l.stars));
+      some :
+          AddsSome l.names TypePart l.fn.unit l.unit l.children (star_trees (l.token + l.star) (l.stars - l.star)) (parts_of TypePart (star_trees l.token l.stars));
     }

@@ -15,5 +15,6 @@ invariant-loop-statement l =
       at : l.token ≡ l.first + sum_by statement_count (take l.statement-index l.statements);
       few : end_of l.unit ≤ end_of l.fn.unit + sum_by statement_count (take l.statement-index l.statements);
       short : length l.children ≤ l.token;
-      some : AddsSome l.names Evaluated l.fn.unit l.unit l.children (statement_trees l.token (map (statement_of l.names) (drop l.statement-index l.statements))) (parts_of Evaluated (statement_trees l.first (map (statement_of l.names) l.statements)));
+      some :
+          AddsSome l.names Evaluated l.fn.unit l.unit l.children (statement_trees l.token (map (statement_of l.names) (drop l.statement-index l.statements))) (parts_of Evaluated (statement_trees l.first (map (statement_of l.names) l.statements)));
     }

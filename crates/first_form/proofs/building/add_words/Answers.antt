@@ -22,7 +22,8 @@ loop-word-init c = record {
 }
 
 pub add_word-requires-clause-fits : goal.add_word-requires-clause-fits
-add_word-requires-clause-fits c = passes_mapped_at word_fits (word_of c.args.names.now) c.args.words.now c.loop-word.word-index _ _ c.requires.fits c.loop-word-test.true refl
+add_word-requires-clause-fits c =
+    passes_mapped_at word_fits (word_of c.args.names.now) c.args.words.now c.loop-word.word-index _ _ c.requires.fits c.loop-word-test.true refl
 
 pub add_word-requires-clause-room : goal.add_word-requires-clause-room
 add_word-requires-clause-room c =

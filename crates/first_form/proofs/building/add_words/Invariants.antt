@@ -15,5 +15,6 @@ invariant-loop-word l =
       at : l.token ≡ l.first + sum_by further_word_count (take l.word-index l.words);
       few : end_of l.unit ≤ end_of l.fn.unit + sum_by further_word_count (take l.word-index l.words);
       short : length l.children ≤ l.token;
-      some : AddsSome l.names TypePart l.fn.unit l.unit l.children (word_trees l.token (map (word_of l.names) (drop l.word-index l.words))) (parts_of TypePart (word_trees l.first (map (word_of l.names) l.words)));
+      some :
+          AddsSome l.names TypePart l.fn.unit l.unit l.children (word_trees l.token (map (word_of l.names) (drop l.word-index l.words))) (parts_of TypePart (word_trees l.first (map (word_of l.names) l.words)));
     }

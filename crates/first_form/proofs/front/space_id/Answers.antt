@@ -8,4 +8,5 @@ pub returns-then-is_space_id-clause-known : goal.returns-then-is_space_id-clause
 returns-then-is_space_id-clause-known c = AreKnownTokens-parts _ _ _ _ c.in_ok-first.ensures.cases.0 c.requires
 
 pub returns-then-is_some-clause-seen : goal.returns-then-is_some-clause-seen
-returns-then-is_some-clause-seen c = sym (read_passing-punctuator c.args.names.now c.args.tokens.now c.in_ok-first.rest.now c.in_ok-first.first.now c.punctuator.result c.in_ok-first.ensures.cases.0 c.punctuator.ensures (sym c.is_some.ensures ∙ c.if-is_some.true)).1
+returns-then-is_some-clause-seen c =
+    sym (read_passing-punctuator c.args.names.now c.args.tokens.now c.in_ok-first.rest.now c.in_ok-first.first.now c.punctuator.result c.in_ok-first.ensures.cases.0 c.punctuator.ensures (sym c.is_some.ensures ∙ c.if-is_some.true)).1

@@ -44,10 +44,13 @@ loop-item-preserved c =
     }
 
 pub returns-clause-bound : goal.returns-clause-bound
-returns-clause-bound c = λ items form. (IsUnitJudgedTo-end c.args.names.now c.args.unit.now items _ _ _ c.in-None.ensures.steps.0 (c.loop-item.invariant.judged items form)).0
+returns-clause-bound c =
+    λ items form. (IsUnitJudgedTo-end c.args.names.now c.args.unit.now items _ _ _ c.in-None.ensures.steps.0 (c.loop-item.invariant.judged items form)).0
 
 pub returns-clause-failures : goal.returns-clause-failures
-returns-clause-failures c = λ items form. (IsUnitJudgedTo-end c.args.names.now c.args.unit.now items _ _ _ c.in-None.ensures.steps.0 (c.loop-item.invariant.judged items form)).1
+returns-clause-failures c =
+    λ items form. (IsUnitJudgedTo-end c.args.names.now c.args.unit.now items _ _ _ c.in-None.ensures.steps.0 (c.loop-item.invariant.judged items form)).1
 
 pub returns-clause-known : goal.returns-clause-known
-returns-clause-known c = λ items form. (IsUnitJudgedTo-end c.args.names.now c.args.unit.now items _ _ _ c.in-None.ensures.steps.0 (c.loop-item.invariant.judged items form)).2
+returns-clause-known c =
+    λ items form. (IsUnitJudgedTo-end c.args.names.now c.args.unit.now items _ _ _ c.in-None.ensures.steps.0 (c.loop-item.invariant.judged items form)).2

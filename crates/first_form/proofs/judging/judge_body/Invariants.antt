@@ -9,5 +9,8 @@ abbrev pub invariant-loop-node : goal.invariant-loop-node
 invariant-loop-node l =
     record {
       inside : AreNodes l.unit l.node-iterator;
-      judged : (names : List (List ℕ)) (before : List Item) (first : ℕ) (statements : List Statement) → IsBodyAt names l.unit l.scope before l.fn.body first statements → IsBodyJudgedTo names l.unit before first statements l.fn.failures.items l.node-iterator l.failures.items;
+      judged :
+          (names : List (List ℕ)) (before : List Item) (first : ℕ) (statements : List Statement)
+          → IsBodyAt names l.unit l.scope before l.fn.body first statements
+          → IsBodyJudgedTo names l.unit before first statements l.fn.failures.items l.node-iterator l.failures.items;
     }

@@ -11,7 +11,8 @@ use Rattle.first_form.proofs.read.statements.Given as goal
 abbrev pub invariant-statements : goal.invariant-statements
 invariant-statements l =
     record {
-      leads : LeadsTo read_statement (map (statement_of l.names) l.statements.items) (spellings_of l.names l.rest) (read_many read_statement (spellings_of l.names l.tokens));
+      leads :
+          LeadsTo read_statement (map (statement_of l.names) l.statements.items) (spellings_of l.names l.rest) (read_many read_statement (spellings_of l.names l.tokens));
       statements : All (IsKnownStatement l.names) l.statements.items;
       rest : AreKnownTokens l.names l.rest;
     }

@@ -7,7 +7,8 @@ use Rattle.first_form.proofs.view.behind_words.Goals as goal
 use Rattle.first_form.specs.Nodes.{AreNodes, IsNode}
 
 pub returns-in_err-children_of : goal.returns-in_err-children_of
-returns-in_err-children_of c = λ names table token spelling number words small shows flags has. absurd (c.in_err-children_of.ensures.parts names token spelling number words shows)
+returns-in_err-children_of c =
+    λ names table token spelling number words small shows flags has. absurd (c.in_err-children_of.ensures.parts names token spelling number words shows)
 
 pub loop-word-init : goal.loop-word-init
 loop-word-init c =

@@ -13,6 +13,9 @@ abbrev pub invariant-loop-word : goal.invariant-loop-word
 invariant-loop-word l =
     record {
       inside : AreNodes l.unit l.word-iterator;
-      leads : (names : List (List ℕ)) → IsTableOf names l.unit → (token : ℕ) (spelling : List ℕ) (number : ℕ) (words : SyntaxParts) → AreSmallNumbers words → Shows names l.unit l.fn.list (Node AttributeList token spelling number words) → (flags : Flags) → HasFlags names flags l.fn.object
+      leads :
+          (names : List (List ℕ)) → IsTableOf names l.unit → (token : ℕ) (spelling : List ℕ) (number : ℕ) (words : SyntaxParts)
+          → AreSmallNumbers words → Shows names l.unit l.fn.list (Node AttributeList token spelling number words) → (flags : Flags)
+          → HasFlags names flags l.fn.object
           → LeadsOn flags_behind_words AreSmallNumbers names l.unit l.word-iterator l.later (flags_behind_words flags words);
     }

@@ -12,6 +12,8 @@ abbrev pub invariant-loop-part : goal.invariant-loop-part
 invariant-loop-part l =
     record {
       inside : AreNodes l.unit l.part-iterator;
-      leads : (names : List (List ℕ)) → IsTableOf names l.unit → (token : ℕ) (parts : SyntaxParts) → HaveSmallNumbers parts → Shows names l.unit l.fn.specifiers (plain_node Specifiers token parts)
+      leads :
+          (names : List (List ℕ)) → IsTableOf names l.unit → (token : ℕ) (parts : SyntaxParts) → HaveSmallNumbers parts
+          → Shows names l.unit l.fn.specifiers (plain_node Specifiers token parts)
           → LeadsOn specified_flags HaveSmallNumbers names l.unit l.part-iterator l.object (specified_flags no_flags parts);
     }

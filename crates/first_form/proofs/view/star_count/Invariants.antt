@@ -10,6 +10,8 @@ abbrev pub invariant-loop-part : goal.invariant-loop-part
 invariant-loop-part l =
     record {
       inside : AreNodes l.unit l.part-iterator;
-      stars : (names : List (List ℕ)) (token at : ℕ) (spelling : List ℕ) (stars : ℕ) → Shows names l.unit l.fn.declarator (Node Declarator token spelling 0 (parts_of TypePart (star_trees at stars)))
+      stars :
+          (names : List (List ℕ)) (token at : ℕ) (spelling : List ℕ) (stars : ℕ)
+          → Shows names l.unit l.fn.declarator (Node Declarator token spelling 0 (parts_of TypePart (star_trees at stars)))
           → (next left : ℕ) × ShowParts names l.unit l.part-iterator (parts_of TypePart (star_trees next left));
     }

@@ -1,4 +1,4 @@
-use crate::run::assert_check;
+use crate::run::{NOT_BUILT, assert_check};
 use ksparse::Exit;
 use std::alloc::{AllocError, Global};
 use std::test::Fail;
@@ -26,7 +26,7 @@ impl Answer {
     fn err(self, alloc: Global) -> Result<String, AllocError> {
         match self {
             Answer::Empty => Ok(String::new(alloc)),
-            Answer::NotInForm => String::from_str(alloc, "t.c:1:1: error[29]: form not built\n"),
+            Answer::NotInForm => String::from_str(alloc, NOT_BUILT),
             Answer::Opens(column) => {
                 format!(in alloc; "t.c:1:{column}: error[4]: unterminated literal\n")
             }

@@ -6,6 +6,9 @@ use std::process::Abort;
 /// Room for each text of a test.
 pub const ROOM: usize = 4096;
 
+/// The answer to a text that has tokens and isn't in the form.
+pub const NOT_BUILT: &str = "t.c:1:1: error[29]: form not built\n";
+
 /// What a run of the top call left.
 #[derive(Drop)]
 pub struct Ran {

@@ -1,4 +1,4 @@
-use crate::run::assert_check;
+use crate::run::{NOT_BUILT, assert_check};
 use ksparse::Exit;
 use std::alloc::{AllocError, Global};
 use std::test::Fail;
@@ -42,8 +42,6 @@ struct LongUnit {
 }
 
 const TOO_MANY: &str = "ksparse: limit: unit tokens\n";
-
-const NOT_BUILT: &str = "t.c:1:1: error[29]: form not built\n";
 
 // `extern int *p;` has five tokens and the function seven besides its statements: 2,000,000 in all.
 #[rattlefmt::skip]

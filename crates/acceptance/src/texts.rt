@@ -1,4 +1,4 @@
-use crate::run::assert_check;
+use crate::run::{NOT_BUILT, assert_check};
 use ksparse::Exit;
 use std::test::Fail;
 
@@ -165,8 +165,6 @@ const NOT_IN_FORM: [Text; 38] = [
     Text { case: "a statement without its end", text: "extern int x; void f(void) { x = x }" },
     Text { case: "something behind the last item", text: "void f(void) { } }" },
 ];
-
-const NOT_BUILT: &str = "t.c:1:1: error[29]: form not built\n";
 
 #[test]
 fn texts_are_answered(rt: HostRuntime) -> Result<(), Fail> {

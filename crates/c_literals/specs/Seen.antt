@@ -6,9 +6,9 @@ use Rattle.meaning_literals.specs.Suffixes as suffixes
 use Rattle.meaning_literals.specs.Constants.{Constant, Fault, BadDigitFault, BadSuffixFault, TooBigFault, FloatingFault, BadEscapeFault, EmptyFault, WideFault, UniversalFault}
 use Rattle.meaning_literals.specs.Elements.{Element, Piece}
 use Rattle.meaning_literals.specs.Quoted.{byte_of}
-use Rattle.sparse_model.specs.declared.int_kind.IntConst.{IntConst}
-use Rattle.sparse_model.specs.declared.int_kind.IntKind as kinds
-use Rattle.sparse_model.specs.declared.int_kind.IntKind.TheVariants.{Bool, Char, SChar, UChar, Short, UShort, Int, UInt, Long, ULong, LLong, ULLong}
+use Rattle.sparse_model.specs.declared.int_const.IntConst.{IntConst}
+use Rattle.vocabulary.specs.declared.int_kind.IntKind as kinds
+use Rattle.vocabulary.specs.declared.int_kind.IntKind.TheVariants.{Bool, Char, SChar, UChar, Short, UShort, Int, UInt, Long, ULong, LLong, ULLong}
 use Rattle.c_literals.specs.declared.element.Piece as pieces
 use Rattle.c_literals.specs.declared.fault.LiteralFault.{LiteralFault}
 use Rattle.c_literals.specs.declared.fault.LiteralFault.TheVariants.{BadDigit, BadSuffix, TooBig, Floating, BadEscape, Empty, Wide, Universal, Memory}

@@ -1,7 +1,7 @@
 -- How a token that is found at the front of a text is seen.
 use Rattle.std.specs.Prelude.{ℕ, Option, Some, None}
 use Rattle.meaning_text.specs.Fronts.{Found}
-use Rattle.sparse_model.specs.declared.token_kind.TokenKind.{TokenKind}
+use Rattle.vocabulary.specs.declared.token_kind.TokenKind.{TokenKind}
 use Rattle.c_tokens.specs.Seen.{kind_of}
 
 -- a kind, and how many bytes are of it

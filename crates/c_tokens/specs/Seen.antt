@@ -7,8 +7,8 @@ use Rattle.meaning_text.specs.Tokens.{Tok}
 use Rattle.meaning_text.specs.Tokens as tokens
 use Rattle.sparse_model.specs.declared.ids.NameId.{NameId}
 use Rattle.sparse_model.specs.declared.place.Place.{Place}
-use Rattle.sparse_model.specs.declared.token_kind.TokenKind.{TokenKind}
-use Rattle.sparse_model.specs.declared.token_kind.TokenKind.TheVariants.{Identifier, Number, Character, String, HeaderName, LeftBracket, RightBracket, LeftParenthesis, RightParenthesis, LeftBrace, RightBrace, Dot, Arrow, PlusPlus, MinusMinus, Ampersand, Star, Plus, Minus, Tilde, Exclamation, Slash, Percent, ShiftLeft, ShiftRight, Less, Greater, LessEqual, GreaterEqual, EqualEqual, NotEqual, Caret, Bar, AndAnd, OrOr, Question, Colon, Semicolon, Ellipsis, Assign, StarAssign, SlashAssign, PercentAssign, PlusAssign, MinusAssign, ShiftLeftAssign, ShiftRightAssign, AndAssign, XorAssign, OrAssign, Comma, Hash, HashHash, Stray}
+use Rattle.vocabulary.specs.declared.token_kind.TokenKind.{TokenKind}
+use Rattle.vocabulary.specs.declared.token_kind.TokenKind.TheVariants.{Identifier, Number, Character, String, HeaderName, LeftBracket, RightBracket, LeftParenthesis, RightParenthesis, LeftBrace, RightBrace, Dot, Arrow, PlusPlus, MinusMinus, Ampersand, Star, Plus, Minus, Tilde, Exclamation, Slash, Percent, ShiftLeft, ShiftRight, Less, Greater, LessEqual, GreaterEqual, EqualEqual, NotEqual, Caret, Bar, AndAnd, OrOr, Question, Colon, Semicolon, Ellipsis, Assign, StarAssign, SlashAssign, PercentAssign, PlusAssign, MinusAssign, ShiftLeftAssign, ShiftRightAssign, AndAssign, XorAssign, OrAssign, Comma, Hash, HashHash, Stray}
 use Rattle.c_tokens.specs.declared.token.Token.{Token}
 use Rattle.c_tokens.specs.declared.fault.LexFault.{LexFault}
 use Rattle.c_tokens.specs.declared.fault.LexFault.TheVariants.{OpenComment, OpenLiteral, Memory}

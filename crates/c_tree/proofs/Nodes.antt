@@ -2,8 +2,8 @@
 use Rattle.std.proofs.Common.{◌≡◌, ℕ, List, refl, sym, ap, ◌∙◌}
 use Rattle.meaning_tree.specs.Kinds as meaning
 use Rattle.sparse_model.specs.declared.ids.NameId.{NameId}
-use Rattle.sparse_model.specs.declared.node_kind.NodeKind.{NodeKind}
-use Rattle.sparse_model.specs.declared.node_kind.NodeKind.TheVariants as kinds
+use Rattle.vocabulary.specs.declared.node_kind.NodeKind.{NodeKind}
+use Rattle.vocabulary.specs.declared.node_kind.NodeKind.TheVariants as kinds
 use Rattle.c_tree.specs.declared.node.Node.{Node}
 use Rattle.c_tree.specs.Seen.{kind_of, node_of}
 

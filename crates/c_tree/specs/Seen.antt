@@ -3,12 +3,12 @@ use Rattle.std.specs.Prelude.{◌≡◌, ℕ, ◌<◌, ◌≤◌, List, map, len
 use Rattle.meaning_tree.specs.Kinds as meaning
 use Rattle.meaning_tree.specs.Trees.{Tree}
 use Rattle.meaning_tree.specs.Nodes.{TreeNode, NodeList, end_of, HasNode, StandsFor, ChildrenStandBefore, IsTreeOf}
-use Rattle.sparse_model.specs.Numbers.{role_tag}
+use Rattle.vocabulary.specs.Numbers.{role_tag}
 use Rattle.sparse_model.specs.declared.ids.NameId.{NameId}
-use Rattle.sparse_model.specs.declared.node_kind.NodeKind.{NodeKind}
-use Rattle.sparse_model.specs.declared.node_kind.NodeKind.TheVariants as kinds
-use Rattle.sparse_model.specs.declared.role.Role.{Role}
-use Rattle.sparse_model.specs.declared.role.Role.TheVariants as roles
+use Rattle.vocabulary.specs.declared.node_kind.NodeKind.{NodeKind}
+use Rattle.vocabulary.specs.declared.node_kind.NodeKind.TheVariants as kinds
+use Rattle.vocabulary.specs.declared.role.Role.{Role}
+use Rattle.vocabulary.specs.declared.role.Role.TheVariants as roles
 use Rattle.c_tree.specs.declared.node.Node.{Node}
 
 abbrev pub kind_of : NodeKind → meaning.NodeKind

@@ -15,8 +15,8 @@ use Rattle.meaning_syntax.specs.Words.{is_space_id, number_of}
 use Rattle.meaning_syntax.specs.Items.{AddressSpace, Noderef, Word, word_fits, word_spelled}
 use Rattle.meaning_rules.specs.Bindings.{flagged_by, flags_behind, flags_behind_words, space_named, specified_flags}
 use Rattle.sparse_model.specs.declared.ids.NameId.{NameId}
-use Rattle.sparse_model.specs.declared.node_kind.NodeKind as model
-use Rattle.sparse_model.specs.declared.node_kind.NodeKind.TheVariants as kept
+use Rattle.vocabulary.specs.declared.node_kind.NodeKind as model
+use Rattle.vocabulary.specs.declared.node_kind.NodeKind.TheVariants as kept
 use Rattle.sparse_model.specs.declared.space.Space.{Space}
 use Rattle.first_form.specs.declared.object.ObjectType.{ObjectType}
 use Rattle.first_form.specs.Known.{IsKnownSpace}

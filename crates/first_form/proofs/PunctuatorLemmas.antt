@@ -1,8 +1,8 @@
 -- No punctuator is a name or stands for an address space.
 use Rattle.std.proofs.Common.{◌≡◌, ℕ, Bool, List, ◌∷◌, Option, Some, None, option_map, true, false, is_some, refl, sym, subst, ap, ◌∙◌}
 use Rattle.std.specs.Borrow.{Bor}
-use Rattle.sparse_model.specs.declared.token_kind.TokenKind.{TokenKind}
-use Rattle.sparse_model.specs.declared.token_kind.TokenKind.TheVariants as kinds
+use Rattle.vocabulary.specs.declared.token_kind.TokenKind.{TokenKind}
+use Rattle.vocabulary.specs.declared.token_kind.TokenKind.TheVariants as kinds
 use Rattle.c_tokens.specs.Seen.{kind_of, punctuator_spelling, text_of, tok_of}
 use Rattle.c_tokens.specs.declared.token.Token.{Token}
 use Rattle.meaning_text.specs.Kinds as meaning

@@ -5,9 +5,9 @@ use Rattle.meaning_tree.specs.Kinds.{NodeKind}
 use Rattle.meaning_tree.specs.Trees.{SyntaxTree, Node}
 use Rattle.meaning_tree.specs.Nodes.{TreeNode, NodeList, Grows, StandsFor, StandFor, end_of}
 use Rattle.meaning_syntax.specs.Trees.{SyntaxParts, plain_node}
-use Rattle.sparse_model.specs.Numbers.{role_tag}
+use Rattle.vocabulary.specs.Numbers.{role_tag}
 use Rattle.sparse_model.specs.declared.ids.NameId.{NameId}
-use Rattle.sparse_model.specs.declared.role.Role.{Role}
+use Rattle.vocabulary.specs.declared.role.Role.{Role}
 use Rattle.first_form.specs.Nodes.{AreKnownNodes, spelled}
 
 -- Nodes were added, with names of the table. The last of them, which has this handle, stands for this tree.

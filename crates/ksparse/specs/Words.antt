@@ -1,7 +1,7 @@
 -- What the words of a command are read as.
 use Rattle.std.specs.Prelude.{◌≡◌, ℕ, List, [], ◌∷◌, Some, slice_get}
-use Rattle.sparse_model.specs.declared.class.Class.{Class}
-use Rattle.sparse_model.specs.declared.class.Class.TheVariants.{AddressSpace, Bitwise, Context, NonPointerNull}
+use Rattle.vocabulary.specs.declared.class.Class.{Class}
+use Rattle.vocabulary.specs.declared.class.Class.TheVariants.{AddressSpace, Bitwise, Context, NonPointerNull}
 use Rattle.sparse_model.specs.declared.options.Options.{Options}
 use Rattle.meaning_answer.specs.Command as command
 use Rattle.ksparse.specs.declared.command.Command.{Command}

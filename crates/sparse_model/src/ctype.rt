@@ -1,5 +1,5 @@
 use crate::ids::Restrict;
-use crate::int_kind::IntKind;
+use vocabulary::IntKind;
 use crate::space::Space;
 
 /// A type of C with its qualifiers and flags (C11 6.2.5, 6.7.3).

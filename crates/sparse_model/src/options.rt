@@ -1,4 +1,4 @@
-use crate::class::Class;
+use vocabulary::Class;
 use crate::seq::Seq;
 
 /// A text or a path, as bytes.

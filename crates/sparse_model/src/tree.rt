@@ -1,6 +1,5 @@
 use crate::ids::NameId;
-use crate::node_kind::NodeKind;
-use crate::role::Role;
+use vocabulary::{NodeKind, Role};
 
 /// A node with all that stands below it, which is the value that a node of a unit has.
 ///

@@ -14,10 +14,3 @@ pub enum IntKind {
     LLong,
     ULLong,
 }
-
-/// An integer constant: its type, and its value modulo 2^64.
-#[derive(Clone, Copy, Debug, PartialEq, Eq)]
-pub struct IntConst {
-    pub kind: IntKind,
-    pub bits: u64,
-}

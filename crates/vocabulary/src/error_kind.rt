@@ -1,5 +1,5 @@
 ghost use Rattle.std.specs.Prelude.{◌≡◌};
-ghost use Rattle.sparse_model.specs.Numbers.{error_number};
+ghost use Rattle.vocabulary.specs.Numbers.{error_number};
 
 /// What a file can be refused for. The variants from `CannotDereference` on are constraints of C.
 #[derive(Clone, Copy, Debug, PartialEq, Eq)]

@@ -1,5 +1,5 @@
 ghost use Rattle.std.specs.Prelude.{◌≡◌};
-ghost use Rattle.sparse_model.specs.Numbers.{role_tag};
+ghost use Rattle.vocabulary.specs.Numbers.{role_tag};
 
 /// What a part is for the node above it.
 #[derive(Clone, Copy, Debug, PartialEq, Eq)]

@@ -1,5 +1,5 @@
 ghost use Rattle.std.specs.Prelude.{◌≡◌};
-ghost use Rattle.sparse_model.specs.Numbers.{rule_number};
+ghost use Rattle.vocabulary.specs.Numbers.{rule_number};
 
 /// The rules whose failures are warnings: on address spaces, restricted integers, contexts, null
 /// pointers and style.

@@ -1,0 +1,8 @@
+use vocabulary::IntKind;
+
+/// An integer constant: its type, and its value modulo 2^64.
+#[derive(Clone, Copy, Debug, PartialEq, Eq)]
+pub struct IntConst {
+    pub kind: IntKind,
+    pub bits: u64,
+}

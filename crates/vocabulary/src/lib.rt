@@ -1,0 +1,24 @@
+//! The lists of names on which the definitions and the code agree: kinds of tokens, of nodes and of
+//! integers, roles, rules and their classes, errors, limits.
+//!
+//! Definitions cite these types as they are declared here, so that each list stands once. Whatever has
+//! an id, a place in memory or a stack stands above.
+#![tactic(auto)]
+
+mod class;
+mod error_kind;
+mod int_kind;
+mod limit;
+mod node_kind;
+mod role;
+mod rule;
+mod token_kind;
+
+pub use class::Class;
+pub use error_kind::ErrorKind;
+pub use int_kind::IntKind;
+pub use limit::LimitKind;
+pub use node_kind::NodeKind;
+pub use role::Role;
+pub use rule::RuleCode;
+pub use token_kind::TokenKind;

@@ -1,8 +1,9 @@
--- Worked examples: counts of faults before and after a call, and files by their paths.
+-- Worked examples: counts of faults before and after a call, files by their paths, and what loads of them gave.
 use Rattle.std.specs.Prelude.{◌≡◌, ℕ, ◌-◌, ◌^◌, List, [], ◌∷◌, codes, Some, None, ⊤}
 use Rattle.std.specs.FinMap as map
 use Rattle.meaning_outside.specs.Faults.{Rose, Told, ToldOfTwo}
 use Rattle.meaning_outside.specs.Files.{FileMap, file_at}
+use Rattle.meaning_outside.specs.Loads.{Given, Whole, Missing, TooLong, Failed, NoMemory, Loaded, AgreesWith, EachPathIsLoadedOnce, loads_since, LoadsStay}
 
 -- the greatest count
 abbrev pub end_of_counts : ℕ
@@ -56,3 +57,32 @@ pub record FileExamples : Type 0 where
   pub front_of_a_path : file_at two_files (codes "a") ≡ None
   pub longer_path : file_at two_files (codes "a.c.c") ≡ None
   pub empty_path : file_at two_files [] ≡ None
+
+abbrev pub load_of : (path : List ℕ) (most : ℕ) → Given → Loaded
+load_of path most given = record { path = path; most = most; given = given }
+
+abbrev pub empty_load : Loaded
+empty_load = load_of (codes "a.c") 100 (Whole [])
+
+abbrev pub line_load : Loaded
+line_load = load_of (codes "b.c") 7 (Whole (codes "int x;\n"))
+
+pub record AgreementExamples : Type 0 where
+  pub no_load : AgreesWith two_files []
+  pub loads : AgreesWith two_files (empty_load ∷ line_load ∷ load_of (codes "c.c") 100 Missing ∷ [])
+  -- the line has seven bytes
+  pub too_long : AgreesWith two_files (load_of (codes "b.c") 6 TooLong ∷ [])
+  pub not_too_long : AgreesWith two_files (load_of (codes "b.c") 7 TooLong ∷ []) → ⊥
+  -- a fault and want of memory say nothing of the file
+  pub nothing_said : AgreesWith two_files (load_of (codes "a.c") 0 Failed ∷ load_of (codes "c.c") 0 NoMemory ∷ [])
+  pub other_bytes : AgreesWith two_files (load_of (codes "a.c") 100 (Whole (codes "x")) ∷ []) → ⊥
+  pub not_missing : AgreesWith two_files (empty_load ∷ load_of (codes "b.c") 100 Missing ∷ []) → ⊥
+  pub not_there : AgreesWith two_files (load_of (codes "c.c") 100 (Whole []) ∷ []) → ⊥
+  -- no map agrees with two texts of one path
+  pub two_texts : (files : FileMap) → AgreesWith files (empty_load ∷ load_of (codes "a.c") 100 (Whole (codes "x")) ∷ []) → ⊥
+  pub each_once : EachPathIsLoadedOnce (empty_load ∷ line_load ∷ [])
+  pub not_once : EachPathIsLoadedOnce (empty_load ∷ line_load ∷ load_of (codes "a.c") 0 Failed ∷ []) → ⊥
+  -- the loads of a call stand behind those of before
+  pub of_a_call : loads_since (empty_load ∷ []) (empty_load ∷ line_load ∷ []) ≡ line_load ∷ []
+  pub stay : LoadsStay (empty_load ∷ []) (empty_load ∷ line_load ∷ [])
+  pub not_lost : LoadsStay (empty_load ∷ []) (line_load ∷ line_load ∷ []) → ⊥

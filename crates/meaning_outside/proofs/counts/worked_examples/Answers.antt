@@ -1,9 +1,12 @@
--- Each example is a sum or two, or a file that is looked up.
-use Rattle.std.proofs.Common.{[], ◌⊎◌, inl, inr, codes, arith}
+-- Each example is a sum or two, or files that are looked up.
+use Rattle.std.proofs.Common.{◌≡◌, List, [], ◌∷◌, ◌⊎◌, Some, None, inl, inr, codes, false, true, refl, arith, ap, sym, ◌∙◌}
+use Rattle.std.proofs.lemmas.Slice.Eq.{bytes_eq-Decides}
+use Rattle.meaning_outside.specs.Loads.{Loaded}
 use Rattle.std.specs.Cmp.Lexicographic.{nat_list_cmp_total}
 use Rattle.std.specs.FinMap.{get-from_entries}
 use Rattle.meaning_outside.specs.Faults.{Rose}
-use Rattle.meaning_outside.specs.Examples.{two_entries}
+use Rattle.meaning_outside.specs.Files.{file_at}
+use Rattle.meaning_outside.specs.Examples.{two_entries, two_files}
 use Rattle.meaning_outside.proofs.counts.worked_examples.Goals as goal
 
 neither_rose : Rose 7 7 ⊎ Rose 3 3 → ⊥
@@ -77,4 +80,37 @@ returns-clause-files c = record {
   front_of_a_path = get-from_entries nat_list_cmp_total two_entries (codes "a");
   longer_path = get-from_entries nat_list_cmp_total two_entries (codes "a.c.c");
   empty_path = get-from_entries nat_list_cmp_total two_entries [];
+}
+
+a_holds : file_at two_files (codes "a.c") ≡ Some []
+a_holds = get-from_entries nat_list_cmp_total two_entries (codes "a.c")
+
+b_holds : file_at two_files (codes "b.c") ≡ Some (codes "int x;\n")
+b_holds = get-from_entries nat_list_cmp_total two_entries (codes "b.c")
+
+c_is_missing : file_at two_files (codes "c.c") ≡ None
+c_is_missing = get-from_entries nat_list_cmp_total two_entries (codes "c.c")
+
+paths_differ : codes "b.c" ≡ codes "a.c" → ⊥
+paths_differ is = let equal : false ≡ true = (bytes_eq-Decides (codes "b.c") (codes "a.c")).1 is in cc
+
+same_first : (load other : Loaded) (loads others : List Loaded) → load ∷ loads ≡ other ∷ others → load ≡ other
+same_first load other loads others is = cc
+
+pub returns-clause-agreement : goal.returns-clause-agreement
+returns-clause-agreement c = record {
+  no_load = tt;
+  loads = (a_holds, (b_holds, (c_is_missing, tt)));
+  too_long = (rw b_holds (omega arith), tt);
+  not_too_long = λ agrees. let more = rw b_holds at agrees.0 in omega (arith, more);
+  nothing_said = (tt, (tt, tt));
+  other_bytes = λ agrees. let is = sym a_holds ∙ agrees.0 in cc;
+  not_missing = λ agrees. let is = sym b_holds ∙ agrees.1.0 in cc;
+  not_there = λ agrees. let is = sym c_is_missing ∙ agrees.0 in cc;
+  two_texts = λ files agrees. let is = sym agrees.0 ∙ agrees.1.0 in cc;
+  each_once = ((paths_differ, tt), (tt, tt));
+  not_once = λ once. once.0.1.0 refl;
+  of_a_call = refl;
+  stay = refl;
+  not_lost = λ is. paths_differ (ap (λ (load : Loaded). load.path) (same_first _ _ _ _ is));
 }

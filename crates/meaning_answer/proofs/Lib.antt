@@ -1,4 +1,6 @@
 pub mod Texts
 pub mod Shapes
+mod Usage
 mod Written
+mod Told
 pub mod Delivered

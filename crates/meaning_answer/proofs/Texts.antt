@@ -19,9 +19,10 @@ use Rattle.meaning_rules.specs.Failures.{Failure, IsListing}
 use Rattle.meaning_rules.specs.Judging.{failures_of}
 use Rattle.meaning_rules.proofs.Units.{listings_exist, listings_are_unique}
 use Rattle.meaning_rules.specs.Text.{main_file}
-use Rattle.meaning_answer.specs.Reply.{Reply, Refused, Limit, line}
+use Rattle.meaning_answer.specs.Reply.{Reply}
+use Rattle.meaning_answer.specs.Refusal.{LargeFile, Opens, NotBuilt, ManyTokens, refusal_reply}
 use Rattle.meaning_answer.specs.Command.{Request, BadWord, MissingFile, Check, request_of}
-use Rattle.meaning_answer.specs.Answer.{most_bytes, most_tokens, file_size_text, unit_tokens_text, not_built_text, opening_text, warned, IsChecked, IsInForm, IsTextReply, IsFileReply, IsRequestReply, TellsFailures, TellsTooManyTokens, TellsNotBuilt, TellsOpening}
+use Rattle.meaning_answer.specs.Answer.{most_bytes, most_tokens, warned, IsChecked, IsInForm, IsTextReply, IsFileReply, IsRequestReply, TellsFailures, TellsManyTokens, TellsNotBuilt, TellsOpening}
 use Rattle.meaning_answer.specs.Answering.{bounded_reply, unit_reply, lexed_reply, text_reply, file_reply, request_reply}
 use Rattle.meaning_answer.specs.Laws.{AnswersExist, AnswersAreUnique}
 
@@ -39,7 +40,7 @@ replied_unit path text tokens unit lexes derives =
     replied_tokens path text tokens lexes ∙ ap (unit_reply path tokens) (derived_trees_are_those (terminals_of tokens) unit derives)
 
 pub replied_fault :
-    (path text : List ℕ) (fault : LexFault) → OpensFile main_file text fault → text_reply path text ≡ line Refused (opening_text path fault)
+    (path text : List ℕ) (fault : LexFault) → OpensFile main_file text fault → text_reply path text ≡ refusal_reply path (Opens fault)
 replied_fault path text fault opens = ap (lexed_reply path) (faults_are_unique AtLineStart (logical_text main_file text) fault opens)
 
 -- Its reply is right
@@ -48,7 +49,7 @@ replied_fault path text fault opens = ap (lexed_reply path) (faults_are_unique A
 unit_answered :
     (path text : List ℕ) (tokens : List Tok) (items : List Item) → IsChecked text tokens (unit_tree items) (failures_of items) →
     (few : Bool) → nat_le (length tokens) most_tokens ≡ few →
-    IsTextReply path text (if few then warned path tokens (failures_of items) else line Limit unit_tokens_text)
+    IsTextReply path text (if few then warned path tokens (failures_of items) else refusal_reply path ManyTokens)
 unit_answered path text tokens items checked true few =
     inl (tokens, unit_tree items, failures_of items, checked, leb-true _ _ few, refl)
 unit_answered path text tokens items checked false few =
@@ -99,14 +100,14 @@ only_failures path text reply tells =
     let few = le-leb _ _ tells.4 in
     rw (replied_unit path text tokens tells.1 checked.lexes derives, few) (tells.5 ∙ ap (λ (fs : List Failure). warned path tokens fs) same)
 
-only_too_many : (path text : List ℕ) (reply : Reply) → TellsTooManyTokens text reply → reply ≡ text_reply path text
+only_too_many : (path text : List ℕ) (reply : Reply) → TellsManyTokens path text reply → reply ≡ text_reply path text
 only_too_many path text reply tells =
     let many = lt-leb _ _ tells.4 in
     rw (replied_unit path text tells.0 tells.1 tells.2 tells.3, many) tells.5
 
 -- a reply that tells so is the one to tokens that aren't read
 only_unread :
-    (path text : List ℕ) (reply : Reply) (tokens : List Tok) → LexesFile main_file text tokens → (IsInForm text → ⊥) → reply ≡ line Refused (not_built_text path) →
+    (path text : List ℕ) (reply : Reply) (tokens : List Tok) → LexesFile main_file text tokens → (IsInForm text → ⊥) → reply ≡ refusal_reply path NotBuilt →
     (found : Option (List Item)) → read_unit (terminals_of tokens) ≡ found → reply ≡ unit_reply path tokens found
 only_unread path text reply tokens lexes not_in is None none = is
 only_unread path text reply tokens lexes not_in is (Some items) read =
@@ -129,7 +130,7 @@ only path text reply (inr (inr (inr tells))) = only_opening path text reply tell
 -- of a file
 file_answered_if :
     (path text : List ℕ) (small : Bool) → nat_le (length text) most_bytes ≡ small
-    → IsFileReply path (Some text) (if small then text_reply path text else line Limit file_size_text)
+    → IsFileReply path (Some text) (if small then text_reply path text else refusal_reply path LargeFile)
 file_answered_if path text true small = inr (leb-true _ _ small, answered path text)
 file_answered_if path text false small = inl (leb-false _ _ small, refl)
 
@@ -139,7 +140,7 @@ file_answered path (Some text) = file_answered_if path text (nat_le (length text
 
 only_file_if :
     (path text : List ℕ) (reply : Reply) (small : Bool) → nat_le (length text) most_bytes ≡ small → IsFileReply path (Some text) reply
-    → reply ≡ (if small then text_reply path text else line Limit file_size_text)
+    → reply ≡ (if small then text_reply path text else refusal_reply path LargeFile)
 only_file_if path text reply true small (inl large) = absurd (let fits = leb-true _ _ small in omega (arith, large.0))
 only_file_if path text reply true small (inr told) = only path text reply told.1
 only_file_if path text reply false small (inl large) = large.1

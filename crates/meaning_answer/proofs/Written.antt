@@ -1,9 +1,11 @@
 -- By the shape of the reply that was written, or of which a front was.
-use Rattle.std.proofs.Common.{◌≡◌, ℕ, List, [], ◌∷◌, ◌++◌, Option, sym, ◌∙◌, ap, subst, refl, inl, inr, ◌⊎◌, append-nil, arith}
+use Rattle.std.proofs.Common.{◌≡◌, ℕ, List, [], ◌∷◌, ◌++◌, sym, ◌∙◌, ap, subst, refl, inl, inr, ◌⊎◌, append-nil, arith}
 use Rattle.meaning_outside.specs.Files.{FileMap}
 use Rattle.meaning_answer.specs.Reply.{Ending, Clean, Warned, Refused, Usage, ReadFault, WriteFault, NoMemory, Limit, IsLine, HasShape}
-use Rattle.meaning_answer.specs.Delivery.{IsRight, Ends}
-use Rattle.meaning_answer.specs.Laws.{told_sinks, HasWritten, EndingsTellWhatIsWritten}
+use Rattle.meaning_answer.specs.Answer.{IsAnswer}
+use Rattle.meaning_answer.specs.Delivery.{Sinks, Ends}
+use Rattle.meaning_answer.specs.Laws.{HasWritten, EndingsTellWhatIsWritten}
+use Rattle.meaning_answer.proofs.Shapes.{answers_are_shaped}
 
 -- nothing goes to out in each shape
 out_is_empty : (ending : Ending) (out err : List ℕ) → HasShape ending out err → out ≡ []
@@ -43,35 +45,36 @@ front_of_nothing : (front back : List ℕ) → [] ≡ front ++ back → front �
 front_of_nothing [] back same = refl
 front_of_nothing (byte ∷ front) back same = grind arith
 
--- a reply that was written whole
-ended : (words : List (List ℕ)) (told : Option FileMap) (ending : Ending) (old_out new_out old_err new_err : List ℕ)
-    → Ends (IsRight words told) ending (told_sinks old_out new_out old_err new_err)
-    → (new_out ≡ old_out) × (written : List ℕ) × (new_err ≡ old_err ++ written) × HasWritten ending written
-ended words told ending old_out new_out old_err new_err ends =
-    let reply = ends.0 in
-    let shape : HasShape ending reply.out reply.err = subst (λ (e : Ending). HasShape e reply.out reply.err) ends.2 ends.1.shape in
-    let silent = out_is_empty ending reply.out reply.err shape in (
-      ends.3.out ∙ ap (λ (t : List ℕ). old_out ++ t) silent ∙ append-nil old_out,
-      reply.err,
-      ends.3.err,
-      err_has ending reply.out reply.err shape,
-    )
+-- a reply that was taken whole
+module _ (words : List (List ℕ)) (files : FileMap) (sinks : Sinks) where
+  ended : (ending : Ending) → Ends (IsAnswer words files) ending sinks
+      → (sinks.new_out ≡ sinks.old_out) × (written : List ℕ) × (sinks.new_err ≡ sinks.old_err ++ written) × HasWritten ending written
+  ended ending ends =
+      let reply = ends.0 in
+      let shaped = answers_are_shaped words files reply ends.1 in
+      let shape : HasShape ending reply.out reply.err = subst (λ (e : Ending). HasShape e reply.out reply.err) ends.2 shaped in
+      let silent = out_is_empty ending reply.out reply.err shape in (
+        ends.3.out ∙ ap (λ (t : List ℕ). sinks.old_out ++ t) silent ∙ append-nil sinks.old_out,
+        reply.err,
+        ends.3.err,
+        err_has ending reply.out reply.err shape,
+      )
 
 pub endings_tell : EndingsTellWhatIsWritten
-endings_tell words told NoMemory old_out new_out old_err new_err outcome = (outcome.0, [], outcome.1 ∙ sym (append-nil old_err), refl)
-endings_tell words told ReadFault old_out new_out old_err new_err outcome = (outcome.0, [], outcome.1 ∙ sym (append-nil old_err), refl)
-endings_tell words told WriteFault old_out new_out old_err new_err outcome =
+endings_tell words files NoMemory sinks silent = (silent.out, [], silent.err ∙ sym (append-nil sinks.old_err), refl)
+endings_tell words files ReadFault sinks silent = (silent.out, [], silent.err ∙ sym (append-nil sinks.old_err), refl)
+endings_tell words files WriteFault sinks outcome =
     let reply = outcome.0 in
     let broken = outcome.2 in
-    let shape = outcome.1.shape in
+    let shape = answers_are_shaped words files reply outcome.1 in
     let silent = front_of_nothing broken.front_out broken.prefix_out.0 (sym (out_is_empty reply.ending reply.out reply.err shape) ∙ broken.prefix_out.1) in (
-      broken.out ∙ ap (λ (t : List ℕ). old_out ++ t) silent ∙ append-nil old_out,
+      broken.out ∙ ap (λ (t : List ℕ). sinks.old_out ++ t) silent ∙ append-nil sinks.old_out,
       broken.front_err,
       broken.err,
       (broken.prefix_err.0, subst (λ (t : List ℕ). (t ≡ []) ⊎ IsLine t) broken.prefix_err.1 (err_is_whole reply.ending reply.out reply.err shape)),
     )
-endings_tell words told Clean old_out new_out old_err new_err outcome = ended words told Clean old_out new_out old_err new_err outcome
-endings_tell words told Warned old_out new_out old_err new_err outcome = ended words told Warned old_out new_out old_err new_err outcome
-endings_tell words told Refused old_out new_out old_err new_err outcome = ended words told Refused old_out new_out old_err new_err outcome
-endings_tell words told Usage old_out new_out old_err new_err outcome = ended words told Usage old_out new_out old_err new_err outcome
-endings_tell words told Limit old_out new_out old_err new_err outcome = ended words told Limit old_out new_out old_err new_err outcome
+endings_tell words files Clean sinks ends = ended words files sinks Clean ends
+endings_tell words files Warned sinks ends = ended words files sinks Warned ends
+endings_tell words files Refused sinks ends = ended words files sinks Refused ends
+endings_tell words files Usage sinks ends = ended words files sinks Usage ends
+endings_tell words files Limit sinks ends = ended words files sinks Limit ends

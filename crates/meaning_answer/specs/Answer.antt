@@ -1,15 +1,16 @@
 -- The answer of a command, as a relation of its words, the files and the reply, in the order in which a
 -- refusal goes before another: usage, loading, the size of the file, its tokens, its form, their number; and
 -- behind them the rules.
-use Rattle.std.specs.Prelude.{◌≡◌, ℕ, ◌<◌, ◌≤◌, List, [], ◌∷◌, ◌++◌, Option, Some, None, codes, length, ◌⊎◌}
+use Rattle.std.specs.Prelude.{◌≡◌, ℕ, ◌<◌, ◌≤◌, List, [], ◌∷◌, Option, Some, None, length, ◌⊎◌}
 use Rattle.meaning_outside.specs.Files.{FileMap, file_at}
-use Rattle.meaning_text.specs.Tokens.{Tok, LexFault, OpenComment, OpenLiteral, LexesFile, OpensFile}
+use Rattle.meaning_text.specs.Tokens.{Tok, LexFault, LexesFile, OpensFile}
 use Rattle.meaning_text.specs.Terminals.{terminals_of}
 use Rattle.meaning_tree.specs.Trees.{SyntaxTree}
 use Rattle.meaning_syntax.specs.Trees.{Derives}
 use Rattle.meaning_rules.specs.Failures.{Failure, IsListing}
-use Rattle.meaning_rules.specs.Text.{main_file, place_text, warnings_text}
-use Rattle.meaning_answer.specs.Reply.{Reply, Warned, Refused, Usage, Limit, silence, line}
+use Rattle.meaning_rules.specs.Text.{main_file, warnings_text}
+use Rattle.meaning_answer.specs.Reply.{Reply, Warned, silence}
+use Rattle.meaning_answer.specs.Refusal.{UnknownWord, MissingOperand, NoSuchFile, LargeFile, Opens, NotBuilt, ManyTokens, refusal_reply}
 use Rattle.meaning_answer.specs.Command.{Request, BadWord, MissingFile, Check, request_of}
 
 -- the most bytes that a file may have
@@ -19,30 +20,6 @@ most_bytes = 8388608
 -- the most tokens that a unit may have
 abbrev pub most_tokens : ℕ
 most_tokens = 2000000
-
--- the texts of refusals
-abbrev pub bad_word_text : List ℕ → List ℕ
-bad_word_text word = codes "ksparse: bad word: " ++ word
-
-abbrev pub missing_file_text : List ℕ
-missing_file_text = codes "ksparse: missing file"
-
-abbrev pub no_such_file_text : List ℕ → List ℕ
-no_such_file_text path = codes "ksparse: error[1]: no such file: " ++ path
-
-abbrev pub file_size_text : List ℕ
-file_size_text = codes "ksparse: limit: file size"
-
-abbrev pub unit_tokens_text : List ℕ
-unit_tokens_text = codes "ksparse: limit: unit tokens"
-
-abbrev pub not_built_text : List ℕ → List ℕ
-not_built_text path = path ++ codes ":1:1: error[29]: form not built"
-
--- a comment or a literal that opens here and is never closed
-abbrev pub opening_text : List ℕ → LexFault → List ℕ
-opening_text path (OpenComment at) = place_text path at ++ codes " error[3]: unterminated comment"
-opening_text path (OpenLiteral at) = place_text path at ++ codes " error[4]: unterminated literal"
 
 -- silence where no rule fails, else the warnings
 abbrev pub warned : List ℕ → List Tok → List Failure → Reply
@@ -66,33 +43,33 @@ TellsFailures path text reply =
     × (reply ≡ warned path tokens failures)
 
 -- or says that the unit has too many tokens
-abbrev pub TellsTooManyTokens : List ℕ → Reply → Type 0
-TellsTooManyTokens text reply =
+abbrev pub TellsManyTokens : List ℕ → List ℕ → Reply → Type 0
+TellsManyTokens path text reply =
     (tokens : List Tok) × (unit : SyntaxTree) × LexesFile main_file text tokens × Derives (terminals_of tokens) unit × (most_tokens < length tokens)
-    × (reply ≡ line Limit unit_tokens_text)
+    × (reply ≡ refusal_reply path ManyTokens)
 
 -- or says that the text has tokens and isn't in the form
 abbrev pub TellsNotBuilt : List ℕ → List ℕ → Reply → Type 0
 TellsNotBuilt path text reply =
-    (tokens : List Tok) × LexesFile main_file text tokens × (IsInForm text → ⊥) × (reply ≡ line Refused (not_built_text path))
+    (tokens : List Tok) × LexesFile main_file text tokens × (IsInForm text → ⊥) × (reply ≡ refusal_reply path NotBuilt)
 
 -- or says what opens first in the text and is never closed, so that it has no tokens
 abbrev pub TellsOpening : List ℕ → List ℕ → Reply → Type 0
 TellsOpening path text reply =
-    (fault : LexFault) × OpensFile main_file text fault × (reply ≡ line Refused (opening_text path fault))
+    (fault : LexFault) × OpensFile main_file text fault × (reply ≡ refusal_reply path (Opens fault))
 
 abbrev pub IsTextReply : List ℕ → List ℕ → Reply → Type 0
 IsTextReply path text reply =
-    TellsFailures path text reply ⊎ (TellsTooManyTokens text reply ⊎ (TellsNotBuilt path text reply ⊎ TellsOpening path text reply))
+    TellsFailures path text reply ⊎ (TellsManyTokens path text reply ⊎ (TellsNotBuilt path text reply ⊎ TellsOpening path text reply))
 
 abbrev pub IsFileReply : List ℕ → Option (List ℕ) → Reply → Type 0
-IsFileReply path None reply = reply ≡ line Refused (no_such_file_text path)
+IsFileReply path None reply = reply ≡ refusal_reply path NoSuchFile
 IsFileReply path (Some text) reply =
-    ((most_bytes < length text) × (reply ≡ line Limit file_size_text)) ⊎ ((length text ≤ most_bytes) × IsTextReply path text reply)
+    ((most_bytes < length text) × (reply ≡ refusal_reply path LargeFile)) ⊎ ((length text ≤ most_bytes) × IsTextReply path text reply)
 
 abbrev pub IsRequestReply : Request → FileMap → Reply → Type 0
-IsRequestReply (BadWord position word) files reply = reply ≡ line Usage (bad_word_text word)
-IsRequestReply MissingFile files reply = reply ≡ line Usage missing_file_text
+IsRequestReply (BadWord position word) files reply = reply ≡ refusal_reply word UnknownWord
+IsRequestReply MissingFile files reply = reply ≡ refusal_reply [] MissingOperand
 IsRequestReply (Check path) files reply = IsFileReply path (file_at files path) reply
 
 -- the reply is the answer to the words over these files

@@ -1,10 +1,13 @@
 -- What holds of the answer to each command.
-use Rattle.std.specs.Prelude.{◌≡◌, ℕ, List, [], ◌++◌, Option, Some, ◌⊎◌}
+use Rattle.std.specs.Prelude.{◌≡◌, ◌≢◌, ℕ, List, [], ◌++◌, ◌⊎◌}
 use Rattle.meaning_outside.specs.Files.{FileMap}
+use Rattle.meaning_outside.specs.Loads.{Loaded, AgreesWith}
 use Rattle.meaning_answer.specs.Reply.{Ending, Clean, Warned, Refused, Usage, ReadFault, WriteFault, NoMemory, Limit, Reply, IsLine, IsShaped}
+use Rattle.meaning_answer.specs.Refusal.{UnknownWord, MissingOperand, refusal_reply}
+use Rattle.meaning_answer.specs.Command.{Request, BadWord, MissingFile, Check, request_of}
 use Rattle.meaning_answer.specs.Answer.{IsAnswer}
 use Rattle.meaning_answer.specs.Answering.{reply_to}
-use Rattle.meaning_answer.specs.Delivery.{Sinks, IsRight, Outcome}
+use Rattle.meaning_answer.specs.Delivery.{Sinks, Outcome, IsOutcome}
 
 -- there is an answer, the one that the plain program computes
 abbrev pub AnswersExist : Type 0
@@ -18,12 +21,17 @@ AnswersAreUnique = (words : List (List ℕ)) (files : FileMap) (reply : Reply) �
 abbrev pub AnswersAreShaped : Type 0
 AnswersAreShaped = (words : List (List ℕ)) (files : FileMap) (reply : Reply) → IsAnswer words files reply → IsShaped reply
 
--- What stands on two sinks that tell what they hold, by the ending alone
+-- a reply is a usage line exactly where the words are at fault, and then that of their fault
+abbrev pub TellsUsage : Request → Reply → Type 0
+TellsUsage (BadWord position word) reply = reply ≡ refusal_reply word UnknownWord
+TellsUsage MissingFile reply = reply ≡ refusal_reply [] MissingOperand
+TellsUsage (Check path) reply = reply.ending ≢ Usage
 
--- sinks that held these bytes, and now hold those
-abbrev pub told_sinks : (old_out new_out old_err new_err : List ℕ) → Sinks
-told_sinks old_out new_out old_err new_err =
-    record { old_out = Some old_out; new_out = Some new_out; old_err = Some old_err; new_err = Some new_err }
+-- whatever the files hold
+abbrev pub AnswersTellUsage : Type 0
+AnswersTellUsage = (words : List (List ℕ)) (files : FileMap) (reply : Reply) → IsAnswer words files reply → TellsUsage (request_of words) reply
+
+-- What the sinks have taken, by the ending alone
 
 -- silence where no rule fails, where memory is wanting and where a file can't be read; a text that ends a line
 -- where a rule fails and behind each refusal
@@ -41,6 +49,19 @@ HasWritten WriteFault written = (rest : List ℕ) × ((written ++ rest ≡ []) �
 -- nothing goes to `out`, and to `err` goes what the ending says
 abbrev pub EndingsTellWhatIsWritten : Type 0
 EndingsTellWhatIsWritten =
-    (words : List (List ℕ)) (told : Option FileMap) (ending : Ending) (old_out new_out old_err new_err : List ℕ)
-    → Outcome (IsRight words told) ending (told_sinks old_out new_out old_err new_err)
-    → (new_out ≡ old_out) × (written : List ℕ) × (new_err ≡ old_err ++ written) × HasWritten ending written
+    (words : List (List ℕ)) (files : FileMap) (ending : Ending) (sinks : Sinks) → Outcome (IsAnswer words files) ending sinks
+    → (sinks.new_out ≡ sinks.old_out) × (written : List ℕ) × (sinks.new_err ≡ sinks.old_err ++ written) × HasWritten ending written
+
+-- What files and sinks tell of themselves
+
+-- what a sink tells grew by what it took
+pub record GrowAlike (told taken : Sinks) : Type 0 where
+  pub out : (text : List ℕ) → taken.new_out ≡ taken.old_out ++ text → told.new_out ≡ told.old_out ++ text
+  pub err : (text : List ℕ) → taken.new_err ≡ taken.old_err ++ text → told.new_err ≡ told.old_err ++ text
+
+-- Where the files tell a map, which agrees with the loads, and the sinks tell what they hold, which grew by what
+-- they took, the outcome is said of what they tell.
+abbrev pub OutcomesAreTold : Type 0
+OutcomesAreTold =
+    (words : List (List ℕ)) (files : FileMap) (loads : List Loaded) (ending : Ending) (told taken : Sinks) → AgreesWith files loads
+    → GrowAlike told taken → IsOutcome words loads ending taken → Outcome (IsAnswer words files) ending told

@@ -1,4 +1,5 @@
 pub mod Reply
+pub mod Refusal
 pub mod Command
 pub mod Answer
 pub mod Answering

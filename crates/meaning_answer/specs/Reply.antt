@@ -38,8 +38,7 @@ line ending text = record { out = []; err = text ++ codes "\n"; ending = ending 
 abbrev pub IsLine : List ℕ → Type 0
 IsLine err = (text : List ℕ) × (err ≡ text ++ codes "\n")
 
--- What each reply is like, whatever the files hold. A fault of reading or writing and want of memory are
--- no replies.
+-- What each reply is like. A fault of reading or writing and want of memory are no replies.
 abbrev pub HasShape : Ending → List ℕ → List ℕ → Type 0
 HasShape Clean out err = (out ≡ []) × (err ≡ [])
 HasShape Warned out err = (out ≡ []) × IsLine err

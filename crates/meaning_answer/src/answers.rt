@@ -1,11 +1,13 @@
 ghost use Rattle.meaning_answer.specs.Examples.{AnswerExamples, LimitExamples, RequestExamples};
-ghost use Rattle.meaning_answer.specs.Laws.{AnswersAreShaped, AnswersAreUnique, AnswersExist, EndingsTellWhatIsWritten};
+ghost use Rattle.meaning_answer.specs.Laws.{AnswersAreShaped, AnswersAreUnique, AnswersExist, AnswersTellUsage, EndingsTellWhatIsWritten, OutcomesAreTold};
 
-/// Each command has exactly one answer over given files, and it has the shape of its ending.
+/// Each command has exactly one answer over given files, with the shape of its ending. It is a usage line
+/// exactly where the words are at fault.
 pub fn each_command_has_one_answer()
     ensures exist { AnswersExist }
     ensures unique { AnswersAreUnique }
     ensures shaped { AnswersAreShaped }
+    ensures usage { AnswersTellUsage }
 {}
 
 /// Small commands, from their words and files to their texts.
@@ -15,7 +17,12 @@ pub fn worked_examples()
     ensures limits { LimitExamples }
 {}
 
-/// What a command has written on sinks that tell it, by its ending alone, whatever the files hold.
+/// What the sinks of a command have taken, by its ending alone, whatever the files hold.
 pub fn endings_tell_what_is_written()
     ensures { EndingsTellWhatIsWritten }
+{}
+
+/// The outcome by what loads gave and sinks took is that by what files and sinks tell, where they tell it.
+pub fn outcomes_are_told()
+    ensures { OutcomesAreTold }
 {}

@@ -7,4 +7,6 @@
 
 mod answers;
 
-pub use answers::{each_command_has_one_answer, endings_tell_what_is_written, worked_examples};
+pub use answers::{
+    each_command_has_one_answer, endings_tell_what_is_written, outcomes_are_told, worked_examples,
+};

@@ -15,6 +15,7 @@ mod real;
 mod sink;
 #[cfg(test)]
 mod tests;
+mod trace;
 mod words;
 
 pub use files::{Files, Load};

@@ -1,1 +1,3 @@
 mod LogLemmas
+mod Outcomes
+pub mod Walks

@@ -3,6 +3,7 @@ pub use Rattle.meaning_outside.specs.Files
 pub use Rattle.meaning_outside.specs.Loads
 pub mod Load
 pub mod Put
+pub mod Laws
 pub mod Trace
 pub mod Log
 pub mod HonestFiles

@@ -8,6 +8,7 @@
 
 mod files;
 mod honest;
+mod laws;
 mod log;
 mod memory;
 mod memory_sink;
@@ -20,6 +21,7 @@ mod words;
 
 pub use files::{Files, Load};
 pub use honest::HonestFiles;
+pub use laws::{load_leaves_buffer, told_bytes_were_taken, told_map_agrees};
 pub use memory::MemoryFiles;
 pub use memory_sink::MemorySink;
 pub use real::{RealFiles, RealSink};

@@ -1,3 +1,4 @@
+mod Loads
 mod LogLemmas
-mod Outcomes
-pub mod Walks
+mod Puts
+mod Walks

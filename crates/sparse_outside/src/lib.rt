@@ -1,9 +1,11 @@
 //! What the checker sees of the outside: files to load, sinks to write to, and the command's words.
 //!
 //! Two traits stand for the outside, and each has kinds over memory, whose whole behaviour is
-//! proved, and one over the system, which tells no content. Both traits count their faults, so
-//! that a caller can tell a fault of the outside from an answer. Nothing here knows of C. The
-//! definitions are in `specs/Load.antt` and `specs/Put.antt`; start reading at [`Files`].
+//! proved, and one over the system, which tells no content. Files tell what each load gave, and
+//! sinks the bytes that their puts said they took, which is so of the system's too. Both traits count
+//! their faults, so that a caller can tell a fault of the outside from an answer. Nothing here knows
+//! of C. The definitions are in `specs/Load.antt` and `specs/Put.antt`, the laws that tie what is told
+//! to what was given in `specs/Laws.antt`; start reading at [`Files`].
 #![tactic(auto)]
 
 mod files;

@@ -1,1 +1,4 @@
+mod Loads
 mod LogLemmas
+mod Puts
+mod Walks

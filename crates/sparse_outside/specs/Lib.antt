@@ -1,8 +1,13 @@
 pub use Rattle.meaning_outside.specs.Faults
 pub use Rattle.meaning_outside.specs.Files
+pub use Rattle.meaning_outside.specs.Loads
 pub mod Load
 pub mod Put
+pub mod Laws
+pub mod Trace
 pub mod Log
+pub mod HonestFiles
 pub mod MemoryFiles
 pub mod MemorySink
+pub mod Real
 pub mod Words

@@ -1,6 +1,8 @@
--- What a load answers, and what it leaves in a buffer that was empty.
+-- What a load answers, what it leaves in a buffer that was empty, and what it gave by that.
 use Rattle.std.specs.Prelude.{◌≡◌, ◌≤◌, ◌<◌, ℕ, List, [], length, Option, None, Some, IsSomeAnd}
 use Rattle.meaning_outside.specs.Files.{FileMap, file_at}
+use Rattle.meaning_outside.specs.Loads.{Given, Loaded}
+use Rattle.meaning_outside.specs.Loads as given
 use Rattle.sparse_outside.specs.declared.files.Load.{Load}
 use Rattle.sparse_outside.specs.declared.files.Load.TheVariants.{Whole, Missing, TooLong, Failed, NoMemory}
 
@@ -24,3 +26,15 @@ LeavesBuffer max Failed into = into ≡ []
 abbrev pub Loads : Option FileMap → List ℕ → ℕ → Load → List ℕ → Type 0
 Loads None path max answer into = LeavesBuffer max answer into
 Loads (Some files) path max answer into = LoadGives (file_at files path) max answer into
+
+-- what a load gave by its answer and by what it left in the buffer
+abbrev pub given_by : Load → (into : List ℕ) → Given
+given_by Whole into = given.Whole into
+given_by Missing into = given.Missing
+given_by TooLong into = given.TooLong
+given_by Failed into = given.Failed
+given_by NoMemory into = given.NoMemory
+
+-- the load of a path that asked for so many bytes at most
+abbrev pub loaded : (path : List ℕ) (most : ℕ) → Load → (into : List ℕ) → Loaded
+loaded path most answer into = record { path = path; most = most; given = given_by answer into }

@@ -1,9 +1,10 @@
 // The files that can be loaded.
-ghost use Rattle.std.specs.Prelude.{◌≡◌, ℕ, []};
+ghost use Rattle.std.specs.Prelude.{◌≡◌, ℕ, List, [], ◌∷◌, ◌++◌};
 ghost use Rattle.std.specs.declared.option.Option.{Option};
 ghost use Rattle.meaning_outside.specs.Faults.{Told};
 ghost use Rattle.meaning_outside.specs.Files.{FileMap};
-ghost use Rattle.sparse_outside.specs.Load.{Loads};
+ghost use Rattle.meaning_outside.specs.Loads.{Loaded};
+ghost use Rattle.sparse_outside.specs.Load.{Loads, loaded};
 
 /// How a load ended.
 #[derive(Clone, Copy, Debug, PartialEq, Eq)]
@@ -25,6 +26,9 @@ pub trait Files {
     /// The files, where they are told.
     ghost holds: { Self → Option FileMap };
 
+    /// What each load gave, in order.
+    ghost loads: { Self → List Loaded };
+
     /// How many loads failed. It never falls, and stands still at the end of its type.
     ghost faults: { Self → ℕ };
 
@@ -32,6 +36,7 @@ pub trait Files {
     fn load(&mut self, path: &[u8], max: usize, into: &mut Vec<u8>) -> Load
         requires { into.old.items ≡ [] }
         ensures answer { Loads (holds self.old) path.now max result into.new.items }
+        ensures trace { loads self.new ≡ loads self.old ++ loaded path.now max result into.new.items ∷ [] }
         ensures keeps { holds self.new ≡ holds self.old }
         ensures cause { Told (faults self.old) (faults self.new) (result ≡ Load.Failed) };
 }

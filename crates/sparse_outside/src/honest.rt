@@ -1,9 +1,10 @@
 // Files over memory that never fail.
-ghost use Rattle.std.specs.Prelude.{◌≡◌, Some, OnOk, OnErr};
+ghost use Rattle.std.specs.Prelude.{◌≡◌, [], Some, OnOk, OnErr};
 ghost use Rattle.std.specs.FinMap as map;
 
 use crate::files::{Files, Load};
 use crate::log::Log;
+use crate::trace::{EndedLoad, LoadTrace};
 use std::alloc::{AllocError, Global};
 use std::marker::Model;
 
@@ -11,32 +12,34 @@ use std::marker::Model;
 #[derive(Drop)]
 pub struct HonestFiles {
     log: Log,
+    trace: LoadTrace,
 }
 
 impl Model for HonestFiles {
-    ghost use Rattle.meaning_outside.specs.Files.{FileMap};
-    ghost use Rattle.sparse_outside.specs.Log.{file_map_code};
+    ghost use Rattle.sparse_outside.specs.HonestFiles.{HonestState, honest_state_code};
 
-    ghost Value = { FileMap };
+    ghost Value = { HonestState };
 
-    ghost coded = { file_map_code };
+    ghost coded = { honest_state_code };
 
-    ghost view = { λ files. files.log };
+    ghost view = { λ files. record { files = files.log; trace = files.trace.loads } };
 }
 
 impl HonestFiles {
     /// No files.
     pub fn new(alloc: Global) -> Self
-        ensures { result ≡ map.empty }
+        ensures { result ≡ record { files = map.empty; trace = [] } }
     {
         HonestFiles {
             log: Log::new(alloc),
+            trace: LoadTrace::new(),
         }
     }
 
     /// Adds a file, or gives the one with this path new bytes.
     pub fn add(&mut self, path: &[u8], bytes: &[u8]) -> Result<(), AllocError>
-        ensures ok { OnOk result (self.new ≡ map.insert self.old path.now bytes.now) }
+        ensures ok { OnOk result
+            (self.new ≡ record self.old { files = map.insert self.old.files path.now bytes.now }) }
         ensures err { OnErr result (self.new ≡ self.old) }
     {
         self.log.add(path, bytes)
@@ -44,11 +47,20 @@ impl HonestFiles {
 }
 
 impl Files for HonestFiles {
-    ghost holds = { λ files. Some files };
+    ghost holds = { λ files. Some files.files };
+
+    ghost loads = { λ files. files.trace };
 
     ghost faults = { λ _. 0 };
 
     fn load(&mut self, path: &[u8], max: usize, into: &mut Vec<u8>) -> Load {
-        self.log.load(path, max, into)
+        let answer = self.log.load(path, max, into);
+        self.trace = self.trace.then(&EndedLoad {
+            path,
+            max,
+            answer,
+            into: into.as_slice(),
+        });
+        answer
     }
 }

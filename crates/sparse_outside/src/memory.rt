@@ -4,10 +4,11 @@ ghost use Rattle.std.specs.List.{Contains};
 ghost use Rattle.std.specs.FinMap as map;
 ghost use Rattle.meaning_outside.specs.Faults.{Told};
 ghost use Rattle.meaning_outside.specs.Files.{file_at};
-ghost use Rattle.sparse_outside.specs.Load.{LoadGives};
+ghost use Rattle.sparse_outside.specs.Load.{LoadGives, loaded};
 
 use crate::files::{Files, Load};
 use crate::log::Log;
+use crate::trace::{EndedLoad, LoadTrace};
 use std::alloc::{AllocError, Global};
 use std::marker::Model;
 
@@ -18,6 +19,7 @@ pub struct MemoryFiles {
     failing: Vec<u32>,
     loads: u64,
     faults: u64,
+    trace: LoadTrace,
 }
 
 impl Model for MemoryFiles {
@@ -33,6 +35,7 @@ impl Model for MemoryFiles {
       failing = files.failing.items;
       loads = files.loads;
       faults = files.faults;
+      trace = files.trace.loads;
     } };
 
     ghost invariant = { λ files. files.faults ≤ files.loads };
@@ -41,13 +44,14 @@ impl Model for MemoryFiles {
 impl MemoryFiles {
     /// No files, and no load that fails.
     pub fn new(alloc: Global) -> Self
-        ensures { result ≡ record { files = map.empty; failing = []; loads = 0; faults = 0 } }
+        ensures { result ≡ record { files = map.empty; failing = []; loads = 0; faults = 0; trace = [] } }
     {
         MemoryFiles {
             log: Log::new(alloc),
             failing: Vec::new(alloc),
             loads: 0,
             faults: 0,
+            trace: LoadTrace::new(),
         }
     }
 
@@ -84,11 +88,14 @@ fn fails(failing: &[u32], earlier: u64) -> bool
 impl Files for MemoryFiles {
     ghost holds = { λ files. Some files.files };
 
+    ghost loads = { λ files. files.trace };
+
     ghost faults = { λ files. files.faults };
 
     fn load(&mut self, path: &[u8], max: usize, into: &mut Vec<u8>) -> Load
         requires { into.old.items ≡ [] }
         ensures answer { LoadGives (file_at self.old.files path.now) max result into.new.items }
+        ensures trace { self.new.trace ≡ self.old.trace ++ loaded path.now max result into.new.items ∷ [] }
         ensures keeps { self.new.files ≡ self.old.files }
         ensures cause { Told self.old.faults self.new.faults (result ≡ Load.Failed) }
         ensures once { self.new.faults ≤ self.old.faults + 1 }
@@ -101,10 +108,18 @@ impl Files for MemoryFiles {
         let fails = fails(&self.failing, self.loads);
         // It may stand still at its end, since no number that can be told is so large.
         self.loads = self.loads.saturating_add(1);
-        if fails {
+        let answer = if fails {
             self.faults += 1;
-            return Load::Failed;
-        }
-        self.log.load(path, max, into)
+            Load::Failed
+        } else {
+            self.log.load(path, max, into)
+        };
+        self.trace = self.trace.then(&EndedLoad {
+            path,
+            max,
+            answer,
+            into: into.as_slice(),
+        });
+        answer
     }
 }

@@ -1,7 +1,7 @@
 // A sink over memory, with room for so many bytes.
-ghost use Rattle.std.specs.Prelude.{◌≡◌, ◌<◌, ◌≤◌, ◌+◌, [], length, Some, IfOk, min};
+ghost use Rattle.std.specs.Prelude.{◌≡◌, ◌<◌, ◌≤◌, ◌+◌, ◌++◌, [], length, Some, IfOk, min};
 ghost use Rattle.meaning_outside.specs.Faults.{Told};
-ghost use Rattle.sparse_outside.specs.Put.{Puts};
+ghost use Rattle.sparse_outside.specs.Put.{Puts, taken_of};
 
 use crate::sink::{Put, Sink};
 use std::alloc::{AllocError, Global};
@@ -54,16 +54,19 @@ impl MemorySink {
 impl Sink for MemorySink {
     ghost written = { λ sink. Some sink.written };
 
+    ghost taken = { λ sink. sink.written };
+
     ghost faults = { λ sink. sink.faults };
 
     fn put(&mut self, piece: &[u8]) -> Put
         requires { 0 < length piece.now }
         ensures bytes { Puts (Some self.old.written) (Some self.new.written) piece.now result }
+        ensures takes { self.new.written ≡ self.old.written ++ taken_of piece.now result }
         ensures cause { Told self.old.faults self.new.faults (result ≡ Put.Failed) }
         ensures once { self.new.faults ≤ self.old.faults + 1 }
 
         // A put takes what fits, and fails only where nothing does.
-        ensures takes { 0 < self.old.room → result ≡ Put.Took (min (length piece.now) self.old.room) }
+        ensures fits { 0 < self.old.room → result ≡ Put.Took (min (length piece.now) self.old.room) }
         ensures full { self.old.room ≡ 0 → result ≡ Put.Failed }
         ensures room { self.new.room + length self.new.written ≡ self.old.room + length self.old.written }
     {

@@ -1,6 +1,7 @@
 -- A right reply that ends clean is to words that name a safe file.
 use Rattle.std.proofs.Common.{◌≡◌, ℕ, List, [], ◌∷◌, Option, Some, None, IsSomeAnd, sym, ◌∙◌, ap, subst, refl, inl, inr}
 use Rattle.meaning_outside.specs.Files.{FileMap, file_at}
+use Rattle.meaning_outside.specs.Loads.{Loaded, AgreesWith}
 use Rattle.meaning_text.specs.Logical.{logical_text}
 use Rattle.meaning_text.specs.Tokens.{Tok, AtLineStart, LexesFile}
 use Rattle.meaning_text.specs.Terminals.{terminals_of}
@@ -12,8 +13,7 @@ use Rattle.meaning_rules.specs.Failures.{Failure, IsListing}
 use Rattle.meaning_rules.specs.Text.{main_file}
 use Rattle.meaning_answer.specs.Reply.{Reply, Clean}
 use Rattle.meaning_answer.specs.Command.{Request, BadWord, MissingFile, Check, request_of}
-use Rattle.meaning_answer.specs.Answer.{warned, IsChecked, IsTextReply, IsFileReply, IsRequestReply}
-use Rattle.meaning_answer.specs.Delivery.{IsRight}
+use Rattle.meaning_answer.specs.Answer.{warned, IsChecked, IsTextReply, IsFileReply, IsRequestReply, IsAnswer}
 use Rattle.meaning_machine.specs.Laws.{SilenceIsSafe}
 use Rattle.ksparse.specs.Safe.{IsSafeText, NamesSafeFile, IsSafeIfClean}
 
@@ -61,6 +61,6 @@ module _ (law : SilenceIsSafe) where
   request_safe MissingFile files reply answer is = let ending = ap (λ (r : Reply). r.ending) answer in cc
   request_safe (Check path) files reply answer is = file_safe path (file_at files path) reply answer is
 
-  pub clean_is_safe : (words : List (List ℕ)) (told : Option FileMap) (reply : Reply) → IsRight words told reply → IsSafeIfClean words told reply.ending
-  clean_is_safe words None reply right = λ is. tt
-  clean_is_safe words (Some files) reply right = λ is. request_safe (request_of words) files reply right.exact is
+  pub clean_is_safe : (words : List (List ℕ)) (loads : List Loaded) (reply : Reply) → ((files : FileMap) → AgreesWith files loads → IsAnswer words files reply)
+      → IsSafeIfClean words loads reply.ending
+  clean_is_safe words loads reply right = λ is files agrees. request_safe (request_of words) files reply (right files agrees) is

@@ -1,9 +1,13 @@
--- A right reply that was written whole is the command's outcome.
-use Rattle.std.proofs.Common.{◌≡◌, ℕ, List, Option, subst, refl}
+-- A reply that is the answer over each map that agrees with the loads, of which there is one, and that was taken
+-- whole.
+use Rattle.std.proofs.Common.{◌≡◌, ℕ, List, subst, refl}
 use Rattle.meaning_outside.specs.Files.{FileMap}
+use Rattle.meaning_outside.specs.Loads.{Loaded, AgreesWith}
 use Rattle.meaning_answer.specs.Reply.{Ending, Clean, Warned, Refused, Usage, ReadFault, WriteFault, NoMemory, Limit, Reply, HasShape, IsShaped}
-use Rattle.meaning_answer.specs.Delivery.{IsRight, Sinks, Delivers, Outcome, Completes}
-use Rattle.meaning_answer.proofs.Delivered.{Outcome-Completes}
+use Rattle.meaning_answer.specs.Answer.{IsAnswer}
+use Rattle.meaning_answer.specs.Delivery.{Sinks, Delivers, Outcome, IsOutcome, Completes}
+use Rattle.meaning_answer.proofs.Delivered.{IsOutcome-Completes}
+use Rattle.meaning_answer.proofs.Shapes.{answers_are_shaped}
 
 module _ (Right : Reply → Type 0) (reply : Reply) (right : Right reply) (sinks : Sinks) (delivers : Delivers reply sinks) where
   delivered_as : (ending : Ending) → reply.ending ≡ ending → HasShape ending reply.out reply.err → Outcome Right ending sinks
@@ -16,21 +20,24 @@ module _ (Right : Reply → Type 0) (reply : Reply) (right : Right reply) (sinks
   delivered_as WriteFault is shape = absurd shape
   delivered_as NoMemory is shape = absurd shape
 
-  pub delivered : IsShaped reply → Outcome Right reply.ending sinks
+  delivered : IsShaped reply → Outcome Right reply.ending sinks
   delivered shaped = delivered_as reply.ending refl shaped
 
--- no reply ends with a fault
-no_read_fault : (ending : Ending) (out err : List ℕ) → HasShape ending out err → ending ≡ ReadFault → ⊥
-no_read_fault ending out err shape is = subst (λ (e : Ending). HasShape e out err) is shape
+module _ (words : List (List ℕ)) (loads : List Loaded) (found : (files : FileMap) × AgreesWith files loads) (reply : Reply) (right : (files : FileMap) → AgreesWith files loads → IsAnswer words files reply) where
+  shaped : IsShaped reply
+  shaped = answers_are_shaped words found.0 reply (right found.0 found.1)
 
-no_write_fault : (ending : Ending) (out err : List ℕ) → HasShape ending out err → ending ≡ WriteFault → ⊥
-no_write_fault ending out err shape is = subst (λ (e : Ending). HasShape e out err) is shape
+  -- no reply ends with a fault
+  pub no_read_fault : reply.ending ≡ ReadFault → ⊥
+  no_read_fault is = subst (λ (e : Ending). HasShape e reply.out reply.err) is shaped
 
--- so what was delivered completes the command, whatever counts rose
-pub delivered_completes :
-    (words : List (List ℕ)) (told : Option FileMap) (rose : Type 0) (reply : Reply) (sinks : Sinks) → IsRight words told reply → Delivers reply sinks
-    → Completes words told rose reply.ending sinks
-delivered_completes words told rose reply sinks right delivers =
-    Outcome-Completes words told rose reply.ending sinks (delivered (IsRight words told) reply right sinks delivers right.shape)
-    (λ is. absurd (no_read_fault reply.ending reply.out reply.err right.shape is))
-    (λ is. absurd (no_write_fault reply.ending reply.out reply.err right.shape is))
+  pub no_write_fault : reply.ending ≡ WriteFault → ⊥
+  no_write_fault is = subst (λ (e : Ending). HasShape e reply.out reply.err) is shaped
+
+  module _ (sinks : Sinks) (delivers : Delivers reply sinks) where
+    pub delivered_outcome : IsOutcome words loads reply.ending sinks
+    delivered_outcome files agrees = delivered (IsAnswer words files) reply (right files agrees) sinks delivers shaped
+
+    pub delivered_completes : (rose : Type 0) → Completes words loads rose reply.ending sinks
+    delivered_completes rose =
+        IsOutcome-Completes words loads rose reply.ending sinks delivered_outcome (λ is. absurd (no_read_fault is)) (λ is. absurd (no_write_fault is))

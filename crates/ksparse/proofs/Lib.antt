@@ -1,8 +1,8 @@
 pub mod CleanIsSafe
 pub mod Counts
 pub mod Endings
-pub mod KnownBytes
-pub mod RightReplies
+pub mod Loads
 pub mod SecondWord
+pub mod Taken
 pub mod TextReplies
 pub mod TokenLemmas

@@ -10,6 +10,9 @@ use Rattle.meaning_syntax.specs.Reading.{read_items}
 use Rattle.meaning_syntax.proofs.UnitReading.{IsSpelled-read_items}
 use Rattle.first_form.specs.Seen.{spellings_of}
 
+pub length-toks_of : (names : List (List ℕ)) (tokens : List Token) → length (toks_of names tokens) ≡ length tokens
+length-toks_of names tokens = length-map tokens (tok_of names)
+
 -- they have as many tokens as there are
 pub length-item_spelled :
     (names : List (List ℕ)) (tokens : List Token) (items : List Item) → read_items (spellings_of names tokens) ≡ Some items →
@@ -17,7 +20,7 @@ pub length-item_spelled :
 length-item_spelled names tokens items read =
     sym (ap length (IsSpelled-read_items (spellings_of names tokens) items read).spelled)
     ∙ length-map (toks_of names tokens) terminal_of
-    ∙ length-map tokens (tok_of names)
+    ∙ length-toks_of names tokens
 
 -- and fit
 pub item_fits-read :

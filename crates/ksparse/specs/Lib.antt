@@ -1,4 +1,8 @@
 pub mod Ending
+pub mod Loading
+pub mod Opening
+pub mod Refusal
+pub mod Unchecked
 pub mod Words
 pub mod Safe
 pub mod Sinks
@@ -10,3 +14,4 @@ pub use Rattle.meaning_answer.specs.Delivery
 pub use Rattle.meaning_machine.specs.Runs
 pub use Rattle.meaning_outside.specs.Faults
 pub use Rattle.meaning_outside.specs.Files
+pub use Rattle.meaning_outside.specs.Loads

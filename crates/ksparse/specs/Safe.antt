@@ -1,6 +1,7 @@
 -- What silence means: no run of the file that the words name meets a fault.
-use Rattle.std.specs.Prelude.{◌≡◌, ℕ, List, Option, IfSome, IsSomeAnd}
+use Rattle.std.specs.Prelude.{◌≡◌, ℕ, List, IsSomeAnd}
 use Rattle.meaning_outside.specs.Files.{FileMap, file_at}
+use Rattle.meaning_outside.specs.Loads.{Loaded, AgreesWith}
 use Rattle.meaning_text.specs.Tokens.{Tok, LexesFile}
 use Rattle.meaning_text.specs.Terminals.{terminals_of}
 use Rattle.meaning_tree.specs.Trees.{SyntaxTree}
@@ -22,6 +23,6 @@ NamesSafeFile (BadWord position word) files = ⊥
 NamesSafeFile MissingFile files = ⊥
 NamesSafeFile (Check path) files = IsSomeAnd (file_at files path) IsSafeText
 
--- where the files tell their map, a clean ending says that the words name a safe file
-abbrev pub IsSafeIfClean : List (List ℕ) → Option FileMap → Ending → Type 0
-IsSafeIfClean words told ending = ending ≡ Clean → IfSome told (λ files. NamesSafeFile (request_of words) files)
+-- A clean ending says that the words name a safe file, in each map that agrees with the loads.
+abbrev pub IsSafeIfClean : List (List ℕ) → List Loaded → Ending → Type 0
+IsSafeIfClean words loads ending = ending ≡ Clean → (files : FileMap) → AgreesWith files loads → NamesSafeFile (request_of words) files

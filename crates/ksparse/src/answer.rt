@@ -1,17 +1,18 @@
+// The words of a command, and the file that they name, to the reply.
 ghost use Rattle.std.specs.Prelude.{◌≡◌, ◌<◌, IfErr, IfOk, IfSome, IsErrOf, length, slice_get};
 ghost use Rattle.meaning_outside.specs.Faults.{Told};
-ghost use Rattle.meaning_answer.specs.Answer.{bad_word_text, file_size_text, missing_file_text, no_such_file_text};
-ghost use Rattle.meaning_answer.specs.Command.{request_of};
-ghost use Rattle.meaning_answer.specs.Delivery.{IsRight};
-ghost use Rattle.meaning_answer.specs.Reply.{Limit, Refused, Usage, line};
+ghost use Rattle.meaning_outside.specs.Files.{FileMap, file_at};
+ghost use Rattle.meaning_outside.specs.Loads.{AgreesWith, loads_since};
+ghost use Rattle.meaning_answer.specs.Answer.{IsAnswer, IsFileReply};
+ghost use Rattle.ksparse.specs.Loading.{Loading};
 ghost use Rattle.ksparse.specs.Words.{IsFaultOf};
-ghost use Rattle.ksparse.specs.Written.{IsRightOfFile, IsUsageReply, reply_of};
+ghost use Rattle.ksparse.specs.Written.{reply_of};
 
+use crate::check::check_text;
 use crate::command::{Command, WordFault, read_words};
-use crate::exit::Exit;
+use crate::refusal::Refusal;
 use crate::reply::Written;
-use crate::report::report;
-use sparse_outside::{Files, Load, Words};
+use sparse_outside::{Files, Load, Words, load_leaves_buffer, told_map_agrees};
 use std::alloc::{AllocError, Global};
 
 /// The most bytes that a file may have.
@@ -35,10 +36,12 @@ impl From<AllocError> for Stop {
     }
 }
 
-/// The reply to the words of a command.
+/// The reply to the words of a command, over each map that agrees with what it loads.
 pub fn answer<F: Files>(alloc: Global, words: &Words, files: &mut F) -> Result<Written, Stop>
-    ensures right { IfOk result
-        (λ written. IsRight words.now (F.holds files.old) (reply_of written)) }
+    ensures right { IfOk result (λ written. (map : FileMap)
+        → AgreesWith map (loads_since (F.loads files.old) (F.loads files.new))
+        → IsAnswer words.now map (reply_of written)) }
+    ensures loading { Loading (F.holds files.old) (F.loads files.old) (F.loads files.new) }
     ensures cause { Told (F.faults files.old) (F.faults files.new) (IsErrOf result Stop.ReadFault) }
     ensures keeps { F.holds files.new ≡ F.holds files.old }
 {
@@ -56,61 +59,35 @@ pub fn answer<F: Files>(alloc: Global, words: &Words, files: &mut F) -> Result<W
 // The reply to words that are at fault.
 fn usage(alloc: Global, words: &Words, fault: WordFault) -> Result<Written, Stop>
     requires { IsFaultOf words.now fault }
-    ensures usage { IfOk result (λ written. IsUsageReply (request_of words.now) (reply_of written)) }
+    ensures right { IfOk result (λ written. (map : FileMap) → IsAnswer words.now map (reply_of written)) }
     ensures memory { IfErr result (λ stop. stop ≡ Stop.NoMemory) }
 {
     match fault {
-        WordFault::BadWord(position) => Ok(bad_word(alloc, words, position)?),
-        WordFault::MissingFile => Ok(missing_file(alloc)?),
+        WordFault::BadWord(position) => {
+            let word = words.get(position).unwrap();
+            Ok(Refusal::UnknownWord.reply(alloc, word)?)
+        }
+        WordFault::MissingFile => Ok(Refusal::MissingOperand.reply(alloc, b"")?),
         WordFault::Memory => Err(Stop::NoMemory),
     }
 }
 
-// The line for the word at this position.
-fn bad_word(alloc: Global, words: &Words, position: usize) -> Result<Written, AllocError>
-    requires { position < length words.now }
-    ensures { IfOk result (λ written. IfSome (slice_get words.now position)
-        (λ word. reply_of written ≡ line Usage (bad_word_text word))) }
-{
-    let word = words.get(position).unwrap();
-    Written::line(alloc, Exit::Usage, b"ksparse: bad word: ", word)
-}
-
-fn missing_file(alloc: Global) -> Result<Written, AllocError>
-    ensures { IfOk result (λ written. reply_of written ≡ line Usage missing_file_text) }
-{
-    Written::line(alloc, Exit::Usage, b"ksparse: ", b"missing file")
-}
-
-fn no_such_file(alloc: Global, path: &[u8]) -> Result<Written, AllocError>
-    ensures { IfOk result (λ written. reply_of written ≡ line Refused (no_such_file_text path.now)) }
-{
-    Written::line(
-        alloc,
-        Exit::Refused,
-        b"ksparse: error[1]: no such file: ",
-        path,
-    )
-}
-
-fn too_long(alloc: Global) -> Result<Written, AllocError>
-    ensures { IfOk result (λ written. reply_of written ≡ line Limit file_size_text) }
-{
-    Written::line(alloc, Exit::Limit, b"ksparse: limit: ", b"file size")
-}
-
 // The reply to the check of a file.
 fn check_file<F: Files>(alloc: Global, path: &[u8], files: &mut F) -> Result<Written, Stop>
-    ensures right { IfOk result
-        (λ written. IsRightOfFile path.now (F.holds files.old) (reply_of written)) }
+    ensures right { IfOk result (λ written. (map : FileMap)
+        → AgreesWith map (loads_since (F.loads files.old) (F.loads files.new))
+        → IsFileReply path.now (file_at map path.now) (reply_of written)) }
+    ensures loading { Loading (F.holds files.old) (F.loads files.old) (F.loads files.new) }
     ensures cause { Told (F.faults files.old) (F.faults files.new) (IsErrOf result Stop.ReadFault) }
     ensures keeps { F.holds files.new ≡ F.holds files.old }
 {
+    told_map_agrees();
+    load_leaves_buffer();
     let mut text = Vec::new(alloc);
     match files.load(path, MOST_BYTES, &mut text) {
-        Load::Whole => Ok(report(alloc, path, text.as_slice())?),
-        Load::Missing => Ok(no_such_file(alloc, path)?),
-        Load::TooLong => Ok(too_long(alloc)?),
+        Load::Whole => Ok(check_text(alloc, path, &text)?),
+        Load::Missing => Ok(Refusal::NoSuchFile.reply(alloc, path)?),
+        Load::TooLong => Ok(Refusal::LargeFile.reply(alloc, path)?),
         Load::Failed => Err(Stop::ReadFault),
         Load::NoMemory => Err(Stop::NoMemory),
     }

@@ -1,34 +1,35 @@
-ghost use Rattle.std.specs.Prelude.{◌≡◌, true, false};
-ghost use Rattle.std.specs.Io.KnownBytes.{Appends};
+ghost use Rattle.std.specs.Prelude.{◌≡◌, ◌++◌, true, false};
 ghost use Rattle.meaning_outside.specs.Faults.{Told, ToldOfTwo};
 ghost use Rattle.meaning_answer.specs.Delivery.{BreaksOff, Delivers};
-ghost use Rattle.ksparse.specs.Sinks.{AppendsFront, GoesOutFirst};
+ghost use Rattle.ksparse.specs.Sinks.{GoesOutFirst, TakesFront, TellsWhatItTook};
 ghost use Rattle.ksparse.specs.Written.{reply_of};
 
 use crate::reply::Written;
 use sparse_outside::{Put, Sink};
 
-/// Writes the texts of a reply, that for `out` first, and says whether all of them went in. Where they
-/// didn't, a front did.
+/// Writes the texts of a reply, that for `out` first, and says whether all of them were taken. Where they
+/// weren't, a front was.
 pub fn deliver<O: Sink, E: Sink>(written: &Written, out: &mut O, err: &mut E) -> bool
     ensures whole { result ≡ true → Delivers (reply_of written.now) (record {
-      old_out = O.written out.old;
-      new_out = O.written out.new;
-      old_err = E.written err.old;
-      new_err = E.written err.new;
+      old_out = O.taken out.old;
+      new_out = O.taken out.new;
+      old_err = E.taken err.old;
+      new_err = E.taken err.new;
     }) }
     ensures broken { result ≡ false → BreaksOff (reply_of written.now) (record {
-      old_out = O.written out.old;
-      new_out = O.written out.new;
-      old_err = E.written err.old;
-      new_err = E.written err.new;
+      old_out = O.taken out.old;
+      new_out = O.taken out.new;
+      old_err = E.taken err.old;
+      new_err = E.taken err.new;
     }) }
     ensures order { GoesOutFirst (reply_of written.now) (record {
-      old_out = O.written out.old;
-      new_out = O.written out.new;
-      old_err = E.written err.old;
-      new_err = E.written err.new;
+      old_out = O.taken out.old;
+      new_out = O.taken out.new;
+      old_err = E.taken err.old;
+      new_err = E.taken err.new;
     }) }
+    ensures told_out { TellsWhatItTook (O.written out.old) (O.written out.new) (O.taken out.old) (O.taken out.new) }
+    ensures told_err { TellsWhatItTook (E.written err.old) (E.written err.new) (E.taken err.old) (E.taken err.new) }
     ensures cause { ToldOfTwo (O.faults out.old) (O.faults out.new) (E.faults err.old) (E.faults err.new) (result ≡ false) }
 {
     if write_all(out, written.out.as_slice()) {
@@ -38,10 +39,11 @@ pub fn deliver<O: Sink, E: Sink>(written: &Written, out: &mut O, err: &mut E) ->
     }
 }
 
-// Writes a text, and says whether all of it went in. Where it didn't, a front of it did.
+// Writes a text, and says whether all of it was taken. Where it wasn't, a front of it was.
 fn write_all<S: Sink>(sink: &mut S, text: &[u8]) -> bool
-    ensures whole { result ≡ true → Appends (S.written sink.old) (S.written sink.new) text.now }
-    ensures front { AppendsFront (S.written sink.old) (S.written sink.new) text.now }
+    ensures whole { result ≡ true → S.taken sink.new ≡ S.taken sink.old ++ text.now }
+    ensures front { TakesFront (S.taken sink.old) (S.taken sink.new) text.now }
+    ensures told { TellsWhatItTook (S.written sink.old) (S.written sink.new) (S.taken sink.old) (S.taken sink.new) }
     ensures cause { Told (S.faults sink.old) (S.faults sink.new) (result ≡ false) }
 {
     let mut done = 0;

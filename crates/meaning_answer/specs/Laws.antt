@@ -54,14 +54,14 @@ EndingsTellWhatIsWritten =
 
 -- What files and sinks tell of themselves
 
--- what a sink tells grew by what it took
-pub record GrowAlike (told taken : Sinks) : Type 0 where
-  pub out : (text : List ℕ) → taken.new_out ≡ taken.old_out ++ text → told.new_out ≡ told.old_out ++ text
-  pub err : (text : List ℕ) → taken.new_err ≡ taken.old_err ++ text → told.new_err ≡ told.old_err ++ text
+-- what is told grew by the bytes that were taken
+abbrev pub GrewAlike : (old new old_taken new_taken : List ℕ) → Type 0
+GrewAlike old new old_taken new_taken = (text : List ℕ) × (new ≡ old ++ text) × (new_taken ≡ old_taken ++ text)
 
 -- Where the files tell a map, which agrees with the loads, and the sinks tell what they hold, which grew by what
 -- they took, the outcome is said of what they tell.
 abbrev pub OutcomesAreTold : Type 0
 OutcomesAreTold =
     (words : List (List ℕ)) (files : FileMap) (loads : List Loaded) (ending : Ending) (told taken : Sinks) → AgreesWith files loads
-    → GrowAlike told taken → IsOutcome words loads ending taken → Outcome (IsAnswer words files) ending told
+    → GrewAlike told.old_out told.new_out taken.old_out taken.new_out → GrewAlike told.old_err told.new_err taken.old_err taken.new_err
+    → IsOutcome words loads ending taken → Outcome (IsAnswer words files) ending told

@@ -1,12 +1,13 @@
-use Rattle.std.proofs.Common.{◌≡◌, ◌≤◌, ◌-◌, length, take}
-use Rattle.std.specs.Io.KnownBytes.{Appends}
+use Rattle.std.proofs.Common.{◌≡◌, ◌≤◌, ◌-◌, ◌++◌, length, take}
+use Rattle.ksparse.specs.Sinks.{TellsWhatItTook}
 use Rattle.ksparse.proofs.write.write_all.Given as goal
 
 abbrev pub invariant-loop-done : goal.invariant-loop-done
 invariant-loop-done g l =
     record {
       within : l.done ≤ length l.text;
-      bytes : Appends (g.S.Sink.written l.fn.sink) (g.S.Sink.written l.sink) (take l.done l.text);
+      taken : g.S.Sink.taken l.sink ≡ g.S.Sink.taken l.fn.sink ++ take l.done l.text;
+      told : TellsWhatItTook (g.S.Sink.written l.fn.sink) (g.S.Sink.written l.sink) (g.S.Sink.taken l.fn.sink) (g.S.Sink.taken l.sink);
       count : g.S.Sink.faults l.sink ≡ g.S.Sink.faults l.fn.sink;
     }
 

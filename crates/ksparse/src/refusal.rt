@@ -42,12 +42,32 @@ impl Refusal {
             (λ written. reply_of written ≡ refusal_reply subject.now (refusal_of self)) }
     {
         match self {
-            Refusal::UnknownWord => Written::line(alloc, Exit::Usage, b"ksparse: bad word: ", subject),
-            Refusal::MissingOperand => Written::line(alloc, Exit::Usage, b"ksparse: ", b"missing file"),
+            Refusal::UnknownWord => Written::line(
+                alloc,
+                Exit::Usage,
+                b"ksparse: bad word: ",
+                subject,
+            ),
+            Refusal::MissingOperand => Written::line(
+                alloc,
+                Exit::Usage,
+                b"ksparse: ",
+                b"missing file",
+            ),
             Refusal::NoSuchFile => {
-                Written::line(alloc, Exit::Refused, b"ksparse: error[1]: no such file: ", subject)
+                Written::line(
+                    alloc,
+                    Exit::Refused,
+                    b"ksparse: error[1]: no such file: ",
+                    subject,
+                )
             }
-            Refusal::LargeFile => Written::line(alloc, Exit::Limit, b"ksparse: limit: ", b"file size"),
+            Refusal::LargeFile => Written::line(
+                alloc,
+                Exit::Limit,
+                b"ksparse: limit: ",
+                b"file size",
+            ),
             Refusal::OpenComment(place) => {
                 line_at(alloc, subject, place, b" error[3]: unterminated comment")
             }
@@ -55,7 +75,12 @@ impl Refusal {
                 line_at(alloc, subject, place, b" error[4]: unterminated literal")
             }
             Refusal::NotBuilt => {
-                Written::line(alloc, Exit::Refused, subject, b":1:1: error[29]: form not built")
+                Written::line(
+                    alloc,
+                    Exit::Refused,
+                    subject,
+                    b":1:1: error[29]: form not built",
+                )
             }
             Refusal::ManyTokens => {
                 Written::line(alloc, Exit::Limit, b"ksparse: limit: ", b"unit tokens")

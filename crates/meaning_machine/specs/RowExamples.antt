@@ -1,6 +1,8 @@
 -- Worked examples: the numbers of each kind, what fits, single loads and stores, and blocks that outlast others.
 use Rattle.std.specs.Prelude.{◌≡◌, ℕ, ◌-◌, ◌^◌, Bool, true, false, ℤ, pos, negsuc, List, [], ◌∷◌, Some, None, map, replicate, codes}
-use Rattle.meaning_types.specs.Types.{Kind, BoolKind, CharKind, SignedCharKind, UnsignedCharKind, ShortKind, UnsignedShortKind, IntKind, UnsignedIntKind, LongKind, UnsignedLongKind, LongLongKind, UnsignedLongLongKind, NumberedSpace, Flags, TypeTree}
+use Rattle.vocabulary.specs.declared.int_kind.IntKind.{IntKind}
+use Rattle.vocabulary.specs.declared.int_kind.IntKind.TheVariants.{Bool, Char, SChar, UChar, Short, UShort, Int, UInt, Long, ULong, LLong, ULLong}
+use Rattle.meaning_types.specs.Types.{NumberedSpace, Flags, TypeTree}
 use Rattle.meaning_syntax.specs.Items.{Object}
 use Rattle.meaning_syntax.specs.Trees.{unit_tree}
 use Rattle.meaning_rules.specs.Bindings.{pointer_to}
@@ -15,15 +17,15 @@ use Rattle.meaning_machine.specs.Examples.{plain_int, const_int, int_of, object_
 
 -- Ranges (C11 6.2.6.2): two's complement, with the widths of LP64
 
-abbrev pub signed_kinds : List Kind
-signed_kinds = CharKind ∷ SignedCharKind ∷ ShortKind ∷ IntKind ∷ LongKind ∷ LongLongKind ∷ []
+abbrev pub signed_kinds : List IntKind
+signed_kinds = Char ∷ SChar ∷ Short ∷ Int ∷ Long ∷ LLong ∷ []
 
 abbrev pub signed_widths : List ℕ
 signed_widths = 8 ∷ 8 ∷ 16 ∷ 32 ∷ 64 ∷ 64 ∷ []
 
-abbrev pub unsigned_kinds : List Kind
+abbrev pub unsigned_kinds : List IntKind
 unsigned_kinds =
-    BoolKind ∷ UnsignedCharKind ∷ UnsignedShortKind ∷ UnsignedIntKind ∷ UnsignedLongKind ∷ UnsignedLongLongKind ∷ []
+    Bool ∷ UChar ∷ UShort ∷ UInt ∷ ULong ∷ ULLong ∷ []
 
 abbrev pub unsigned_widths : List ℕ
 unsigned_widths = 1 ∷ 8 ∷ 16 ∷ 32 ∷ 64 ∷ 64 ∷ []
@@ -102,9 +104,9 @@ pub record RowExamples : Type 0 where
   pub one_adopted : adopt (int_of 1) (pointer_to plain_int) ≡ IsFault ShapeFault
   pub pointer_adopted_by_int : adopt (Pointer plain_int Null) plain_int ≡ IsFault ShapeFault
   -- an int takes plain ints alone
-  pub other_kind_adopted : adopt (Integer CharKind None false (pos 1)) plain_int ≡ IsFault ShapeFault
-  pub restricted_adopted : adopt (Integer IntKind (Some 0) false (pos 1)) plain_int ≡ IsFault ShapeFault
-  pub fouled_adopted : adopt (Integer IntKind None true (pos 1)) plain_int ≡ IsFault ShapeFault
+  pub other_kind_adopted : adopt (Integer Char None false (pos 1)) plain_int ≡ IsFault ShapeFault
+  pub restricted_adopted : adopt (Integer Int (Some 0) false (pos 1)) plain_int ≡ IsFault ShapeFault
+  pub fouled_adopted : adopt (Integer Int None true (pos 1)) plain_int ≡ IsFault ShapeFault
   -- targets that differ in flags alone, at any level, and targets that differ otherwise
   pub flags_lost : adopt (Pointer (int_with noderef_flags) Null) (pointer_to plain_int) ≡ IsFault SpaceFault
   pub deeper_flags_lost :
@@ -136,7 +138,7 @@ pub record CellExamples : Type 0 where
 
 -- an int with this number
 abbrev pub integer : ℤ → Value
-integer number = Integer IntKind None false number
+integer number = Integer Int None false number
 
 pub record FitExamples : Type 0 where
   pub least_fits : Fits [] (integer (negsuc 2147483647)) plain_int
@@ -159,9 +161,9 @@ pub record FitExamples : Type 0 where
   pub other_flags : Fits [] (Pointer (int_with noderef_flags) Null) (pointer_to plain_int) → ⊥
   pub other_block : Fits living (Pointer (pointer_to plain_int) (object_spot 0)) (pointer_to (pointer_to plain_int)) → ⊥
   -- an int is plain
-  pub other_kind : Fits [] (Integer CharKind None false (pos 0)) plain_int → ⊥
-  pub restricted : Fits [] (Integer IntKind (Some 0) false (pos 0)) plain_int → ⊥
-  pub fouled : Fits [] (Integer IntKind None true (pos 0)) plain_int → ⊥
+  pub other_kind : Fits [] (Integer Char None false (pos 0)) plain_int → ⊥
+  pub restricted : Fits [] (Integer Int (Some 0) false (pos 0)) plain_int → ⊥
+  pub fouled : Fits [] (Integer Int None true (pos 0)) plain_int → ⊥
   -- the outside writes into living cells alone
   pub written : IsWritable living (int_block plain_int true 3) [] (int_of 5)
   pub const_written : IsWritable constant (int_block const_int true 3) [] (int_of 5)

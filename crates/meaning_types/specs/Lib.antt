@@ -1,4 +1,6 @@
 pub mod Types
+pub mod Ranges
+pub mod Equality
 pub mod Spaces
 pub mod Spelling
 pub mod Examples

@@ -1,7 +1,9 @@
-ghost use Rattle.meaning_types.specs.Examples.{SpellingExamples, LevelExamples, MixedExamples, UnmixedExamples};
+ghost use Rattle.meaning_types.specs.Examples.{RangeExamples, SpellingExamples, LevelExamples, MixedExamples, UnmixedExamples};
 
-/// Single types are spelled, lose their qualifiers and flags, and mix spaces as one can tell by eye.
+/// Kinds have the ranges of their widths, and single types are spelled, lose their qualifiers and
+/// flags, and mix spaces as one can tell by eye.
 pub fn worked_examples()
+    ensures ranges { RangeExamples }
     ensures spellings { SpellingExamples }
     ensures levels { LevelExamples }
     ensures mixed { MixedExamples }

@@ -5,7 +5,8 @@ use Rattle.std.specs.Str.{bytes_eq}
 use Rattle.meaning_types.specs.Types.{Kind, TypeTree, Typed, BaseTree, IntegerTree, PointerTree, flags_of, has_flag}
 use Rattle.meaning_machine.specs.Values.{Spot, Null, Foreign, In, Value, Integer, Pointer, Place, Made, ForObject, ForFunction, Cell, Block}
 use Rattle.meaning_machine.specs.Outcomes.{NullPointer, DeadBlock, ForeignPointer, OutOfBounds, IndeterminateValue, ReadOnly, AccessFault, SpaceFault, ShapeFault, Answer, Gives, IsFault, IsUndefined}
-use Rattle.meaning_machine.specs.Tests.{are_equal_kinds, are_similar, differ_in_flags_alone}
+use Rattle.meaning_types.specs.Equality.{are_equal_kinds, are_similar}
+use Rattle.meaning_machine.specs.Tests.{differ_in_flags_alone}
 
 -- The one conversion: what a value becomes when it is stored to a place of this type (6.5.16.1, 6.3.2.3)
 

@@ -1,40 +1,18 @@
 -- Worked examples: the numbers of each kind, what fits, single loads and stores, and blocks that outlast others.
 use Rattle.std.specs.Prelude.{◌≡◌, ℕ, ◌-◌, ◌^◌, Bool, true, false, ℤ, pos, negsuc, List, [], ◌∷◌, Some, None, map, replicate, codes}
-use Rattle.vocabulary.specs.declared.int_kind.IntKind.{IntKind}
-use Rattle.vocabulary.specs.declared.int_kind.IntKind.TheVariants.{Bool, Char, SChar, UChar, Short, UShort, Int, UInt, Long, ULong, LLong, ULLong}
+use Rattle.vocabulary.specs.declared.int_kind.IntKind.TheVariants.{Char, Int}
 use Rattle.meaning_types.specs.Types.{NumberedSpace, Flags, TypeTree}
 use Rattle.meaning_syntax.specs.Items.{Object}
 use Rattle.meaning_syntax.specs.Trees.{unit_tree}
 use Rattle.meaning_rules.specs.Bindings.{pointer_to}
 use Rattle.meaning_rules.specs.Typing.{int_with}
 use Rattle.meaning_rules.specs.Examples.{noderef_flags, function_of}
-use Rattle.meaning_machine.specs.Values.{Spot, Null, Foreign, In, Value, Integer, Pointer, ForObject, ForFunction, Cell, Block, least, greatest, Fits}
+use Rattle.meaning_machine.specs.Values.{Spot, Null, Foreign, In, Value, Integer, Pointer, ForObject, ForFunction, Cell, Block, Fits}
 use Rattle.meaning_machine.specs.Outcomes.{DeadBlock, ForeignPointer, OutOfBounds, ReadOnly, AccessFault, SpaceFault, ShapeFault, Gives, IsFault, IsUndefined}
 use Rattle.meaning_machine.specs.Memory.{adopt, content_at, with_content, block_with, load, store}
 use Rattle.meaning_machine.specs.Runs.{IsWritable, opening}
 use Rattle.meaning_machine.specs.Soundness.{Last}
 use Rattle.meaning_machine.specs.Examples.{plain_int, const_int, int_of, object_spot}
-
--- Ranges (C11 6.2.6.2): two's complement, with the widths of LP64
-
-abbrev pub signed_kinds : List IntKind
-signed_kinds = Char ∷ SChar ∷ Short ∷ Int ∷ Long ∷ LLong ∷ []
-
-abbrev pub signed_widths : List ℕ
-signed_widths = 8 ∷ 8 ∷ 16 ∷ 32 ∷ 64 ∷ 64 ∷ []
-
-abbrev pub unsigned_kinds : List IntKind
-unsigned_kinds =
-    Bool ∷ UChar ∷ UShort ∷ UInt ∷ ULong ∷ ULLong ∷ []
-
-abbrev pub unsigned_widths : List ℕ
-unsigned_widths = 1 ∷ 8 ∷ 16 ∷ 32 ∷ 64 ∷ 64 ∷ []
-
-pub record RangeExamples : Type 0 where
-  pub least_signed : map least signed_kinds ≡ map (λ width. negsuc (2 ^ (width - 1) - 1)) signed_widths
-  pub greatest_signed : map greatest signed_kinds ≡ map (λ width. pos (2 ^ (width - 1) - 1)) signed_widths
-  pub least_unsigned : map least unsigned_kinds ≡ replicate 6 (pos 0)
-  pub greatest_unsigned : map greatest unsigned_kinds ≡ map (λ width. pos (2 ^ width - 1)) unsigned_widths
 
 -- Storage of one int
 

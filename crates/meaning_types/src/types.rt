@@ -1,3 +1,4 @@
+ghost use Rattle.meaning_types.specs.Laws.{EqualKindsPass, EqualFlagsPass, SimilarTypesPass};
 ghost use Rattle.meaning_types.specs.Examples.{RangeExamples, SpellingExamples, LevelExamples, MixedExamples, UnmixedExamples};
 
 /// Kinds have the ranges of their widths, and single types are spelled, lose their qualifiers and
@@ -8,4 +9,11 @@ pub fn worked_examples()
     ensures levels { LevelExamples }
     ensures mixed { MixedExamples }
     ensures unmixed { UnmixedExamples }
+{}
+
+/// The tests of equality pass for equal kinds, flags and types, and for no others.
+pub fn equality_is_decided()
+    ensures kinds { EqualKindsPass }
+    ensures flags { EqualFlagsPass }
+    ensures similar { SimilarTypesPass }
 {}

@@ -1,5 +1,5 @@
 -- Values that carry their type, and when a value fits a type.
-use Rattle.std.specs.Prelude.{◌≡◌, ℕ, ◌≤◌, Bool, false, ℤ, pos, negsuc, ◌≤ℤ◌, List, [], Option, Some, None, slice_get}
+use Rattle.std.specs.Prelude.{◌≡◌, ℕ, ◌≤◌, Bool, false, ℤ, ◌≤ℤ◌, List, [], Option, Some, None, slice_get}
 use Rattle.vocabulary.specs.declared.int_kind.IntKind.{IntKind}
 use Rattle.meaning_types.specs.Types.{TypeTree, Typed, BaseTree, IntegerTree, PointerTree, bare}
 use Rattle.meaning_types.specs.Ranges.{least, greatest}

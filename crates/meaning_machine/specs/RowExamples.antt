@@ -1,4 +1,4 @@
--- Worked examples: the numbers of each kind, what fits, single loads and stores, and blocks that outlast others.
+-- Worked examples: what fits, single loads and stores, and blocks that outlast others.
 use Rattle.std.specs.Prelude.{◌≡◌, ℕ, Bool, true, false, ℤ, pos, negsuc, List, [], ◌∷◌, Some, None, codes}
 use Rattle.vocabulary.specs.declared.int_kind.IntKind.TheVariants.{Char, Int}
 use Rattle.meaning_types.specs.Types.{NumberedSpace, Flags, TypeTree}

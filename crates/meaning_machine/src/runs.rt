@@ -32,8 +32,7 @@ pub fn worked_runs()
     ensures rowless_fault { StatementWithoutRowIsFault }
 {}
 
-/// The numbers of each kind, what fits a type, what single loads, stores and steps give, and which blocks
-/// outlast others.
+/// What fits a type, what single loads, stores and steps give, and which blocks outlast others.
 pub fn worked_rows()
     ensures rows { RowExamples }
     ensures cells { CellExamples }

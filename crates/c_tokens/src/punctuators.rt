@@ -75,7 +75,7 @@ fn longest(first: u8, second: u8, third: u8, fourth: u8) -> Option<(TokenKind, u
     Some((kind, 1))
 }
 
-// Of four bytes there is a digraph alone.
+// Of four bytes, which is a digraph.
 fn of_four(first: u8, second: u8, third: u8, fourth: u8) -> Option<TokenKind>
     ensures { result ≡ punctuator_of (first ∷ second ∷ third ∷ fourth ∷ []) }
 {
@@ -86,6 +86,7 @@ fn of_four(first: u8, second: u8, third: u8, fourth: u8) -> Option<TokenKind>
     }
 }
 
+// Of three bytes.
 fn of_three(first: u8, second: u8, third: u8) -> Option<TokenKind>
     ensures { result ≡ punctuator_of (first ∷ second ∷ third ∷ []) }
 {
@@ -97,6 +98,7 @@ fn of_three(first: u8, second: u8, third: u8) -> Option<TokenKind>
     }
 }
 
+// Of two bytes, five digraphs among them.
 #[rattlefmt::skip]
 fn of_two(first: u8, second: u8) -> Option<TokenKind>
     ensures { result ≡ punctuator_of (first ∷ second ∷ []) }
@@ -126,6 +128,7 @@ fn of_two(first: u8, second: u8) -> Option<TokenKind>
     Some(kind)
 }
 
+// Of one byte.
 #[rattlefmt::skip]
 fn of_one(first: u8) -> Option<TokenKind>
     ensures { result ≡ punctuator_of (first ∷ []) }

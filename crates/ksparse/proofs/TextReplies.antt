@@ -8,7 +8,7 @@ use Rattle.meaning_syntax.specs.Binding.{are_bound}
 use Rattle.meaning_syntax.specs.Reading.{Texts, read_items, read_unit}
 use Rattle.meaning_rules.specs.Failures.{Failure}
 use Rattle.meaning_rules.specs.Judging.{failures_of}
-use Rattle.meaning_rules.specs.Text.{main_file}
+use Rattle.meaning_text.specs.Places.{main_file}
 use Rattle.meaning_answer.specs.Reply.{Reply}
 use Rattle.meaning_answer.specs.Refusal.{Opens, NotBuilt, ManyTokens, refusal_reply}
 use Rattle.meaning_answer.specs.Answer.{most_tokens, warned, IsTextReply}

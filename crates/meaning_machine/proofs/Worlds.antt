@@ -3,7 +3,9 @@ use Rattle.std.proofs.Common.{◌≡◌, ◌≢◌, ℕ, zero, suc, Bool, true, 
 use Rattle.std.specs.Str.{bytes_eq}
 use Rattle.std.proofs.lemmas.List.Elements.{All-append, All-cons, All-nil, All-get_or, All-set}
 use Rattle.std.proofs.lemmas.Option.{get_or_from_slice_get, slice_get_within}
-use Rattle.meaning_types.specs.Types.{Kind, BoolKind, CharKind, SignedCharKind, UnsignedCharKind, ShortKind, UnsignedShortKind, IntKind, UnsignedIntKind, LongKind, UnsignedLongKind, LongLongKind, UnsignedLongLongKind, TypeTree, Typed, IntegerTree, PointerTree}
+use Rattle.vocabulary.specs.declared.int_kind.IntKind.{IntKind}
+use Rattle.vocabulary.specs.declared.int_kind.IntKind.TheVariants as kinds
+use Rattle.meaning_types.specs.Types.{TypeTree, Typed, IntegerTree, PointerTree}
 use Rattle.meaning_tree.specs.Trees.{SyntaxTree}
 use Rattle.meaning_syntax.specs.Trees.{IsInFirstForm}
 use Rattle.meaning_rules.specs.Bindings.{Binding}
@@ -23,19 +25,9 @@ use Rattle.meaning_machine.proofs.WellTyped.{are_statements}
 -- The opening world
 
 -- zero is a number of each kind
-zero-in_range : (kind : Kind) → IsInRange kind (pos 0)
-zero-in_range BoolKind = grind arith
-zero-in_range CharKind = grind arith
-zero-in_range SignedCharKind = grind arith
-zero-in_range UnsignedCharKind = grind arith
-zero-in_range ShortKind = grind arith
-zero-in_range UnsignedShortKind = grind arith
-zero-in_range IntKind = grind arith
-zero-in_range UnsignedIntKind = grind arith
-zero-in_range LongKind = grind arith
-zero-in_range UnsignedLongKind = grind arith
-zero-in_range LongLongKind = grind arith
-zero-in_range UnsignedLongLongKind = grind arith
+zero-in_range : (kind : IntKind) → IsInRange kind (pos 0)
+zero-in_range kinds.Bool = grind arith
+zero-in_range other = grind arith
 
 -- zero and null fit
 opening_value-fits : (scope : List Binding) (type_ : TypeTree) → ValueFitsIn scope (opening_value type_) type_

@@ -2,15 +2,17 @@
 use Rattle.std.specs.Prelude.{ℕ, Bool, false, ℤ, pos, List, [], ◌∷◌, Option, Some, None, nat_lt, slice_get, slice_set, if◌then◌else◌}
 use Rattle.std.specs.Ordering.{int_eq}
 use Rattle.std.specs.Str.{bytes_eq}
-use Rattle.meaning_types.specs.Types.{Kind, TypeTree, Typed, BaseTree, IntegerTree, PointerTree, flags_of, has_flag}
+use Rattle.vocabulary.specs.declared.int_kind.IntKind.{IntKind}
+use Rattle.meaning_types.specs.Types.{TypeTree, Typed, BaseTree, IntegerTree, PointerTree, flags_of, has_flag}
+use Rattle.meaning_types.specs.Equality.{are_equal_kinds, are_similar}
 use Rattle.meaning_machine.specs.Values.{Spot, Null, Foreign, In, Value, Integer, Pointer, Place, Made, ForObject, ForFunction, Cell, Block}
 use Rattle.meaning_machine.specs.Outcomes.{NullPointer, DeadBlock, ForeignPointer, OutOfBounds, IndeterminateValue, ReadOnly, AccessFault, SpaceFault, ShapeFault, Answer, Gives, IsFault, IsUndefined}
-use Rattle.meaning_machine.specs.Tests.{are_equal_kinds, are_similar, differ_in_flags_alone}
+use Rattle.meaning_machine.specs.Tests.{differ_in_flags_alone}
 
 -- The one conversion: what a value becomes when it is stored to a place of this type (6.5.16.1, 6.3.2.3)
 
 -- a plain integer stays one of its kind; a plain 0 becomes a null pointer
-abbrev pub adopt_integer : Kind → Option ℕ → Bool → ℤ → BaseTree → Answer Value
+abbrev pub adopt_integer : IntKind → Option ℕ → Bool → ℤ → BaseTree → Answer Value
 adopt_integer kind None false number (IntegerTree wanted) =
     if are_equal_kinds kind wanted then Gives (Integer kind None false number) else IsFault ShapeFault
 adopt_integer kind None false number (PointerTree wanted) =

@@ -1,38 +1,18 @@
--- Worked examples: the numbers of each kind, what fits, single loads and stores, and blocks that outlast others.
-use Rattle.std.specs.Prelude.{◌≡◌, ℕ, ◌-◌, ◌^◌, Bool, true, false, ℤ, pos, negsuc, List, [], ◌∷◌, Some, None, map, replicate, codes}
-use Rattle.meaning_types.specs.Types.{Kind, BoolKind, CharKind, SignedCharKind, UnsignedCharKind, ShortKind, UnsignedShortKind, IntKind, UnsignedIntKind, LongKind, UnsignedLongKind, LongLongKind, UnsignedLongLongKind, NumberedSpace, Flags, TypeTree}
+-- Worked examples: what fits, single loads and stores, and blocks that outlast others.
+use Rattle.std.specs.Prelude.{◌≡◌, ℕ, Bool, true, false, ℤ, pos, negsuc, List, [], ◌∷◌, Some, None, codes}
+use Rattle.vocabulary.specs.declared.int_kind.IntKind.TheVariants.{Char, Int}
+use Rattle.meaning_types.specs.Types.{NumberedSpace, Flags, TypeTree}
 use Rattle.meaning_syntax.specs.Items.{Object}
 use Rattle.meaning_syntax.specs.Trees.{unit_tree}
 use Rattle.meaning_rules.specs.Bindings.{pointer_to}
 use Rattle.meaning_rules.specs.Typing.{int_with}
 use Rattle.meaning_rules.specs.Examples.{noderef_flags, function_of}
-use Rattle.meaning_machine.specs.Values.{Spot, Null, Foreign, In, Value, Integer, Pointer, ForObject, ForFunction, Cell, Block, least, greatest, Fits}
+use Rattle.meaning_machine.specs.Values.{Spot, Null, Foreign, In, Value, Integer, Pointer, ForObject, ForFunction, Cell, Block, Fits}
 use Rattle.meaning_machine.specs.Outcomes.{DeadBlock, ForeignPointer, OutOfBounds, ReadOnly, AccessFault, SpaceFault, ShapeFault, Gives, IsFault, IsUndefined}
 use Rattle.meaning_machine.specs.Memory.{adopt, content_at, with_content, block_with, load, store}
 use Rattle.meaning_machine.specs.Runs.{IsWritable, opening}
 use Rattle.meaning_machine.specs.Soundness.{Last}
 use Rattle.meaning_machine.specs.Examples.{plain_int, const_int, int_of, object_spot}
-
--- Ranges (C11 6.2.6.2): two's complement, with the widths of LP64
-
-abbrev pub signed_kinds : List Kind
-signed_kinds = CharKind ∷ SignedCharKind ∷ ShortKind ∷ IntKind ∷ LongKind ∷ LongLongKind ∷ []
-
-abbrev pub signed_widths : List ℕ
-signed_widths = 8 ∷ 8 ∷ 16 ∷ 32 ∷ 64 ∷ 64 ∷ []
-
-abbrev pub unsigned_kinds : List Kind
-unsigned_kinds =
-    BoolKind ∷ UnsignedCharKind ∷ UnsignedShortKind ∷ UnsignedIntKind ∷ UnsignedLongKind ∷ UnsignedLongLongKind ∷ []
-
-abbrev pub unsigned_widths : List ℕ
-unsigned_widths = 1 ∷ 8 ∷ 16 ∷ 32 ∷ 64 ∷ 64 ∷ []
-
-pub record RangeExamples : Type 0 where
-  pub least_signed : map least signed_kinds ≡ map (λ width. negsuc (2 ^ (width - 1) - 1)) signed_widths
-  pub greatest_signed : map greatest signed_kinds ≡ map (λ width. pos (2 ^ (width - 1) - 1)) signed_widths
-  pub least_unsigned : map least unsigned_kinds ≡ replicate 6 (pos 0)
-  pub greatest_unsigned : map greatest unsigned_kinds ≡ map (λ width. pos (2 ^ width - 1)) unsigned_widths
 
 -- Storage of one int
 
@@ -102,9 +82,9 @@ pub record RowExamples : Type 0 where
   pub one_adopted : adopt (int_of 1) (pointer_to plain_int) ≡ IsFault ShapeFault
   pub pointer_adopted_by_int : adopt (Pointer plain_int Null) plain_int ≡ IsFault ShapeFault
   -- an int takes plain ints alone
-  pub other_kind_adopted : adopt (Integer CharKind None false (pos 1)) plain_int ≡ IsFault ShapeFault
-  pub restricted_adopted : adopt (Integer IntKind (Some 0) false (pos 1)) plain_int ≡ IsFault ShapeFault
-  pub fouled_adopted : adopt (Integer IntKind None true (pos 1)) plain_int ≡ IsFault ShapeFault
+  pub other_kind_adopted : adopt (Integer Char None false (pos 1)) plain_int ≡ IsFault ShapeFault
+  pub restricted_adopted : adopt (Integer Int (Some 0) false (pos 1)) plain_int ≡ IsFault ShapeFault
+  pub fouled_adopted : adopt (Integer Int None true (pos 1)) plain_int ≡ IsFault ShapeFault
   -- targets that differ in flags alone, at any level, and targets that differ otherwise
   pub flags_lost : adopt (Pointer (int_with noderef_flags) Null) (pointer_to plain_int) ≡ IsFault SpaceFault
   pub deeper_flags_lost :
@@ -136,7 +116,7 @@ pub record CellExamples : Type 0 where
 
 -- an int with this number
 abbrev pub integer : ℤ → Value
-integer number = Integer IntKind None false number
+integer number = Integer Int None false number
 
 pub record FitExamples : Type 0 where
   pub least_fits : Fits [] (integer (negsuc 2147483647)) plain_int
@@ -159,9 +139,9 @@ pub record FitExamples : Type 0 where
   pub other_flags : Fits [] (Pointer (int_with noderef_flags) Null) (pointer_to plain_int) → ⊥
   pub other_block : Fits living (Pointer (pointer_to plain_int) (object_spot 0)) (pointer_to (pointer_to plain_int)) → ⊥
   -- an int is plain
-  pub other_kind : Fits [] (Integer CharKind None false (pos 0)) plain_int → ⊥
-  pub restricted : Fits [] (Integer IntKind (Some 0) false (pos 0)) plain_int → ⊥
-  pub fouled : Fits [] (Integer IntKind None true (pos 0)) plain_int → ⊥
+  pub other_kind : Fits [] (Integer Char None false (pos 0)) plain_int → ⊥
+  pub restricted : Fits [] (Integer Int (Some 0) false (pos 0)) plain_int → ⊥
+  pub fouled : Fits [] (Integer Int None true (pos 0)) plain_int → ⊥
   -- the outside writes into living cells alone
   pub written : IsWritable living (int_block plain_int true 3) [] (int_of 5)
   pub const_written : IsWritable constant (int_block const_int true 3) [] (int_of 5)

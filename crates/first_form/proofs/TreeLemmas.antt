@@ -1,7 +1,8 @@
 -- The trees of words, stars, statements and items that are left begin with that of the next one.
 use Rattle.std.proofs.Common.{◌≡◌, ℕ, suc, zero, ◌+◌, ◌-◌, ◌<◌, ◌≤◌, Bool, true, false, if◌then◌else◌, List, [], ◌∷◌, length, map, drop, slice_index_or, refl, sym, ap, ◌∙◌, arith}
 use Rattle.std.proofs.lemmas.List.{drop_more}
-use Rattle.meaning_tree.specs.Kinds.{AddressSpaceAttribute, AttributeList, PointerDeclarator, TypePart}
+use Rattle.vocabulary.specs.declared.node_kind.NodeKind.TheVariants.{AddressSpaceAttribute, AttributeList, PointerDeclarator}
+use Rattle.vocabulary.specs.declared.role.Role.TheVariants.{TypePart}
 use Rattle.meaning_tree.specs.Trees.{Node, NoParts, parts_of}
 use Rattle.meaning_types.specs.Types.{NamedSpace, NumberedSpace}
 use Rattle.meaning_text.specs.Words.{is_identifier}

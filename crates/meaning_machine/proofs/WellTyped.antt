@@ -8,7 +8,7 @@ use Rattle.std.proofs.lemmas.List.Concat.{flat_map-append}
 use Rattle.std.proofs.lemmas.List.Elements.{All-nil, All-cons, Contains-append_left, Contains-append_right}
 use Rattle.meaning_types.specs.Types.{Flags, TypeTree, PointerTree, flags_of, has_flag, value_type, bare}
 use Rattle.meaning_types.specs.Spaces.{MixSpaces}
-use Rattle.meaning_tree.specs.Kinds.{Evaluated}
+use Rattle.vocabulary.specs.declared.role.Role.TheVariants.{Evaluated}
 use Rattle.meaning_tree.specs.Trees.{SyntaxTree, parts_of}
 use Rattle.meaning_syntax.specs.Items.{Statement, Assign, AssignThrough, AssignAddress, Item, Object, Function, statement_spelled, item_spelled}
 use Rattle.meaning_syntax.specs.Binding.{Declared, item_statements, object_of, have_equal_stars, has_one_star_more, statement_binds, are_bound}

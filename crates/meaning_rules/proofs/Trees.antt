@@ -5,7 +5,9 @@ use Rattle.std.specs.Str.{bytes_eq}
 use Rattle.std.proofs.lemmas.List.Concat.{flat_map-append}
 use Rattle.std.proofs.lemmas.List.{append-nil, map-append}
 use Rattle.meaning_types.specs.Types.{NamedSpace, NumberedSpace, Flags, no_flags, TypeTree}
-use Rattle.meaning_tree.specs.Kinds.{NodeKind, AddressSpaceAttribute, Declarator, CompoundStatement, Evaluated, TypePart}
+use Rattle.vocabulary.specs.declared.node_kind.NodeKind.{NodeKind}
+use Rattle.vocabulary.specs.declared.node_kind.NodeKind.TheVariants.{AddressSpaceAttribute, Declarator, CompoundStatement}
+use Rattle.vocabulary.specs.declared.role.Role.TheVariants.{Evaluated, TypePart}
 use Rattle.meaning_tree.specs.Trees.{SyntaxTree, Node, NoParts, Part, parts_of}
 use Rattle.meaning_text.specs.Words.{is_identifier}
 use Rattle.meaning_syntax.specs.Words.{number_of}

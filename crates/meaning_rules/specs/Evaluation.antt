@@ -1,7 +1,9 @@
 -- Which places a unit reads and writes, and which values it converts, by its tree.
 use Rattle.std.specs.Prelude.{ℕ, zero, ◌+◌, List, [], ◌∷◌, ◌++◌, Option, Some, None}
 use Rattle.meaning_types.specs.Types.{TypeTree}
-use Rattle.meaning_tree.specs.Kinds.{NodeKind, TranslationUnit, Address, Assignment, Evaluated, Condition, TypePart, Unevaluated}
+use Rattle.vocabulary.specs.declared.node_kind.NodeKind.{NodeKind}
+use Rattle.vocabulary.specs.declared.node_kind.NodeKind.TheVariants.{TranslationUnit, Address, Assignment}
+use Rattle.vocabulary.specs.declared.role.Role.TheVariants.{Evaluated, Condition, TypePart, Unevaluated}
 use Rattle.meaning_tree.specs.Trees.{SyntaxTree, Node, NoParts, Part}
 use Rattle.meaning_syntax.specs.Trees.{SyntaxParts}
 use Rattle.meaning_rules.specs.Bindings.{Binding, bindings_of}

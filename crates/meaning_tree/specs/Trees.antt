@@ -1,6 +1,7 @@
 -- Trees: a node has a kind, the index of the token at which it stands, a name, a number, and parts in order.
 use Rattle.std.specs.Prelude.{ℕ, List, [], ◌∷◌}
-use Rattle.meaning_tree.specs.Kinds.{NodeKind, Role}
+use Rattle.vocabulary.specs.declared.node_kind.NodeKind.{NodeKind}
+use Rattle.vocabulary.specs.declared.role.Role.{Role}
 
 -- The type of names is left open: a spelling, or the number of one.
 mutual

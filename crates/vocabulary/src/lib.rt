@@ -19,6 +19,6 @@ pub use error_kind::ErrorKind;
 pub use int_kind::IntKind;
 pub use limit::LimitKind;
 pub use node_kind::NodeKind;
-pub use role::Role;
+pub use role::{Role, tags_keep_roles};
 pub use rule::RuleCode;
 pub use token_kind::TokenKind;

@@ -125,7 +125,7 @@ const CLEAN: [Text; 17] = [
 
 // Texts that aren't in the first form.
 #[rattlefmt::skip]
-const NOT_IN_FORM: [Text; 38] = [
+const NOT_IN_FORM: [Text; 41] = [
     Text { case: "a second declarator", text: "extern int x, y;" },
     Text { case: "a directive", text: "#define X 1" },
     Text { case: "a carriage return", text: "extern int x;\r\n" },
@@ -157,6 +157,9 @@ const NOT_IN_FORM: [Text; 38] = [
     Text { case: "a space that is __LINE__", text: "extern int __attribute__((address_space(__LINE__))) x;" },
     Text { case: "a space that is __COUNTER__", text: "extern int __attribute__((address_space(__COUNTER__))) x;" },
     Text { case: "a name with two underscores in front", text: "extern int __x;" },
+    Text { case: "a name that is a universal character name", text: "extern int \\u00e9;" },
+    Text { case: "a name with a universal character name in it", text: "extern int a\\U000000e9;" },
+    Text { case: "a space with a universal character name in it", text: "extern int __attribute__((address_space(a\\u00e9))) x;" },
     Text { case: "a name that begins with a digit", text: "extern int 1x;" },
     Text { case: "a store through an int", text: "extern int x; void f(void) { *x = x; }" },
     Text { case: "an address without a star for it", text: "extern int x; extern int y; void f(void) { x = &y; }" },

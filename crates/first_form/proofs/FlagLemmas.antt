@@ -10,8 +10,7 @@ use Rattle.vocabulary.specs.declared.node_kind.NodeKind.{NodeKind}
 use Rattle.meaning_tree.specs.Trees.{Node, NoParts, Part, parts_of}
 use Rattle.meaning_tree.specs.Nodes.{NodeList}
 use Rattle.meaning_syntax.specs.Trees.{SyntaxParts, attribute_trees, word_trees}
-use Rattle.meaning_text.specs.Words.{is_identifier}
-use Rattle.meaning_syntax.specs.Words.{is_space_id, number_of}
+use Rattle.meaning_syntax.specs.Words.{is_plain_identifier, is_space_id, number_of}
 use Rattle.meaning_syntax.specs.Items.{AddressSpace, Noderef, Word, word_fits, word_spelled}
 use Rattle.meaning_rules.specs.Bindings.{flagged_by, flags_behind, flags_behind_words, space_named, specified_flags}
 use Rattle.sparse_model.specs.declared.ids.NameId.{NameId}
@@ -155,10 +154,10 @@ small-space true token spelling number words small others = (omega arith, others
 small-space false token spelling number words small others = (small refl, others)
 
 -- so does the number that a token is, which can stand for a space and is no identifier
-small-id : (id : List ℕ) → is_space_id id ≡ true → is_identifier id ≡ false → number_of id < 2 ^ 32
+small-id : (id : List ℕ) → is_space_id id ≡ true → is_plain_identifier id ≡ false → number_of id < 2 ^ 32
 small-id id is_id no_identifier =
     ⊎_elim
-    (λ identifier. absurd (both_ways (is_identifier id) no_identifier identifier))
+    (λ identifier. absurd (both_ways (is_plain_identifier id) no_identifier identifier))
     (λ number. number.small)
     (space_id_cases id is_id)
 
@@ -168,7 +167,7 @@ small-words token [] fits = tt
 small-words token (Noderef ∷ words) fits = (omega arith, small-words (token + length (word_spelled Noderef) + 1) words fits)
 small-words token (AddressSpace id ∷ words) fits =
     let parts = and_parts (is_space_id id) (list_all word_fits words) fits in
-    small-space (is_identifier id) token id (number_of id) (parts_of TypePart (word_trees (token + length (word_spelled (AddressSpace id)) + 1) words)) (small-id id parts.0)
+    small-space (is_plain_identifier id) token id (number_of id) (parts_of TypePart (word_trees (token + length (word_spelled (AddressSpace id)) + 1) words)) (small-id id parts.0)
     (small-words (token + length (word_spelled (AddressSpace id)) + 1) words parts.1)
 
 -- and of an attribute

@@ -19,7 +19,7 @@ ghost use Rattle.std.specs.List.{list_all, list_any};
 ghost use Rattle.std.specs.Prelude.{◌≡◌, ◌<◌, length, nat_le, true};
 ghost use Rattle.std.specs.Str.{bytes_eq};
 
-use crate::identifier::is_identifier;
+use crate::identifier::is_plain_identifier;
 use std::str;
 
 /// Whether the token can name an object or a function.
@@ -27,7 +27,7 @@ use std::str;
 pub(crate) fn is_name(text: &[u8]) -> bool
     ensures { result ≡ is_name text.now }
 {
-    is_identifier(text)
+    is_plain_identifier(text)
         && !is_keyword(text)
         && !is_reserved(text)
         && !begins_with_two_underscores(text)
@@ -45,7 +45,7 @@ pub(crate) fn is_space_id(text: &[u8]) -> bool
 fn is_space_name(text: &[u8]) -> bool
     ensures { result ≡ is_space_name text.now }
 {
-    is_identifier(text) && !is_keyword(text) && !is_predefined_macro(text)
+    is_plain_identifier(text) && !is_keyword(text) && !is_predefined_macro(text)
 }
 
 #[tactic(auto, unfolding(meaning_syntax::specs::Words::is_space_number))]

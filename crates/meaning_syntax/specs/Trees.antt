@@ -6,8 +6,7 @@ use Rattle.vocabulary.specs.declared.node_kind.NodeKind.{NodeKind}
 use Rattle.vocabulary.specs.declared.node_kind.NodeKind.TheVariants.{TranslationUnit, Declaration, FunctionDefinition, Specifiers, ExternSpecifier, IntSpecifier, VoidSpecifier, AttributeList, NoderefAttribute, AddressSpaceAttribute, Declarator, PointerDeclarator, FunctionDeclarator, Parameter, CompoundStatement, ExpressionStatement, Assignment, Indirection, Address, Name}
 use Rattle.vocabulary.specs.declared.role.Role.TheVariants.{Evaluated, TypePart}
 use Rattle.meaning_tree.specs.Trees.{SyntaxTree, Node, Parts, NoParts, Part, parts_of}
-use Rattle.meaning_text.specs.Words.{is_identifier}
-use Rattle.meaning_syntax.specs.Words.{number_of}
+use Rattle.meaning_syntax.specs.Words.{is_plain_identifier, number_of}
 use Rattle.meaning_syntax.specs.Items.{Word, Noderef, AddressSpace, Statement, Assign, AssignThrough, AssignAddress, Item, Object, Function, word_spelled, attribute_spelled, statement_spelled, item_spelled, item_fits}
 use Rattle.meaning_syntax.specs.Binding.{are_bound}
 use Rattle.meaning_syntax.specs.Form.{IsUnit}
@@ -68,7 +67,7 @@ statement_trees first (statement ∷ statements) =
 abbrev pub word_tree : ℕ → Word → SyntaxTree
 word_tree token Noderef = leaf NoderefAttribute token
 word_tree token (AddressSpace id) =
-    if is_identifier id then Node AddressSpaceAttribute token id 0 NoParts
+    if is_plain_identifier id then Node AddressSpaceAttribute token id 0 NoParts
     else Node AddressSpaceAttribute token [] (number_of id) NoParts
 
 -- a comma stands before each further word

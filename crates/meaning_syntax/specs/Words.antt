@@ -1,12 +1,11 @@
--- Which words can be names, and which can name an address space. An identifier is one by its whole spelling: a
--- literal with a prefix begins like one.
+-- Which words can be names, and which can name an address space. A token is one by its whole spelling: a literal
+-- with a prefix begins like a name.
 use Rattle.std.specs.Prelude.{ℕ, Bool, false, ◌&&◌, ◌||◌, ◌==◌, List, [], ◌∷◌, codes, not, nat_le}
 use Rattle.std.specs.List.{list_any, list_all}
 use Rattle.std.specs.Str.{bytes_eq}
 use Rattle.std.specs.Str.Parse.{digits_value}
 use Rattle.std.specs.Char.{is_ascii_digit}
-use Rattle.meaning_text.specs.Bytes.{underscore}
-use Rattle.meaning_text.specs.Words.{is_identifier}
+use Rattle.meaning_text.specs.Bytes.{underscore, is_nondigit, is_word_byte}
 
 -- the text is one of these
 abbrev pub is_among : List ℕ → List (List ℕ) → Bool
@@ -50,10 +49,15 @@ abbrev pub begins_with_two_underscores : List ℕ → Bool
 begins_with_two_underscores (a ∷ b ∷ text) = a == underscore && b == underscore
 begins_with_two_underscores text = false
 
+-- an identifier of letters, digits and underscores alone, without universal character names (6.4.2.1)
+abbrev pub is_plain_identifier : List ℕ → Bool
+is_plain_identifier [] = false
+is_plain_identifier (byte ∷ bytes) = is_nondigit byte && list_all is_word_byte bytes
+
 -- a token that can name an object or a function
 unfoldable pub is_name : List ℕ → Bool
 is_name text =
-    is_identifier text && not (is_keyword text) && not (is_reserved text) && not (begins_with_two_underscores text)
+    is_plain_identifier text && not (is_keyword text) && not (is_reserved text) && not (begins_with_two_underscores text)
 
 -- the value of decimal digits
 abbrev pub number_of : List ℕ → ℕ
@@ -69,7 +73,7 @@ unfoldable pub is_space_number : List ℕ → Bool
 is_space_number text = is_plain_decimal text && nat_le (number_of text) 4294967295
 
 unfoldable pub is_space_name : List ℕ → Bool
-is_space_name text = is_identifier text && not (is_keyword text) && not (is_predefined_macro text)
+is_space_name text = is_plain_identifier text && not (is_keyword text) && not (is_predefined_macro text)
 
 -- a token that can stand for an address space
 unfoldable pub is_space_id : List ℕ → Bool

@@ -11,17 +11,17 @@ use Rattle.meaning_text.specs.Lexing as lexing
 use Rattle.meaning_text.proofs.Lexing.{tokens_exist, tokens_are_unique, faults_exist, faults_are_unique}
 use Rattle.meaning_tree.specs.Trees.{SyntaxTree}
 use Rattle.meaning_syntax.specs.Items.{Item}
-use Rattle.meaning_syntax.specs.Trees.{unit_tree, Derives}
+use Rattle.meaning_syntax.specs.Trees.{unit_tree, Derives, IsInForm}
 use Rattle.meaning_syntax.specs.Reading.{read_unit}
 use Rattle.meaning_syntax.proofs.UnitReading.{IsUnit-read_unit}
 use Rattle.meaning_syntax.proofs.Derivations.{read_units_derive, derived_trees_are_those}
 use Rattle.meaning_rules.specs.Failures.{Failure, IsListing}
 use Rattle.meaning_rules.specs.Judging.{failures_of}
 use Rattle.meaning_rules.proofs.Units.{listings_exist, listings_are_unique}
-use Rattle.meaning_rules.specs.Text.{main_file}
+use Rattle.meaning_text.specs.Places.{main_file}
 use Rattle.meaning_answer.specs.Reply.{Reply, Refused, Limit, line}
 use Rattle.meaning_answer.specs.Command.{Request, BadWord, MissingFile, Check, request_of}
-use Rattle.meaning_answer.specs.Answer.{most_bytes, most_tokens, file_size_text, unit_tokens_text, not_built_text, opening_text, warned, IsChecked, IsInForm, IsTextReply, IsFileReply, IsRequestReply, TellsFailures, TellsTooManyTokens, TellsNotBuilt, TellsOpening}
+use Rattle.meaning_answer.specs.Answer.{most_bytes, most_tokens, file_size_text, unit_tokens_text, not_built_text, opening_text, warned, IsChecked, IsTextReply, IsFileReply, IsRequestReply, TellsFailures, TellsTooManyTokens, TellsNotBuilt, TellsOpening}
 use Rattle.meaning_answer.specs.Answering.{bounded_reply, unit_reply, lexed_reply, text_reply, file_reply, request_reply}
 use Rattle.meaning_answer.specs.Laws.{AnswersExist, AnswersAreUnique}
 

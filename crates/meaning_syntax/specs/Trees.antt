@@ -5,6 +5,9 @@ use Rattle.std.specs.List.{list_all}
 use Rattle.vocabulary.specs.declared.node_kind.NodeKind.{NodeKind}
 use Rattle.vocabulary.specs.declared.node_kind.NodeKind.TheVariants.{TranslationUnit, Declaration, FunctionDefinition, Specifiers, ExternSpecifier, IntSpecifier, VoidSpecifier, AttributeList, NoderefAttribute, AddressSpaceAttribute, Declarator, PointerDeclarator, FunctionDeclarator, Parameter, CompoundStatement, ExpressionStatement, Assignment, Indirection, Address, Name}
 use Rattle.vocabulary.specs.declared.role.Role.TheVariants.{Evaluated, TypePart}
+use Rattle.meaning_text.specs.Places.{main_file}
+use Rattle.meaning_text.specs.Tokens.{Tok, LexesFile}
+use Rattle.meaning_text.specs.Terminals.{terminals_of}
 use Rattle.meaning_tree.specs.Trees.{SyntaxTree, Node, Parts, NoParts, Part, parts_of}
 use Rattle.meaning_syntax.specs.Words.{is_plain_identifier, number_of}
 use Rattle.meaning_syntax.specs.Items.{Word, Noderef, AddressSpace, Statement, Assign, AssignThrough, AssignAddress, Item, Object, Function, word_spelled, attribute_spelled, statement_spelled, item_spelled, item_fits}
@@ -147,3 +150,8 @@ pub record Derives (texts : List (List ℕ)) (tree : SyntaxTree) : Type 0 where
   pub items : List Item
   pub is_unit : IsUnit texts items
   pub is_tree : tree ≡ unit_tree items
+
+-- the text of a file is a unit of the form
+abbrev pub IsInForm : List ℕ → Type 0
+IsInForm text =
+    (tokens : List Tok) × (unit : SyntaxTree) × LexesFile main_file text tokens × Derives (terminals_of tokens) unit

@@ -1,6 +1,7 @@
 use crate::run::{NOT_BUILT, assert_check};
 use ksparse::Exit;
 use std::test::Fail;
+use vocabulary::{KEYWORDS, RESERVED_WORDS};
 
 // A unit with failures: what it shows, its text, and its warnings.
 struct Warned {
@@ -204,20 +205,13 @@ fn texts_are_answered(rt: HostRuntime) -> Result<(), Fail> {
     Ok(())
 }
 
-// C11 6.4.1, and the three words that no name can be besides.
-const KEYWORDS: &str =
-    "auto break case char const continue default do double else enum extern float for goto if inline int long register restrict return short signed sizeof static struct switch typedef union unsigned void volatile while _Alignas _Alignof _Atomic _Bool _Complex _Generic _Imaginary _Noreturn _Static_assert _Thread_local asm typeof _Pragma";
-
 #[test]
 fn keywords_are_no_names(rt: HostRuntime) -> Result<(), Fail> {
-    let mut count = 0u32;
-    for keyword in KEYWORDS.split_whitespace() {
+    for keyword in KEYWORDS.iter().chain(RESERVED_WORDS.iter()) {
         let text = format!(in rt.alloc(); "extern int {keyword};")?;
         assert_check(&rt, keyword, text.as_bytes(), Exit::Refused, NOT_BUILT)?;
         let longer = format!(in rt.alloc(); "extern int {keyword}1;")?;
         assert_check(&rt, keyword, longer.as_bytes(), Exit::Clean, "")?;
-        count = count.saturating_add(1);
     }
-    assert_eq!(rt; count, 47);
     Ok(())
 }

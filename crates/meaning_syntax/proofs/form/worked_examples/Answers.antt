@@ -25,7 +25,6 @@ returns-clause-read c = record {
 pub returns-clause-misspelled : goal.returns-clause-misspelled
 unfolding opened
 returns-clause-misspelled c = record {
-  keyword_count = refl;
   no_keyword_is_a_name = refl;
   four_stars = (refl, refl);
   keyword_as_name = (refl, refl);

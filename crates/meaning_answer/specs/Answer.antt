@@ -3,12 +3,12 @@
 -- behind them the rules.
 use Rattle.std.specs.Prelude.{◌≡◌, ℕ, ◌<◌, ◌≤◌, List, [], ◌∷◌, ◌++◌, Option, Some, None, codes, length, ◌⊎◌}
 use Rattle.meaning_outside.specs.Files.{FileMap, file_at}
-use Rattle.meaning_text.specs.Places.{main_file}
 use Rattle.meaning_text.specs.Tokens.{Tok, LexFault, OpenComment, OpenLiteral, LexesFile, OpensFile}
 use Rattle.meaning_text.specs.Terminals.{terminals_of}
 use Rattle.meaning_tree.specs.Trees.{SyntaxTree}
 use Rattle.meaning_syntax.specs.Trees.{Derives, IsInForm}
 use Rattle.meaning_rules.specs.Failures.{Failure, IsListing}
+use Rattle.meaning_text.specs.Places.{main_file}
 use Rattle.meaning_rules.specs.Text.{place_text, warnings_text}
 use Rattle.meaning_answer.specs.Reply.{Reply, Warned, Refused, Usage, Limit, silence, line}
 use Rattle.meaning_answer.specs.Command.{Request, BadWord, MissingFile, Check, request_of}

@@ -1,6 +1,5 @@
 -- Worked examples: small files, with the failures and warnings that they have.
 use Rattle.std.specs.Prelude.{◌≡◌, ℕ, true, false, List, [], ◌∷◌, ◌++◌, codes}
-use Rattle.meaning_text.specs.Places.{main_file}
 use Rattle.meaning_text.specs.Tokens.{Tok}
 use Rattle.meaning_text.specs.Terminals.{terminals_of}
 use Rattle.meaning_text.specs.Lexing.{Lexed, Tokens, Refused, lexed_file}
@@ -13,6 +12,7 @@ use Rattle.meaning_rules.specs.Typing.{int_with, flagged}
 use Rattle.meaning_rules.specs.Evaluation.{InAssignment}
 use Rattle.meaning_rules.specs.Failures.{Failure, SpacesMixed, FlaggedAccess}
 use Rattle.meaning_rules.specs.Judging.{failures_of}
+use Rattle.meaning_text.specs.Places.{main_file}
 use Rattle.meaning_rules.specs.Text.{warnings_text}
 
 -- the tokens that were found, if no fault was

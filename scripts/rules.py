@@ -10,6 +10,7 @@ UNIVERSAL = rb"\\u[0-9A-Fa-f]{4}|\\U[0-9A-Fa-f]{8}"
 HEADER = re.compile(rb'<[^\n>]+>|"[^\n"]+"')
 LITERAL = re.compile(rb"""(?:u8|[LuU])?"(?:[^"\\\n]|\\[^\n])*"|[LuU]?'(?:[^'\\\n]|\\[^\n])*'""")
 WORD = re.compile(rb"(?:[A-Za-z_]|" + UNIVERSAL + rb")(?:[A-Za-z0-9_]|" + UNIVERSAL + rb")*")
+PLAIN = re.compile(rb"[A-Za-z_][A-Za-z0-9_]*")
 NUMBER = re.compile(rb"\.?[0-9](?:[eEpP][+-]|" + UNIVERSAL + rb"|[A-Za-z0-9_.])*")
 PUNCTUATOR = re.compile(
     rb"%:%:|\.\.\.|<<=|>>=|->|\+\+|--|<<|>>|<=|>=|==|!=|&&|\|\||\*=|/=|%=|\+=|-=|&=|\^=|\|=|##|<:|:>|<%|%>|%:|[^'\"]",
@@ -87,12 +88,12 @@ def tokens(text):
 def is_name(spelled):
     """It can name an object or a function."""
     words = KEYWORDS | {b"asm", b"typeof", b"_Pragma"}
-    return WORD.fullmatch(spelled) and spelled not in words and not spelled.startswith(b"__")
+    return PLAIN.fullmatch(spelled) and spelled not in words and not spelled.startswith(b"__")
 
 
 def is_space(spelled):
     """It can stand for an address space."""
-    if WORD.fullmatch(spelled):
+    if PLAIN.fullmatch(spelled):
         return spelled not in KEYWORDS | PREDEFINED
     return re.fullmatch(rb"[1-9][0-9]*", spelled) and int(spelled) <= 4294967295
 

@@ -26,3 +26,4 @@ pub use names::Names;
 pub use punctuators::punctuator;
 pub use scanner::lex;
 pub use token::Token;
+pub use words::{is_nondigit, is_word_byte};

@@ -7,15 +7,15 @@ ghost use Rattle.c_tokens.specs.Cursor.{ahead};
 
 use crate::cursor::Cursor;
 
-// A letter or an underscore, with which an identifier begins.
-fn is_nondigit(byte: u8) -> bool
+/// A letter or an underscore, with which an identifier begins (6.4.2.1).
+pub fn is_nondigit(byte: u8) -> bool
     ensures { result ≡ is_nondigit byte }
 {
     byte.is_ascii_alphabetic() || byte == b'_'
 }
 
-// A byte of identifiers and numbers.
-fn is_word_byte(byte: u8) -> bool
+/// A letter, an underscore or a digit, with which an identifier goes on (6.4.2.1).
+pub fn is_word_byte(byte: u8) -> bool
     ensures { result ≡ is_word_byte byte }
 {
     is_nondigit(byte) || byte.is_ascii_digit()

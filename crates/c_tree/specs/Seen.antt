@@ -1,52 +1,14 @@
 -- How the values of this crate are seen by the definitions of `meaning_tree`.
 use Rattle.std.specs.Prelude.{◌≡◌, ℕ, ◌<◌, ◌≤◌, List, map, length}
-use Rattle.meaning_tree.specs.Kinds as meaning
 use Rattle.meaning_tree.specs.Trees.{Tree}
 use Rattle.meaning_tree.specs.Nodes.{TreeNode, NodeList, end_of, HasNode, StandsFor, ChildrenStandBefore, IsTreeOf}
-use Rattle.vocabulary.specs.Numbers.{role_tag}
 use Rattle.sparse_model.specs.declared.ids.NameId.{NameId}
-use Rattle.vocabulary.specs.declared.node_kind.NodeKind.{NodeKind}
-use Rattle.vocabulary.specs.declared.node_kind.NodeKind.TheVariants as kinds
-use Rattle.vocabulary.specs.declared.role.Role.{Role}
-use Rattle.vocabulary.specs.declared.role.Role.TheVariants as roles
 use Rattle.c_tree.specs.declared.node.Node.{Node}
-
-abbrev pub kind_of : NodeKind → meaning.NodeKind
-kind_of kinds.TranslationUnit = meaning.TranslationUnit
-kind_of kinds.Declaration = meaning.Declaration
-kind_of kinds.FunctionDefinition = meaning.FunctionDefinition
-kind_of kinds.Specifiers = meaning.Specifiers
-kind_of kinds.ExternSpecifier = meaning.ExternSpecifier
-kind_of kinds.IntSpecifier = meaning.IntSpecifier
-kind_of kinds.VoidSpecifier = meaning.VoidSpecifier
-kind_of kinds.AttributeList = meaning.AttributeList
-kind_of kinds.NoderefAttribute = meaning.NoderefAttribute
-kind_of kinds.AddressSpaceAttribute = meaning.AddressSpaceAttribute
-kind_of kinds.Declarator = meaning.Declarator
-kind_of kinds.PointerDeclarator = meaning.PointerDeclarator
-kind_of kinds.FunctionDeclarator = meaning.FunctionDeclarator
-kind_of kinds.Parameter = meaning.Parameter
-kind_of kinds.CompoundStatement = meaning.CompoundStatement
-kind_of kinds.ExpressionStatement = meaning.ExpressionStatement
-kind_of kinds.Assignment = meaning.Assignment
-kind_of kinds.Indirection = meaning.Indirection
-kind_of kinds.Address = meaning.Address
-kind_of kinds.Name = meaning.Name
-
-abbrev pub role_seen : Role → meaning.Role
-role_seen roles.Evaluated = meaning.Evaluated
-role_seen roles.Condition = meaning.Condition
-role_seen roles.TypePart = meaning.TypePart
-role_seen roles.Unevaluated = meaning.Unevaluated
-
--- a role has the tag by which a list of children keeps it
-abbrev pub RolesHaveTheirTags : Type 0
-RolesHaveTheirTags = (role : Role) → role_tag role ≡ meaning.tag_of (role_seen role)
 
 -- a node, with the handles and the tags of its children
 abbrev pub node_of : Node → TreeNode NameId
 node_of node = record {
-  kind = kind_of node.kind;
+  kind = node.kind;
   token = node.token;
   name = node.name;
   number = node.number;

@@ -12,6 +12,6 @@ mod tests;
 mod unit;
 
 pub use fault::AddFault;
-pub use node::{Node, nodes_are_seen_whole, roles_have_their_tags};
+pub use node::{Node, nodes_are_seen_whole};
 pub use region_alloc::Handle;
 pub use unit::Unit;

@@ -1,4 +1,4 @@
-ghost use Rattle.c_tree.specs.Seen.{NodesAreSeenWhole, RolesHaveTheirTags};
+ghost use Rattle.c_tree.specs.Seen.{NodesAreSeenWhole};
 
 use sparse_model::{NameId, NodeKind};
 use tag_list::TagList;
@@ -16,11 +16,6 @@ pub struct Node {
     /// The handles of the parts in order, each with the tag of its role.
     pub children: TagList,
 }
-
-/// A role has the tag by which a list of children keeps it.
-pub fn roles_have_their_tags()
-    ensures { RolesHaveTheirTags }
-{}
 
 /// A node is seen with all that it holds: two nodes that are seen alike are one.
 pub fn nodes_are_seen_whole()

@@ -34,7 +34,7 @@ impl Model for Unit {
 impl Unit {
     ghost use Rattle.std.specs.Prelude.{◌≡◌, ◌<◌, ◌≤◌, ◌↔◌, [], All, IfErr, IfOk, IsErrAnd, OnErr, OnOk};
     ghost use Rattle.meaning_tree.specs.Nodes.{ChildrenStandBefore, HasNode, end_of, joined, with_node};
-    ghost use Rattle.c_tree.specs.Seen.{EachStandsForOneTree, HasNodeWith, IsFinished, kind_of, most_nodes, node_of};
+    ghost use Rattle.c_tree.specs.Seen.{EachStandsForOneTree, HasNodeWith, IsFinished, most_nodes, node_of};
 
     /// An empty unit whose first handle is 0. It takes no memory.
     pub fn new(alloc: Global) -> Unit
@@ -99,7 +99,7 @@ impl Unit {
     pub fn kind(&self, h: Handle) -> NodeKind
         requires from { self.now.first ≤ h }
         requires below { h < end_of self.now }
-        ensures { HasNodeWith self.now h (λ node. node.kind ≡ kind_of result) }
+        ensures { HasNodeWith self.now h (λ node. node.kind ≡ result) }
     {
         self.node(h).kind
     }

@@ -4,7 +4,7 @@ use Rattle.std.specs.List.{flat_map, list_all}
 use Rattle.std.proofs.lemmas.List.{map-append}
 use Rattle.std.proofs.lemmas.List.Elements.{All-append}
 use Rattle.c_tokens.specs.Spellings.{AreApart}
-use Rattle.meaning_tree.specs.Kinds.{Evaluated}
+use Rattle.vocabulary.specs.declared.role.Role.TheVariants.{Evaluated}
 use Rattle.meaning_tree.specs.Trees.{parts_of}
 use Rattle.meaning_tree.specs.Nodes.{NodeList}
 use Rattle.meaning_syntax.specs.Items as syntax

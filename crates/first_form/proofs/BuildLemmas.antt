@@ -5,7 +5,10 @@ use Rattle.std.proofs.lemmas.List.Elements.{All-nil, All-cons, All-push}
 use Rattle.std.proofs.lemmas.Option.{slice_get_within}
 use Rattle.std.proofs.lemmas.Result.{IfOk-weaker}
 use Rattle.c_tokens.specs.Seen.{IsKnown, text_of}
-use Rattle.meaning_tree.specs.Kinds.{NodeKind, Role, Evaluated, Condition, TypePart, Unevaluated, role_of, tag_of}
+use Rattle.vocabulary.specs.declared.node_kind.NodeKind.{NodeKind}
+use Rattle.vocabulary.specs.declared.role.Role.{Role}
+use Rattle.vocabulary.specs.declared.role.Role.TheVariants.{Evaluated, Condition, TypePart, Unevaluated}
+use Rattle.vocabulary.specs.Roles.{role_of, role_tag}
 use Rattle.meaning_tree.specs.Trees.{SyntaxTree, Tree, Node, Parts, NoParts, Part, parts_of, with_parts}
 use Rattle.meaning_tree.specs.Nodes.{TreeNode, NodeList, end_of, Grows, StandsFor, StandFor, IsTreeOf, with_node}
 use Rattle.meaning_tree.proofs.Finding.{Grows-trans}
@@ -61,11 +64,11 @@ AddsParts-nodes {names} {old} {new} {children} {parts} added =
     (StandFor-inside (spelled names new) children parts added.stand)
 
 -- a role is that of its tag
-role_of-tag_of : (role : Role) → role ≡ role_of (tag_of role)
-role_of-tag_of Evaluated = refl
-role_of-tag_of Condition = refl
-role_of-tag_of TypePart = refl
-role_of-tag_of Unevaluated = refl
+role_of-role_tag : (role : Role) → role ≡ role_of (role_tag role)
+role_of-role_tag Evaluated = refl
+role_of-role_tag Condition = refl
+role_of-role_tag TypePart = refl
+role_of-role_tag Unevaluated = refl
 
 -- no child stands for no part
 pub AddsParts-nil : (names : List (List ℕ)) (list : NodeList NameId) → AddsParts names list list [] NoParts
@@ -89,28 +92,28 @@ AddsParts-same {names} {old} {new} {parts} others is added = subst (λ c. AddsPa
 pub AddsParts-cons :
     (role : Role) {names : List (List ℕ)} {old between new : NodeList NameId} {handle : ℕ} {tree : SyntaxTree} {children : List (ℕ × ℕ)} {parts : SyntaxParts}
     → Adds names old between handle tree → AddsParts names between new children parts
-    → AddsParts names old new ((handle, tag_of role) ∷ children) (Part role tree parts)
+    → AddsParts names old new ((handle, role_tag role) ∷ children) (Part role tree parts)
 AddsParts-cons role {names} {old} {between} {new} {handle} {tree} first others = record {
   grows = Grows-trans old between new first.grows others.grows;
-  stand = (role_of-tag_of role, StandsFor-grows (spelled names between) (spelled names new) (Grows-spelled names between new others.grows) handle tree first.stands, others.stand);
+  stand = (role_of-role_tag role, StandsFor-grows (spelled names between) (spelled names new) (Grows-spelled names between new others.grows) handle tree first.stands, others.stand);
   known = λ known. others.known (first.known known);
 }
 
 -- one child alone
 pub AddsParts-one :
     (role : Role) {names : List (List ℕ)} {old new : NodeList NameId} {handle : ℕ} {tree : SyntaxTree} → Adds names old new handle tree
-    → AddsParts names old new ((handle, tag_of role) ∷ []) (Part role tree NoParts)
+    → AddsParts names old new ((handle, role_tag role) ∷ []) (Part role tree NoParts)
 AddsParts-one role {names} {old} {new} added = AddsParts-cons role added (AddsParts-nil names new)
 
 -- a child behind others stands for a part behind theirs
 AddsParts-push :
     (role : Role) {names : List (List ℕ)} {old between new : NodeList NameId} {handle : ℕ} {tree : SyntaxTree} {children : List (ℕ × ℕ)} {parts : SyntaxParts}
     → AddsParts names old between children parts → Adds names between new handle tree
-    → AddsParts names old new (children ++ (handle, tag_of role) ∷ []) (with_parts parts (Part role tree NoParts))
+    → AddsParts names old new (children ++ (handle, role_tag role) ∷ []) (with_parts parts (Part role tree NoParts))
 AddsParts-push role {names} {old} {between} {new} {handle} {tree} {children} {parts} others last = record {
   grows = Grows-trans old between new others.grows last.grows;
-  stand = subst (λ r. StandFor (spelled names new) (children ++ (handle, tag_of role) ∷ []) (with_parts parts (Part r tree NoParts))) (sym (role_of-tag_of role))
-      (StandFor-push (spelled names new) children (handle, tag_of role) parts tree (StandFor-grows (spelled names between) (spelled names new) (Grows-spelled names between new last.grows) children parts others.stand) last.stands);
+  stand = subst (λ r. StandFor (spelled names new) (children ++ (handle, role_tag role) ∷ []) (with_parts parts (Part r tree NoParts))) (sym (role_of-role_tag role))
+      (StandFor-push (spelled names new) children (handle, role_tag role) parts tree (StandFor-grows (spelled names between) (spelled names new) (Grows-spelled names between new last.grows) children parts others.stand) last.stands);
   known = λ known. last.known (others.known known);
 }
 
@@ -226,7 +229,7 @@ with_parts-none (Part role tree parts) = ap (Part role tree) (with_parts-none pa
 -- the first tree that is left is added
 pub AddsSome-more :
     {names : List (List ℕ)} {role : Role} {old between new : NodeList NameId} {handle : ℕ} {tree : SyntaxTree} {children : List (ℕ × ℕ)} {rest : List SyntaxTree} {all : SyntaxParts} (left : List SyntaxTree) (more : List (ℕ × ℕ)) (tag : ℕ)
-    → rest ≡ tree ∷ left → tag ≡ tag_of role → more ≡ children ++ (handle, tag) ∷ [] → AddsSome names role old between children rest all
+    → rest ≡ tree ∷ left → tag ≡ role_tag role → more ≡ children ++ (handle, tag) ∷ [] → AddsSome names role old between children rest all
     → Adds names between new handle tree → AddsSome names role old new more left all
 AddsSome-more {names} {role} {old} {between} {new} {handle} {tree} {children} {rest} {all} left more tag is_rest is_tag is_more some next = record {
   done = with_parts some.done (Part role tree NoParts);

@@ -3,20 +3,17 @@ use Rattle.std.proofs.Common.{◌≡◌, ℕ, ◌+◌, ◌<◌, ◌^◌, Bool, t
 use Rattle.std.specs.List.{list_all}
 use Rattle.std.proofs.lemmas.Bool.{and_parts, both_ways}
 use Rattle.std.specs.Option.{IsSomeAnd}
-use Rattle.c_tree.specs.Seen.{kind_of}
 use Rattle.meaning_types.specs.Types.{Flags}
-use Rattle.meaning_tree.specs.Kinds as kinds
-use Rattle.meaning_tree.specs.Kinds.{NodeKind}
+use Rattle.vocabulary.specs.declared.node_kind.NodeKind.TheVariants as kinds
+use Rattle.vocabulary.specs.declared.role.Role.TheVariants.{TypePart}
+use Rattle.vocabulary.specs.declared.node_kind.NodeKind.{NodeKind}
 use Rattle.meaning_tree.specs.Trees.{Node, NoParts, Part, parts_of}
 use Rattle.meaning_tree.specs.Nodes.{NodeList}
 use Rattle.meaning_syntax.specs.Trees.{SyntaxParts, attribute_trees, word_trees}
-use Rattle.meaning_text.specs.Words.{is_identifier}
-use Rattle.meaning_syntax.specs.Words.{is_space_id, number_of}
+use Rattle.meaning_syntax.specs.Words.{is_plain_identifier, is_space_id, number_of}
 use Rattle.meaning_syntax.specs.Items.{AddressSpace, Noderef, Word, word_fits, word_spelled}
 use Rattle.meaning_rules.specs.Bindings.{flagged_by, flags_behind, flags_behind_words, space_named, specified_flags}
 use Rattle.sparse_model.specs.declared.ids.NameId.{NameId}
-use Rattle.vocabulary.specs.declared.node_kind.NodeKind as model
-use Rattle.vocabulary.specs.declared.node_kind.NodeKind.TheVariants as kept
 use Rattle.sparse_model.specs.declared.space.Space.{Space}
 use Rattle.first_form.specs.declared.object.ObjectType.{ObjectType}
 use Rattle.first_form.specs.Known.{IsKnownSpace}
@@ -44,16 +41,16 @@ HasFlags-space names kind spelling number flags object space is named known has 
 
 -- a node of another kind is no word
 flagged_by-other :
-    (kind : model.NodeKind) (spelling : List ℕ) (number : ℕ) (flags : Flags) → (kind ≡ kept.NoderefAttribute → ⊥)
-    → (kind ≡ kept.AddressSpaceAttribute → ⊥) → flagged_by (kind_of kind) spelling number flags ≡ flags
-flagged_by-other kept.NoderefAttribute spelling number flags no_noderef no_space = absurd (no_noderef refl)
-flagged_by-other kept.AddressSpaceAttribute spelling number flags no_noderef no_space = absurd (no_space refl)
+    (kind : NodeKind) (spelling : List ℕ) (number : ℕ) (flags : Flags) → (kind ≡ kinds.NoderefAttribute → ⊥)
+    → (kind ≡ kinds.AddressSpaceAttribute → ⊥) → flagged_by kind spelling number flags ≡ flags
+flagged_by-other kinds.NoderefAttribute spelling number flags no_noderef no_space = absurd (no_noderef refl)
+flagged_by-other kinds.AddressSpaceAttribute spelling number flags no_noderef no_space = absurd (no_space refl)
 flagged_by-other _ spelling number flags no_noderef no_space = refl
 
 -- so it leaves the flags
 pub HasFlags-other :
-    (names : List (List ℕ)) (found : model.NodeKind) (kind : NodeKind) (spelling : List ℕ) (number : ℕ) (flags : Flags) (object : ObjectType)
-    → (found ≡ kept.NoderefAttribute → ⊥) → (found ≡ kept.AddressSpaceAttribute → ⊥) → kind_of found ≡ kind → HasFlags names flags object
+    (names : List (List ℕ)) (found : NodeKind) (kind : NodeKind) (spelling : List ℕ) (number : ℕ) (flags : Flags) (object : ObjectType)
+    → (found ≡ kinds.NoderefAttribute → ⊥) → (found ≡ kinds.AddressSpaceAttribute → ⊥) → found ≡ kind → HasFlags names flags object
     → HasFlags names (flagged_by kind spelling number flags) object
 HasFlags-other names found kind spelling number flags object no_noderef no_space is has =
     subst (λ (f : Flags). HasFlags names f object) (sym (flagged_by-other found spelling number flags no_noderef no_space) ∙ ap (λ k. flagged_by k spelling number flags) is) has
@@ -152,29 +149,29 @@ LeadsOn-specifier names unit list children child object whole found one_more beg
 
 -- the number of a space fits
 small-space : (test : Bool) (token : ℕ) (spelling : List ℕ) (number : ℕ) (words : SyntaxParts) → (test ≡ false → number < 2 ^ 32) → AreSmallNumbers words
-    → AreSmallNumbers (Part kinds.TypePart (if test then Node kinds.AddressSpaceAttribute token spelling 0 NoParts else Node kinds.AddressSpaceAttribute token [] number NoParts) words)
+    → AreSmallNumbers (Part TypePart (if test then Node kinds.AddressSpaceAttribute token spelling 0 NoParts else Node kinds.AddressSpaceAttribute token [] number NoParts) words)
 small-space true token spelling number words small others = (omega arith, others)
 small-space false token spelling number words small others = (small refl, others)
 
 -- so does the number that a token is, which can stand for a space and is no identifier
-small-id : (id : List ℕ) → is_space_id id ≡ true → is_identifier id ≡ false → number_of id < 2 ^ 32
+small-id : (id : List ℕ) → is_space_id id ≡ true → is_plain_identifier id ≡ false → number_of id < 2 ^ 32
 small-id id is_id no_identifier =
     ⊎_elim
-    (λ identifier. absurd (both_ways (is_identifier id) no_identifier identifier))
+    (λ identifier. absurd (both_ways (is_plain_identifier id) no_identifier identifier))
     (λ number. number.small)
     (space_id_cases id is_id)
 
 -- and so do those of words
-small-words : (token : ℕ) (words : List Word) → list_all word_fits words ≡ true → AreSmallNumbers (parts_of kinds.TypePart (word_trees token words))
+small-words : (token : ℕ) (words : List Word) → list_all word_fits words ≡ true → AreSmallNumbers (parts_of TypePart (word_trees token words))
 small-words token [] fits = tt
 small-words token (Noderef ∷ words) fits = (omega arith, small-words (token + length (word_spelled Noderef) + 1) words fits)
 small-words token (AddressSpace id ∷ words) fits =
     let parts = and_parts (is_space_id id) (list_all word_fits words) fits in
-    small-space (is_identifier id) token id (number_of id) (parts_of kinds.TypePart (word_trees (token + length (word_spelled (AddressSpace id)) + 1) words)) (small-id id parts.0)
+    small-space (is_plain_identifier id) token id (number_of id) (parts_of TypePart (word_trees (token + length (word_spelled (AddressSpace id)) + 1) words)) (small-id id parts.0)
     (small-words (token + length (word_spelled (AddressSpace id)) + 1) words parts.1)
 
 -- and of an attribute
 pub small-attribute :
-    (token : ℕ) (words : List Word) → list_all word_fits words ≡ true → HaveSmallNumbers (parts_of kinds.TypePart (attribute_trees token words))
+    (token : ℕ) (words : List Word) → list_all word_fits words ≡ true → HaveSmallNumbers (parts_of TypePart (attribute_trees token words))
 small-attribute token [] fits = tt
 small-attribute token (word ∷ words) fits = (small-words (token + 3) (word ∷ words) fits, tt)

@@ -2,7 +2,6 @@ pub mod BodyLemmas
 pub mod BuildLemmas
 pub mod CountLemmas
 pub mod FlagLemmas
-pub mod IdentifierLemmas
 pub mod ItemLemmas
 pub mod JudgeLemmas
 pub mod KnownLemmas

@@ -8,8 +8,7 @@ use Rattle.std.proofs.lemmas.Bool.{and_parts, or_cases, false≢true}
 use Rattle.std.proofs.lemmas.Bool.Decides.{nat_tests}
 use Rattle.std.proofs.lemmas.Str.Parse.{parse_digits}
 use Rattle.meaning_types.specs.Types.{NamedSpace, NumberedSpace}
-use Rattle.meaning_text.specs.Words.{is_identifier}
-use Rattle.meaning_syntax.specs.Words.{is_space_id, is_space_name, is_space_number}
+use Rattle.meaning_syntax.specs.Words.{is_plain_identifier, is_space_id, is_space_name, is_space_number}
 use Rattle.meaning_rules.specs.Typing.{space_of}
 use Rattle.first_form.proofs.NumberLemmas.{digits, digits_are_text}
 
@@ -32,7 +31,7 @@ number_parts (digit ∷ rest) is_number =
     }
 
 -- what can stand for a space is an identifier or a number
-pub space_id_cases : (spelling : List ℕ) → is_space_id spelling ≡ true → (is_identifier spelling ≡ true) ⊎ IsNumber spelling
+pub space_id_cases : (spelling : List ℕ) → is_space_id spelling ≡ true → (is_plain_identifier spelling ≡ true) ⊎ IsNumber spelling
 unfolding is_space_id is_space_name
 space_id_cases spelling is_id =
     ⊎_elim
@@ -41,7 +40,7 @@ space_id_cases spelling is_id =
     (or_cases _ _ is_id)
 
 -- a number, where it is no identifier
-number_unless_identifier : (spelling : List ℕ) → is_space_id spelling ≡ true → is_identifier spelling ≡ false → IsNumber spelling
+number_unless_identifier : (spelling : List ℕ) → is_space_id spelling ≡ true → is_plain_identifier spelling ≡ false → IsNumber spelling
 number_unless_identifier spelling is_id no_identifier =
     ⊎_elim
     (λ identifier. absurd (false≢true (sym no_identifier ∙ identifier)))
@@ -49,12 +48,12 @@ number_unless_identifier spelling is_id no_identifier =
     (space_id_cases spelling is_id)
 
 -- the space of an identifier has its name
-pub space_of_identifier : (spelling : List ℕ) → is_identifier spelling ≡ true → space_of spelling ≡ NamedSpace spelling
+pub space_of_identifier : (spelling : List ℕ) → is_plain_identifier spelling ≡ true → space_of spelling ≡ NamedSpace spelling
 space_of_identifier spelling identifier = rw identifier refl
 
 -- the space of any other has the number that its digits write
 pub numbered_by_digits :
-    (text spelling : List ℕ) (number : ℕ) → text ≡ spelling → is_space_id spelling ≡ true → is_identifier spelling ≡ false
+    (text spelling : List ℕ) (number : ℕ) → text ≡ spelling → is_space_id spelling ≡ true → is_plain_identifier spelling ≡ false
     → ParsesUnsigned {E = ℕ} 32 10 text (Ok number) → space_of spelling ≡ NumberedSpace number
 numbered_by_digits text spelling number same is_id no_identifier parses =
     let own = subst (λ (t : List ℕ). ParsesUnsigned {E = ℕ} 32 10 t (Ok number)) same parses in
@@ -62,12 +61,12 @@ numbered_by_digits text spelling number same is_id no_identifier parses =
     rw no_identifier (ap NumberedSpace (sym read.1))
 
 -- these digits are a text
-pub number_is_text : (spelling : List ℕ) → is_space_id spelling ≡ true → is_identifier spelling ≡ false → IsUtf8 spelling
+pub number_is_text : (spelling : List ℕ) → is_space_id spelling ≡ true → is_plain_identifier spelling ≡ false → IsUtf8 spelling
 number_is_text spelling is_id no_identifier = digits_are_text spelling (number_unless_identifier spelling is_id no_identifier).all_digits
 
 -- and their number is read
 pub number_is_read :
-    {A : Type 0} (text spelling : List ℕ) → text ≡ spelling → is_space_id spelling ≡ true → is_identifier spelling ≡ false
+    {A : Type 0} (text spelling : List ℕ) → text ≡ spelling → is_space_id spelling ≡ true → is_plain_identifier spelling ≡ false
     → ParsesUnsigned {E = ℕ} 32 10 text (Err 0) → A
 number_is_read text spelling same is_id no_identifier parses =
     let unread = subst (λ (t : List ℕ). ParsesUnsigned {E = ℕ} 32 10 t (Err 0)) same parses in

@@ -1,11 +1,11 @@
 -- The trees of words, stars, statements and items that are left begin with that of the next one.
 use Rattle.std.proofs.Common.{◌≡◌, ℕ, suc, zero, ◌+◌, ◌-◌, ◌<◌, ◌≤◌, Bool, true, false, if◌then◌else◌, List, [], ◌∷◌, length, map, drop, slice_index_or, refl, sym, ap, ◌∙◌, arith}
 use Rattle.std.proofs.lemmas.List.{drop_more}
-use Rattle.meaning_tree.specs.Kinds.{AddressSpaceAttribute, AttributeList, PointerDeclarator, TypePart}
+use Rattle.vocabulary.specs.declared.node_kind.NodeKind.TheVariants.{AddressSpaceAttribute, AttributeList, PointerDeclarator}
+use Rattle.vocabulary.specs.declared.role.Role.TheVariants.{TypePart}
 use Rattle.meaning_tree.specs.Trees.{Node, NoParts, parts_of}
 use Rattle.meaning_types.specs.Types.{NamedSpace, NumberedSpace}
-use Rattle.meaning_text.specs.Words.{is_identifier}
-use Rattle.meaning_syntax.specs.Words.{number_of}
+use Rattle.meaning_syntax.specs.Words.{is_plain_identifier, number_of}
 use Rattle.meaning_syntax.specs.Items.{AddressSpace, word_spelled}
 use Rattle.meaning_syntax.specs.Trees.{plain_node, attribute_trees, item_tree, item_trees, leaf, star_trees, statement_tree, statement_trees, word_tree, word_trees}
 use Rattle.meaning_rules.specs.Typing.{space_of}
@@ -85,7 +85,7 @@ word_tree-number_if false token id value number is = cc
 pub word_tree-number :
     (token : ℕ) (id : List ℕ) (number : ℕ) → space_of id ≡ NumberedSpace number
     → word_tree token (AddressSpace id) ≡ Node AddressSpaceAttribute token [] number NoParts
-word_tree-number token id number is = word_tree-number_if (is_identifier id) token id (number_of id) number is
+word_tree-number token id number is = word_tree-number_if (is_plain_identifier id) token id (number_of id) number is
 
 -- and what is read as a name has that and no number
 word_tree-name_if : (named : Bool) (token : ℕ) (id : List ℕ) (value : ℕ) → (if named then NamedSpace id else NumberedSpace value) ≡ NamedSpace id
@@ -94,4 +94,4 @@ word_tree-name_if true token id value is = refl
 word_tree-name_if false token id value is = absurd (cc)
 
 pub word_tree-name : (token : ℕ) (id : List ℕ) → space_of id ≡ NamedSpace id → word_tree token (AddressSpace id) ≡ Node AddressSpaceAttribute token id 0 NoParts
-word_tree-name token id is = word_tree-name_if (is_identifier id) token id (number_of id) is
+word_tree-name token id is = word_tree-name_if (is_plain_identifier id) token id (number_of id) is

@@ -5,7 +5,7 @@ use Rattle.std.proofs.lemmas.Bool.{and_parts}
 use Rattle.std.proofs.lemmas.List.{length-map}
 use Rattle.std.proofs.lemmas.List.Concat.{flat_map-append}
 use Rattle.std.proofs.lemmas.List.Elements.{All-nil, All-weaker}
-use Rattle.meaning_tree.specs.Kinds.{Evaluated}
+use Rattle.vocabulary.specs.declared.role.Role.TheVariants.{Evaluated}
 use Rattle.meaning_tree.specs.Trees.{parts_of}
 use Rattle.meaning_tree.specs.Nodes.{NodeList, end_of}
 use Rattle.meaning_syntax.specs.Items as syntax

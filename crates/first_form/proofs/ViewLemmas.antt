@@ -3,8 +3,9 @@ use Rattle.std.proofs.Common.{◌≡◌, ℕ, zero, suc, ◌+◌, ◌-◌, List,
 use Rattle.std.proofs.lemmas.Option.{same_Some, slice_get-map, slice_get_within}
 use Rattle.c_tokens.specs.Seen.{text_of}
 use Rattle.c_tree.specs.Seen.{HasNodeWith}
-use Rattle.meaning_tree.specs.Kinds as kinds
-use Rattle.meaning_tree.specs.Kinds.{NodeKind}
+use Rattle.vocabulary.specs.declared.node_kind.NodeKind.TheVariants as kinds
+use Rattle.vocabulary.specs.declared.role.Role.TheVariants.{TypePart}
+use Rattle.vocabulary.specs.declared.node_kind.NodeKind.{NodeKind}
 use Rattle.meaning_tree.specs.Trees.{SyntaxTree, Node, NoParts, Part, parts_of}
 use Rattle.meaning_tree.specs.Nodes.{TreeNode, NodeList, HasNode}
 use Rattle.meaning_tree.proofs.Finding.{node_unique}
@@ -197,20 +198,20 @@ found-assign names unit left right result no_star no_address found first (syntax
 -- Declarations
 
 -- there are as many parts as stars
-pub part_count-stars : (token stars : ℕ) → part_count (parts_of kinds.TypePart (star_trees token stars)) ≡ stars
+pub part_count-stars : (token stars : ℕ) → part_count (parts_of TypePart (star_trees token stars)) ≡ stars
 part_count-stars token zero = refl
 part_count-stars token (suc stars) = omega (arith, part_count-stars (token + 1) stars)
 
 -- a child among stars shows a star, and further stars stand behind it
 pub star-first :
     (names : List (List ℕ)) (unit : NodeList NameId) (list children : List (ℕ × ℕ)) (child : ℕ × ℕ) (token stars : ℕ) → list ≡ child ∷ children
-    → ShowParts names unit list (parts_of kinds.TypePart (star_trees token stars))
-    → Shows names unit child.0 (leaf kinds.PointerDeclarator token) × ((next left : ℕ) × ShowParts names unit children (parts_of kinds.TypePart (star_trees next left)))
+    → ShowParts names unit list (parts_of TypePart (star_trees token stars))
+    → Shows names unit child.0 (leaf kinds.PointerDeclarator token) × ((next left : ℕ) × ShowParts names unit children (parts_of TypePart (star_trees next left)))
 star-first names unit list children child token stars begins show =
-    first stars (subst (λ (l : List (ℕ × ℕ)). ShowParts names unit l (parts_of kinds.TypePart (star_trees token stars))) begins show)
+    first stars (subst (λ (l : List (ℕ × ℕ)). ShowParts names unit l (parts_of TypePart (star_trees token stars))) begins show)
   where
-    first : (stars : ℕ) → ShowParts names unit (child ∷ children) (parts_of kinds.TypePart (star_trees token stars))
-        → Shows names unit child.0 (leaf kinds.PointerDeclarator token) × ((next left : ℕ) × ShowParts names unit children (parts_of kinds.TypePart (star_trees next left)))
+    first : (stars : ℕ) → ShowParts names unit (child ∷ children) (parts_of TypePart (star_trees token stars))
+        → Shows names unit child.0 (leaf kinds.PointerDeclarator token) × ((next left : ℕ) × ShowParts names unit children (parts_of TypePart (star_trees next left)))
     first zero show = absurd show
     first (suc stars) show = (show.1, (token + 1, stars, show.2))
 

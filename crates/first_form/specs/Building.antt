@@ -1,11 +1,11 @@
 -- What is added to the nodes of a unit while the tree of its items is built.
 use Rattle.std.specs.Prelude.{◌≡◌, ℕ, ◌+◌, List}
 use Rattle.c_tokens.specs.Seen.{IsKnown, text_of}
-use Rattle.meaning_tree.specs.Kinds.{NodeKind}
+use Rattle.vocabulary.specs.declared.node_kind.NodeKind.{NodeKind}
 use Rattle.meaning_tree.specs.Trees.{SyntaxTree, Node}
 use Rattle.meaning_tree.specs.Nodes.{TreeNode, NodeList, Grows, StandsFor, StandFor, end_of}
 use Rattle.meaning_syntax.specs.Trees.{SyntaxParts, plain_node}
-use Rattle.vocabulary.specs.Numbers.{role_tag}
+use Rattle.vocabulary.specs.Roles.{role_tag}
 use Rattle.sparse_model.specs.declared.ids.NameId.{NameId}
 use Rattle.vocabulary.specs.declared.role.Role.{Role}
 use Rattle.first_form.specs.Nodes.{AreKnownNodes, spelled}

@@ -3,7 +3,8 @@ use Rattle.std.specs.Prelude.{◌≡◌, ℕ, ◌+◌, ◌<◌, ◌^◌, List, [
 use Rattle.c_tokens.specs.Seen.{IsKnown, text_of}
 use Rattle.c_tokens.specs.Spellings.{AreApart}
 use Rattle.meaning_types.specs.Types.{Flags}
-use Rattle.meaning_tree.specs.Kinds.{CompoundStatement, Evaluated}
+use Rattle.vocabulary.specs.declared.node_kind.NodeKind.TheVariants.{CompoundStatement}
+use Rattle.vocabulary.specs.declared.role.Role.TheVariants.{Evaluated}
 use Rattle.meaning_tree.specs.Trees.{SyntaxTree, Node, NoParts, Part, parts_of}
 use Rattle.meaning_tree.specs.Nodes.{NodeList, StandFor, StandsFor}
 use Rattle.meaning_syntax.specs.Items as syntax

@@ -2,7 +2,6 @@ ghost use Rattle.std.specs.Prelude.{◌≡◌, ◌+◌, ◌*◌, ◌^◌, ◌<�
 ghost use Rattle.std.specs.List.{flat_map, list_all, sum_by};
 ghost use Rattle.c_tokens.specs.Seen.{IsKnown, text_of};
 ghost use Rattle.c_tree.specs.Seen.{most_nodes};
-ghost use Rattle.meaning_tree.specs.Kinds as kinds;
 ghost use Rattle.meaning_tree.specs.Nodes.{end_of};
 ghost use Rattle.meaning_tree.specs.Trees.{parts_of};
 ghost use Rattle.meaning_syntax.specs.Items as syntax;
@@ -52,7 +51,7 @@ fn add_items(
     requires tokens { sum_by counts.token_count items.now < 2 ^ 30 }
     requires room { 2 * end_of unit.old + 3 * sum_by counts.token_count items.now ≤ 2 * most_nodes }
     ensures adds { IfOk result (λ children. AddsParts names.now unit.old unit.new children
-        (parts_of kinds.Evaluated (trees.item_trees 0 (items_of names.now items.now)))) }
+        (parts_of Role.Evaluated (trees.item_trees 0 (items_of names.now items.now)))) }
     ensures few { OnOk result (2 * end_of unit.new
         ≤ 2 * end_of unit.old + 3 * sum_by counts.token_count items.now) }
 {
@@ -165,7 +164,7 @@ fn add_attribute(
     requires tokens { token + counts.attribute_count words.now < 2 ^ 30 }
     requires room { end_of unit.old + counts.attribute_count words.now ≤ most_nodes }
     ensures adds { IfOk result (λ handle. Adds names.now unit.old unit.new handle
-        (trees.plain_node kinds.AttributeList token (parts_of kinds.TypePart
+        (trees.plain_node NodeKind.AttributeList token (parts_of Role.TypePart
         (trees.word_trees (token + 3) (map (word_of names.now) words.now))))) }
     ensures few { OnOk result (end_of unit.new ≤ end_of unit.old + counts.attribute_count words.now) }
 {
@@ -186,7 +185,7 @@ fn add_words(
     requires tokens { first + sum_by counts.further_word_count words.now < 2 ^ 30 }
     requires room { end_of unit.old + sum_by counts.further_word_count words.now ≤ most_nodes }
     ensures adds { IfOk result (λ children. AddsParts names.now unit.old unit.new children
-        (parts_of kinds.TypePart (trees.word_trees first (map (word_of names.now) words.now)))) }
+        (parts_of Role.TypePart (trees.word_trees first (map (word_of names.now) words.now)))) }
     ensures few { OnOk result (end_of unit.new
         ≤ end_of unit.old + sum_by counts.further_word_count words.now) }
 {
@@ -284,7 +283,7 @@ fn add_stars(
     requires tokens { token + stars < 2 ^ 30 }
     requires room { end_of unit.old + stars ≤ most_nodes }
     ensures adds { IfOk result (λ children. AddsParts names.now unit.old unit.new children
-        (parts_of kinds.TypePart (trees.star_trees token stars))) }
+        (parts_of Role.TypePart (trees.star_trees token stars))) }
     ensures few { OnOk result (end_of unit.new ≡ end_of unit.old + stars) }
 {
     let mut children = TagList::new(alloc);
@@ -403,7 +402,7 @@ fn add_statements(
     requires tokens { first + sum_by counts.statement_count statements.now < 2 ^ 30 }
     requires room { end_of unit.old + sum_by counts.statement_count statements.now ≤ most_nodes }
     ensures adds { IfOk result (λ children. AddsParts names.now unit.old unit.new children
-        (parts_of kinds.Evaluated (trees.statement_trees first (map (statement_of names.now) statements.now)))) }
+        (parts_of Role.Evaluated (trees.statement_trees first (map (statement_of names.now) statements.now)))) }
     ensures few { OnOk result (end_of unit.new
         ≤ end_of unit.old + sum_by counts.statement_count statements.now) }
 {

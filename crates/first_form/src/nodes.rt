@@ -1,7 +1,7 @@
 // Nodes that are added to a unit, whatever they are nodes of.
 ghost use Rattle.std.specs.Prelude.{◌≡◌, ◌+◌, ◌^◌, ◌<◌, ◌≤◌, [], All, IfOk, OnOk, length, map};
 ghost use Rattle.c_tokens.specs.Seen.{IsKnown};
-ghost use Rattle.c_tree.specs.Seen.{kind_of, most_nodes};
+ghost use Rattle.c_tree.specs.Seen.{most_nodes};
 ghost use Rattle.meaning_tree.specs.Nodes.{end_of};
 ghost use Rattle.meaning_syntax.specs.Trees as trees;
 ghost use Rattle.first_form.specs.Building.{Adds, AddsOver, AddsPlain, child_of};
@@ -28,7 +28,7 @@ pub(crate) fn add(
     requires room { end_of unit.old < most_nodes }
     requires inside { AreNodes unit.old children }
     ensures adds { IfOk result (AddsOver unit.old unit.new (record {
-      kind = kind_of kind;
+      kind = kind;
       token = token;
       name = name;
       number = number;
@@ -60,7 +60,7 @@ pub(crate) fn add_plain(
 ) -> Result<Handle, AllocError>
     requires room { end_of unit.old < most_nodes }
     requires inside { AreNodes unit.old children }
-    ensures adds { IfOk result (AddsPlain names.now unit.old unit.new (kind_of kind) token children) }
+    ensures adds { IfOk result (AddsPlain names.now unit.old unit.new kind token children) }
     ensures few { OnOk result (end_of unit.new ≡ end_of unit.old + 1) }
 {
     names.apart();
@@ -76,7 +76,7 @@ pub(crate) fn add_leaf(
     token: u32,
 ) -> Result<Handle, AllocError>
     requires room { end_of unit.old < most_nodes }
-    ensures adds { IfOk result (λ handle. Adds names.now unit.old unit.new handle (trees.leaf (kind_of kind) token)) }
+    ensures adds { IfOk result (λ handle. Adds names.now unit.old unit.new handle (trees.leaf kind token)) }
     ensures few { OnOk result (end_of unit.new ≡ end_of unit.old + 1) }
 {
     add_plain(names, unit, kind, token, TagList::new(alloc))
@@ -95,7 +95,7 @@ pub(crate) fn add_over(
     requires room { end_of unit.old < most_nodes }
     requires inside { AreNodes unit.old (map child_of parts.now) }
     ensures adds { IfOk result
-        (AddsPlain names.now unit.old unit.new (kind_of kind) token (map child_of parts.now)) }
+        (AddsPlain names.now unit.old unit.new kind token (map child_of parts.now)) }
     ensures few { OnOk result (end_of unit.new ≡ end_of unit.old + 1) }
 {
     add_plain(names, unit, kind, token, children(alloc, parts)?)

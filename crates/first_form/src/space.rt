@@ -3,7 +3,7 @@ ghost use Rattle.meaning_types.specs.Types.{NamedSpace, NumberedSpace};
 ghost use Rattle.meaning_syntax.specs.Words as words;
 ghost use Rattle.meaning_rules.specs.Typing as typing;
 
-use crate::identifier::is_identifier;
+use crate::identifier::is_plain_identifier;
 use std::str;
 
 // The number that a token is which can stand for a space, and which is an identifier otherwise.
@@ -13,7 +13,7 @@ pub(crate) fn number_of(spelling: &[u8]) -> Option<u32>
     ensures number { IfSome result (λ number. typing.space_of spelling.now ≡ NumberedSpace number) }
     ensures name { IfNone result (typing.space_of spelling.now ≡ NamedSpace spelling.now) }
 {
-    if is_identifier(spelling) {
+    if is_plain_identifier(spelling) {
         return None;
     }
     let Ok(text) = str::from_utf8(spelling) else {

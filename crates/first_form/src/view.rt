@@ -5,13 +5,13 @@ ghost use Rattle.std.specs.List.{list_all};
 ghost use Rattle.std.specs.Option.{IsSomeAnd};
 ghost use Rattle.c_tokens.specs.Seen.{IsKnown, text_of};
 ghost use Rattle.meaning_types.specs.Types.{Flags, no_flags};
-ghost use Rattle.meaning_tree.specs.Kinds as kinds;
-ghost use Rattle.meaning_tree.specs.Kinds.{Role, TypePart};
+ghost use Rattle.vocabulary.specs.declared.role.Role.{Role};
+ghost use Rattle.vocabulary.specs.declared.role.Role.TheVariants.{TypePart};
 ghost use Rattle.meaning_tree.specs.Trees.{NoParts, Node, Part, SyntaxTree, parts_of};
 ghost use Rattle.meaning_syntax.specs.Items as syntax;
 ghost use Rattle.meaning_syntax.specs.Trees.{SyntaxParts, address_tree, function_tree, indirection_tree, item_tree, name_tree, object_tree, plain_node, star_trees, statement_tree};
 ghost use Rattle.meaning_rules.specs.Bindings.{flagged_by, flags_behind, flags_behind_words, space_named, specified_flags};
-ghost use Rattle.c_tree.specs.Seen.{HasNodeWith, kind_of};
+ghost use Rattle.c_tree.specs.Seen.{HasNodeWith};
 ghost use Rattle.first_form.specs.Known.{IsKnownSpace, IsKnownStatement};
 ghost use Rattle.first_form.specs.Nodes.{AreKnownNodes, AreNodes, IsNode};
 ghost use Rattle.first_form.specs.Seen.{space_of, statement_of};
@@ -135,7 +135,7 @@ fn assign_address(unit: &Unit, left: Handle, right: Handle) -> Option<Statement>
 
 fn has_kind(unit: &Unit, node: Handle, kind: NodeKind) -> bool
     requires { IsNode unit.now node }
-    ensures { IsTrue result ↔ HasNodeWith unit.now node (λ found. found.kind ≡ kind_of kind) }
+    ensures { IsTrue result ↔ HasNodeWith unit.now node (λ found. found.kind ≡ kind) }
 {
     unit.kind(node) == kind
 }
@@ -145,7 +145,7 @@ fn name_at(unit: &Unit, node: Handle, kind: NodeKind) -> Option<NameId>
     requires { IsNode unit.now node }
     ensures known { (names : List (List ℕ)) → AreKnownNodes names unit.now → IfSome result (IsKnown names) }
     ensures name { (names : List (List ℕ)) (token : ℕ) (spelling : List ℕ) (number : ℕ) (parts : SyntaxParts)
-        → Shows names unit.now node (Node (kind_of kind) token spelling number parts)
+        → Shows names unit.now node (Node kind token spelling number parts)
         → IsSomeAnd result (λ name. text_of names name ≡ spelling) }
 {
     if has_kind(unit, node, kind) {
@@ -160,7 +160,7 @@ pub(crate) fn children_of(unit: &Unit, node: Handle, kind: NodeKind) -> Option<&
     requires { IsNode unit.now node }
     ensures inside { IfSome result (λ children. AreNodes unit.now children.now) }
     ensures parts { (names : List (List ℕ)) (token : ℕ) (spelling : List ℕ) (number : ℕ) (parts : SyntaxParts)
-        → Shows names unit.now node (Node (kind_of kind) token spelling number parts)
+        → Shows names unit.now node (Node kind token spelling number parts)
         → IsSomeAnd result (λ children. ShowParts names unit.now children.now parts) }
 {
     // Children stand before their parents, so they are nodes of the unit.
@@ -177,7 +177,7 @@ fn only_child(unit: &Unit, node: Handle, kind: NodeKind) -> Option<Handle>
     requires { IsNode unit.now node }
     ensures inside { IfSome result (IsNode unit.now) }
     ensures child { (names : List (List ℕ)) (token : ℕ) (role : Role) (tree : SyntaxTree)
-        → Shows names unit.now node (plain_node (kind_of kind) token (Part role tree NoParts))
+        → Shows names unit.now node (plain_node kind token (Part role tree NoParts))
         → IsSomeAnd result (λ child. Shows names unit.now child tree) }
 {
     let children = children_of(unit, node, kind)?;
@@ -193,7 +193,7 @@ fn two_children(unit: &Unit, node: Handle, kind: NodeKind) -> Option<(Handle, Ha
     requires { IsNode unit.now node }
     ensures inside { IfSome result (λ children. IsNode unit.now children.0 × IsNode unit.now children.1) }
     ensures children { (names : List (List ℕ)) (token : ℕ) (role other : Role) (left right : SyntaxTree)
-        → Shows names unit.now node (plain_node (kind_of kind) token (Part role left (Part other right NoParts)))
+        → Shows names unit.now node (plain_node kind token (Part role left (Part other right NoParts)))
         → IsSomeAnd result (λ children. Shows names unit.now children.0 left × Shows names unit.now children.1 right) }
 {
     let children = children_of(unit, node, kind)?;
@@ -210,7 +210,7 @@ fn three_children(unit: &Unit, node: Handle, kind: NodeKind) -> Option<(Handle, 
     ensures inside { IfSome result
         (λ children. IsNode unit.now children.0 × IsNode unit.now children.1 × IsNode unit.now children.2) }
     ensures children { (names : List (List ℕ)) (token : ℕ) (a b c : Role) (first second third : SyntaxTree)
-        → Shows names unit.now node (plain_node (kind_of kind) token
+        → Shows names unit.now node (plain_node kind token
         (Part a first (Part b second (Part c third NoParts))))
         → IsSomeAnd result (λ children. Shows names unit.now children.0 first
         × Shows names unit.now children.1 second × Shows names unit.now children.2 third) }
@@ -280,7 +280,7 @@ fn star_count(unit: &Unit, declarator: Handle) -> Option<u32>
     requires { IsNode unit.now declarator }
     ensures { (names : List (List ℕ)) (token at : ℕ) (spelling : List ℕ) (stars : ℕ)
         → Shows names unit.now declarator
-        (Node kinds.Declarator token spelling 0 (parts_of TypePart (star_trees at stars)))
+        (Node NodeKind.Declarator token spelling 0 (parts_of TypePart (star_trees at stars)))
         → IsSomeAnd result (λ count. count ≡ stars) }
 {
     let parts = children_of(unit, declarator, NodeKind::Declarator)?;
@@ -297,7 +297,7 @@ fn specified_int(unit: &Unit, specifiers: Handle) -> Option<ObjectType>
     requires { IsNode unit.now specifiers }
     ensures { (names : List (List ℕ)) → IsTableOf names unit.now
         → (token : ℕ) (parts : SyntaxParts) → HaveSmallNumbers parts
-        → Shows names unit.now specifiers (plain_node kinds.Specifiers token parts)
+        → Shows names unit.now specifiers (plain_node NodeKind.Specifiers token parts)
         → IsSomeAnd result (HasFlags names (specified_flags no_flags parts)) }
 {
     let mut object = ObjectType::INT;
@@ -311,7 +311,7 @@ fn specified_int(unit: &Unit, specifiers: Handle) -> Option<ObjectType>
 fn behind_specifier(unit: &Unit, specifier: Handle, object: ObjectType) -> Option<ObjectType>
     requires { IsNode unit.now specifier }
     ensures { (names : List (List ℕ)) → IsTableOf names unit.now
-        → (kind : kinds.NodeKind) (token : ℕ) (spelling : List ℕ) (number : ℕ) (words : SyntaxParts) → AreSmallNumbers words
+        → (kind : NodeKind) (token : ℕ) (spelling : List ℕ) (number : ℕ) (words : SyntaxParts) → AreSmallNumbers words
         → Shows names unit.now specifier (Node kind token spelling number words)
         → (flags : Flags) → HasFlags names flags object
         → IsSomeAnd result (HasFlags names (flags_behind kind flags words)) }
@@ -327,7 +327,7 @@ fn behind_words(unit: &Unit, list: Handle, object: ObjectType) -> Option<ObjectT
     requires { IsNode unit.now list }
     ensures { (names : List (List ℕ)) → IsTableOf names unit.now
         → (token : ℕ) (spelling : List ℕ) (number : ℕ) (words : SyntaxParts) → AreSmallNumbers words
-        → Shows names unit.now list (Node kinds.AttributeList token spelling number words)
+        → Shows names unit.now list (Node NodeKind.AttributeList token spelling number words)
         → (flags : Flags) → HasFlags names flags object
         → IsSomeAnd result (HasFlags names (flags_behind_words flags words)) }
 {
@@ -342,7 +342,7 @@ fn behind_words(unit: &Unit, list: Handle, object: ObjectType) -> Option<ObjectT
 fn behind_word(unit: &Unit, word: Handle, object: ObjectType) -> Option<ObjectType>
     requires { IsNode unit.now word }
     ensures { (names : List (List ℕ)) → IsTableOf names unit.now
-        → (kind : kinds.NodeKind) (token : ℕ) (spelling : List ℕ) (number : ℕ) (parts : SyntaxParts) → number < 2 ^ 32
+        → (kind : NodeKind) (token : ℕ) (spelling : List ℕ) (number : ℕ) (parts : SyntaxParts) → number < 2 ^ 32
         → Shows names unit.now word (Node kind token spelling number parts)
         → (flags : Flags) → HasFlags names flags object
         → IsSomeAnd result (HasFlags names (flagged_by kind spelling number flags)) }
@@ -364,7 +364,7 @@ fn behind_word(unit: &Unit, word: Handle, object: ObjectType) -> Option<ObjectTy
 fn space_at(unit: &Unit, word: Handle) -> Option<Space>
     requires { IsNode unit.now word }
     ensures { (names : List (List ℕ)) → IsTableOf names unit.now
-        → (kind : kinds.NodeKind) (token : ℕ) (spelling : List ℕ) (number : ℕ) (parts : SyntaxParts) → number < 2 ^ 32
+        → (kind : NodeKind) (token : ℕ) (spelling : List ℕ) (number : ℕ) (parts : SyntaxParts) → number < 2 ^ 32
         → Shows names unit.now word (Node kind token spelling number parts)
         → IsSomeAnd result (λ space. (space_of names space ≡ space_named spelling number) × IsKnownSpace names space) }
 {

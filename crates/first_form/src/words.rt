@@ -1,7 +1,5 @@
 ghost use Rattle.meaning_syntax.specs.Words.{
   begins_with_two_underscores,
-  declaration_keywords,
-  is_among,
   is_keyword,
   is_name,
   is_plain_decimal,
@@ -11,23 +9,22 @@ ghost use Rattle.meaning_syntax.specs.Words.{
   is_space_name,
   is_space_number,
   number_of,
-  statement_keywords,
-  underscore_keywords,
 };
 ghost use Rattle.std.specs.Char.{is_ascii_digit};
 ghost use Rattle.std.specs.List.{list_all, list_any};
 ghost use Rattle.std.specs.Prelude.{◌≡◌, ◌<◌, length, nat_le, true};
 ghost use Rattle.std.specs.Str.{bytes_eq};
 
-use crate::identifier::is_identifier;
+use crate::identifier::is_plain_identifier;
 use std::str;
+use vocabulary::{KEYWORDS, PREDEFINED_MACROS, RESERVED_WORDS};
 
 /// Whether the token can name an object or a function.
 #[tactic(auto, unfolding(meaning_syntax::specs::Words::is_name))]
 pub(crate) fn is_name(text: &[u8]) -> bool
     ensures { result ≡ is_name text.now }
 {
-    is_identifier(text)
+    is_plain_identifier(text)
         && !is_keyword(text)
         && !is_reserved(text)
         && !begins_with_two_underscores(text)
@@ -45,7 +42,7 @@ pub(crate) fn is_space_id(text: &[u8]) -> bool
 fn is_space_name(text: &[u8]) -> bool
     ensures { result ≡ is_space_name text.now }
 {
-    is_identifier(text) && !is_keyword(text) && !is_predefined_macro(text)
+    is_plain_identifier(text) && !is_keyword(text) && !is_predefined_macro(text)
 }
 
 #[tactic(auto, unfolding(meaning_syntax::specs::Words::is_space_number))]
@@ -95,110 +92,25 @@ fn begins_with_two_underscores(text: &[u8]) -> bool
 fn is_keyword(text: &[u8]) -> bool
     ensures { result ≡ is_keyword text.now }
 {
-    is_declaration_keyword(text) || is_statement_keyword(text) || is_underscore_keyword(text)
-}
-
-fn is_declaration_keyword(text: &[u8]) -> bool
-    ensures { result ≡ is_among text.now declaration_keywords }
-{
-    is_one_of(
-        text,
-        &[
-            b"auto",
-            b"char",
-            b"const",
-            b"double",
-            b"enum",
-            b"extern",
-            b"float",
-            b"inline",
-            b"int",
-            b"long",
-            b"register",
-            b"restrict",
-            b"short",
-            b"signed",
-            b"static",
-            b"struct",
-            b"typedef",
-            b"union",
-            b"unsigned",
-            b"void",
-            b"volatile",
-        ],
-    )
-}
-
-fn is_statement_keyword(text: &[u8]) -> bool
-    ensures { result ≡ is_among text.now statement_keywords }
-{
-    is_one_of(
-        text,
-        &[
-            b"break",
-            b"case",
-            b"continue",
-            b"default",
-            b"do",
-            b"else",
-            b"for",
-            b"goto",
-            b"if",
-            b"return",
-            b"sizeof",
-            b"switch",
-            b"while",
-        ],
-    )
-}
-
-fn is_underscore_keyword(text: &[u8]) -> bool
-    ensures { result ≡ is_among text.now underscore_keywords }
-{
-    is_one_of(
-        text,
-        &[
-            b"_Alignas",
-            b"_Alignof",
-            b"_Atomic",
-            b"_Bool",
-            b"_Complex",
-            b"_Generic",
-            b"_Imaginary",
-            b"_Noreturn",
-            b"_Static_assert",
-            b"_Thread_local",
-        ],
-    )
+    is_one_of(text, &KEYWORDS)
 }
 
 #[tactic(auto, unfolding(meaning_syntax::specs::Words::is_reserved))]
 fn is_reserved(text: &[u8]) -> bool
     ensures { result ≡ is_reserved text.now }
 {
-    is_one_of(text, &[b"asm", b"typeof", b"_Pragma"])
+    is_one_of(text, &RESERVED_WORDS)
 }
 
 #[tactic(auto, unfolding(meaning_syntax::specs::Words::is_predefined_macro))]
 fn is_predefined_macro(text: &[u8]) -> bool
     ensures { result ≡ is_predefined_macro text.now }
 {
-    is_one_of(
-        text,
-        &[
-            b"__CHECKER__",
-            b"__STDC__",
-            b"__STDC_VERSION__",
-            b"__LP64__",
-            b"__FILE__",
-            b"__LINE__",
-            b"__COUNTER__",
-        ],
-    )
+    is_one_of(text, &PREDEFINED_MACROS)
 }
 
-fn is_one_of(text: &[u8], words: &[&[u8]]) -> bool
+fn is_one_of(text: &[u8], words: &[&str]) -> bool
     ensures { result ≡ list_any (λ word. bytes_eq text.now word.now) words.now }
 {
-    words.iter().any(|word| text == *word)
+    words.iter().any(|word| text == word.as_bytes())
 }

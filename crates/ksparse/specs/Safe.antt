@@ -5,11 +5,10 @@ use Rattle.meaning_outside.specs.Loads.{Loaded, AgreesWith}
 use Rattle.meaning_text.specs.Tokens.{Tok, LexesFile}
 use Rattle.meaning_text.specs.Terminals.{terminals_of}
 use Rattle.meaning_tree.specs.Trees.{SyntaxTree}
-use Rattle.meaning_syntax.specs.Trees.{Derives}
+use Rattle.meaning_syntax.specs.Trees.{Derives, IsInForm}
 use Rattle.meaning_text.specs.Places.{main_file}
 use Rattle.meaning_answer.specs.Reply.{Ending, Clean}
 use Rattle.meaning_answer.specs.Command.{Request, BadWord, MissingFile, Check, request_of}
-use Rattle.meaning_answer.specs.Answer.{IsInForm}
 use Rattle.meaning_machine.specs.Runs.{IsSafe}
 
 -- The text is a unit, and each unit that it is is safe.

@@ -6,7 +6,7 @@ use Rattle.meaning_outside.specs.Files.{FileMap, file_at}
 use Rattle.meaning_text.specs.Tokens.{Tok, LexFault, LexesFile, OpensFile}
 use Rattle.meaning_text.specs.Terminals.{terminals_of}
 use Rattle.meaning_tree.specs.Trees.{SyntaxTree}
-use Rattle.meaning_syntax.specs.Trees.{Derives}
+use Rattle.meaning_syntax.specs.Trees.{Derives, IsInForm}
 use Rattle.meaning_rules.specs.Failures.{Failure, IsListing}
 use Rattle.meaning_text.specs.Places.{main_file}
 use Rattle.meaning_rules.specs.Text.{warnings_text}
@@ -32,10 +32,6 @@ pub record IsChecked (text : List ℕ) (tokens : List Tok) (unit : SyntaxTree) (
   pub lexes : LexesFile main_file text tokens
   pub derives : Derives (terminals_of tokens) unit
   pub is_listing : IsListing unit failures
-
--- the text is a unit of the first form
-abbrev pub IsInForm : List ℕ → Type 0
-IsInForm text = (tokens : List Tok) × (unit : SyntaxTree) × LexesFile main_file text tokens × Derives (terminals_of tokens) unit
 
 -- the reply tells the failures of the unit that the text is
 abbrev pub TellsFailures : List ℕ → List ℕ → Reply → Type 0

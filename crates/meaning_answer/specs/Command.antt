@@ -1,6 +1,7 @@
 -- What the words of a command ask for.
 use Rattle.std.specs.Prelude.{ℕ, Bool, false, ◌||◌, ◌==◌, List, [], ◌∷◌, codes, if◌then◌else◌}
-use Rattle.meaning_syntax.specs.Words.{is_among}
+use Rattle.std.specs.List.{list_any}
+use Rattle.std.specs.Str.{bytes_eq}
 
 pub data Request : Type 0 where
   -- the first word that no rule allows, and where it stands among the words, from 0
@@ -13,7 +14,7 @@ pub data Request : Type 0 where
 -- words that stand for other commands where they are the first
 abbrev pub is_command : List ℕ → Bool
 is_command word =
-    is_among word (codes "eval" ∷ codes "gen" ∷ codes "link" ∷ codes "index" ∷ codes "annotate" ∷ [])
+    list_any (bytes_eq word) (codes "eval" ∷ codes "gen" ∷ codes "link" ∷ codes "index" ∷ codes "annotate" ∷ [])
 
 -- the hyphen, with which an option begins
 abbrev pub hyphen : ℕ

@@ -1,9 +1,8 @@
 -- Blocks keep what they are made for, and dead ones stay dead.
 use Rattle.std.proofs.Common.{◌≡◌, ℕ, zero, suc, Bool, true, false, List, [], ◌∷◌, Option, Some, None, slice_get, slice_set, nat_lt, if◌then◌else◌, refl, ap, ◌∙◌}
 use Rattle.meaning_types.specs.Types.{flags_of, has_flag}
-use Rattle.meaning_tree.specs.Trees.{SyntaxTree}
+use Rattle.meaning_tree.specs.Trees.{SyntaxTree, external_parts}
 use Rattle.meaning_rules.specs.Bindings.{Binding}
-use Rattle.meaning_rules.specs.Evaluation.{external_parts}
 use Rattle.meaning_machine.specs.Values.{Value, Integer, Pointer, Spot, Null, Foreign, In, Place, Block}
 use Rattle.meaning_machine.specs.Outcomes.{DeadBlock, OutOfBounds, ReadOnly, FaultKind, AccessFault, Answer, Gives, IsFault, IsUndefined}
 use Rattle.meaning_machine.specs.Memory.{adopt, load, store, store_block, block_with, is_read_only}

@@ -6,8 +6,7 @@ use Rattle.std.specs.Int.Signed.{le_z_yes}
 use Rattle.std.proofs.lemmas.Bool.{and_parts, false≢true, eqb-true, leb-true}
 use Rattle.std.proofs.lemmas.Option.{none-some, same_Some}
 use Rattle.meaning_types.specs.Types.{TypeTree, Typed, BaseTree, IntegerTree, PointerTree}
-use Rattle.meaning_tree.specs.Trees.{SyntaxTree}
-use Rattle.meaning_rules.specs.Evaluation.{external_parts}
+use Rattle.meaning_tree.specs.Trees.{SyntaxTree, external_parts}
 use Rattle.meaning_types.proofs.Equality.{are_equal_kinds-Decides, are_similar-Decides}
 use Rattle.meaning_machine.specs.Values.{Spot, Null, Foreign, In, Value, Integer, Pointer, Made, ForObject, ForFunction, Block, HasElements, SpotFits, ValueFits, Fits}
 use Rattle.meaning_machine.specs.Memory.{content_at, block_with}

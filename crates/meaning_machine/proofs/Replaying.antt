@@ -5,8 +5,7 @@ use Rattle.std.specs.Option.{option_and_then}
 use Rattle.std.proofs.lemmas.Bool.{and_from, eq-eqb, le-leb}
 use Rattle.meaning_types.specs.Types.{TypeTree, Typed, BaseTree, IntegerTree, PointerTree}
 use Rattle.meaning_types.proofs.Equality.{are_equal_kinds-Decides, are_similar-Decides}
-use Rattle.meaning_tree.specs.Trees.{SyntaxTree}
-use Rattle.meaning_rules.specs.Evaluation.{external_parts}
+use Rattle.meaning_tree.specs.Trees.{SyntaxTree, external_parts}
 use Rattle.meaning_machine.specs.Values.{Spot, Null, Foreign, In, Value, Integer, Pointer, Block, HasElements, SpotFits, ValueFits, Fits}
 use Rattle.meaning_machine.specs.Code.{ValueCode}
 use Rattle.meaning_machine.specs.Machine.{Outcome, Next, Done, Undefined, Fault, step}

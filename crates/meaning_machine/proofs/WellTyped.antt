@@ -8,15 +8,15 @@ use Rattle.std.proofs.lemmas.List.Concat.{flat_map-append}
 use Rattle.std.proofs.lemmas.List.Elements.{All-nil, All-cons, Contains-append_left, Contains-append_right}
 use Rattle.meaning_types.specs.Types.{Flags, TypeTree, PointerTree, flags_of, has_flag, value_type, bare}
 use Rattle.meaning_types.specs.Spaces.{MixSpaces}
-use Rattle.meaning_tree.specs.Kinds.{Evaluated}
-use Rattle.meaning_tree.specs.Trees.{SyntaxTree, parts_of}
+use Rattle.vocabulary.specs.declared.role.Role.TheVariants.{Evaluated}
+use Rattle.meaning_tree.specs.Trees.{SyntaxTree, parts_of, external_parts}
 use Rattle.meaning_syntax.specs.Items.{Statement, Assign, AssignThrough, AssignAddress, Item, Object, Function, statement_spelled, item_spelled}
 use Rattle.meaning_syntax.specs.Binding.{Declared, item_statements, object_of, have_equal_stars, has_one_star_more, statement_binds, are_bound}
 use Rattle.meaning_syntax.specs.Trees.{IsInFirstForm, statement_tree, statement_trees, item_tree, item_trees, unit_tree}
 use Rattle.meaning_rules.specs.Bindings.{Binding, pointer_to, type_in}
 use Rattle.meaning_rules.specs.Expressions.{target_of}
 use Rattle.meaning_rules.specs.Typing.{behind_stars, int_with, declared_type}
-use Rattle.meaning_rules.specs.Evaluation.{Access, Conversion, InAssignment, access_at, assignment_at, external_parts, accesses_in, conversions_in}
+use Rattle.meaning_rules.specs.Evaluation.{Access, Conversion, InAssignment, access_at, assignment_at, accesses_in, conversions_in}
 use Rattle.meaning_rules.specs.Placed.{Placed, placed_body, placed_behind, placed_in, tokens_before_body, statement_accesses, statement_conversions, placed_accesses, placed_conversions, item_binding}
 use Rattle.meaning_rules.specs.Failures.{IsListing, access_failure, conversion_failure}
 use Rattle.meaning_types.specs.Equality.{are_equal_flags}

@@ -6,10 +6,9 @@ use Rattle.std.proofs.lemmas.Option.{get_or_from_slice_get, slice_get_within}
 use Rattle.vocabulary.specs.declared.int_kind.IntKind.{IntKind}
 use Rattle.vocabulary.specs.declared.int_kind.IntKind.TheVariants as kinds
 use Rattle.meaning_types.specs.Types.{TypeTree, Typed, IntegerTree, PointerTree}
-use Rattle.meaning_tree.specs.Trees.{SyntaxTree}
+use Rattle.meaning_tree.specs.Trees.{SyntaxTree, external_parts}
 use Rattle.meaning_syntax.specs.Trees.{IsInFirstForm}
 use Rattle.meaning_rules.specs.Bindings.{Binding}
-use Rattle.meaning_rules.specs.Evaluation.{external_parts}
 use Rattle.meaning_rules.specs.Failures.{IsListing}
 use Rattle.meaning_machine.specs.Values.{Value, Block, IsInRange}
 use Rattle.meaning_machine.specs.Outcomes.{FaultKind}

@@ -1,7 +1,8 @@
 -- The code that the machine runs: what is to be evaluated, each node with the token at which it stands.
 use Rattle.std.specs.Prelude.{ℕ, List, [], ◌∷◌, Option, Some, None}
-use Rattle.meaning_tree.specs.Kinds.{NodeKind, FunctionDefinition, CompoundStatement, ExpressionStatement, Name, Indirection, Address}
-use Rattle.meaning_tree.specs.Kinds as kinds
+use Rattle.vocabulary.specs.declared.node_kind.NodeKind.{NodeKind}
+use Rattle.vocabulary.specs.declared.node_kind.NodeKind.TheVariants.{FunctionDefinition, CompoundStatement, ExpressionStatement, Name, Indirection, Address}
+use Rattle.vocabulary.specs.declared.node_kind.NodeKind.TheVariants as kinds
 use Rattle.meaning_tree.specs.Trees.{SyntaxTree, Node, NoParts, Part}
 use Rattle.meaning_syntax.specs.Trees.{SyntaxParts}
 

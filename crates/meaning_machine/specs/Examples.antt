@@ -3,7 +3,7 @@ use Rattle.std.specs.Prelude.{◌≡◌, ℕ, ◌+◌, suc, zero, true, false, p
 use Rattle.std.specs.List.{flat_map, list_all}
 use Rattle.vocabulary.specs.declared.int_kind.IntKind.TheVariants.{Int}
 use Rattle.meaning_types.specs.Types.{no_flags, TypeTree, Typed, IntegerTree}
-use Rattle.meaning_tree.specs.Kinds.{CompoundStatement, ExpressionStatement}
+use Rattle.vocabulary.specs.declared.node_kind.NodeKind.TheVariants.{CompoundStatement, ExpressionStatement}
 use Rattle.meaning_tree.specs.Trees.{SyntaxTree}
 use Rattle.meaning_syntax.specs.Items.{Noderef, Statement, Assign, AssignThrough, AssignAddress, Item, Object, item_fits}
 use Rattle.meaning_syntax.specs.Binding.{are_bound}

@@ -4,8 +4,7 @@ use Rattle.std.specs.Option.{option_and_then}
 use Rattle.meaning_types.specs.Types.{TypeTree, Typed, BaseTree, IntegerTree, PointerTree}
 use Rattle.meaning_types.specs.Ranges.{least, greatest}
 use Rattle.meaning_types.specs.Equality.{are_equal_kinds, are_similar}
-use Rattle.meaning_tree.specs.Trees.{SyntaxTree}
-use Rattle.meaning_rules.specs.Evaluation.{external_parts}
+use Rattle.meaning_tree.specs.Trees.{SyntaxTree, external_parts}
 use Rattle.meaning_machine.specs.Values.{Spot, Null, Foreign, In, Value, Integer, Pointer, Made, ForObject, ForFunction, Block}
 use Rattle.meaning_machine.specs.Memory.{content_at, block_with}
 use Rattle.meaning_machine.specs.Code.{ValueCode}

@@ -1,10 +1,9 @@
 -- Runs: lists of moves from the opening world, for any number of activities in any order.
 use Rattle.std.specs.Prelude.{◌≡◌, ◌≢◌, ℕ, suc, zero, true, pos, List, [], ◌∷◌, ◌++◌, Option, Some, None, map, false, slice_get, slice_set}
 use Rattle.meaning_types.specs.Types.{TypeTree, Typed, BaseTree, IntegerTree, PointerTree}
-use Rattle.meaning_tree.specs.Trees.{SyntaxTree, NoParts, Part}
+use Rattle.meaning_tree.specs.Trees.{SyntaxTree, NoParts, Part, external_parts}
 use Rattle.meaning_syntax.specs.Trees.{SyntaxParts}
 use Rattle.meaning_rules.specs.Bindings.{Binding, bindings_of}
-use Rattle.meaning_rules.specs.Evaluation.{external_parts}
 use Rattle.meaning_machine.specs.Values.{Null, Value, Integer, Pointer, ForObject, ForFunction, Block, Fits}
 use Rattle.meaning_machine.specs.Outcomes.{FaultKind}
 use Rattle.meaning_machine.specs.Memory.{content_at, block_with}

@@ -5,10 +5,11 @@ use Rattle.std.specs.Str.{bytes_eq}
 use Rattle.std.proofs.lemmas.List.Concat.{flat_map-append}
 use Rattle.std.proofs.lemmas.List.{append-nil, map-append}
 use Rattle.meaning_types.specs.Types.{NamedSpace, NumberedSpace, Flags, no_flags, TypeTree}
-use Rattle.meaning_tree.specs.Kinds.{NodeKind, AddressSpaceAttribute, Declarator, CompoundStatement, Evaluated, TypePart}
+use Rattle.vocabulary.specs.declared.node_kind.NodeKind.{NodeKind}
+use Rattle.vocabulary.specs.declared.node_kind.NodeKind.TheVariants.{AddressSpaceAttribute, Declarator, CompoundStatement}
+use Rattle.vocabulary.specs.declared.role.Role.TheVariants.{Evaluated, TypePart}
 use Rattle.meaning_tree.specs.Trees.{SyntaxTree, Node, NoParts, Part, parts_of}
-use Rattle.meaning_text.specs.Words.{is_identifier}
-use Rattle.meaning_syntax.specs.Words.{number_of}
+use Rattle.meaning_syntax.specs.Words.{is_plain_identifier, number_of}
 use Rattle.meaning_syntax.specs.Items.{Word, Noderef, AddressSpace, Statement, Assign, AssignThrough, AssignAddress, Item, Object, Function, statement_spelled, item_spelled, word_spelled, attribute_spelled}
 use Rattle.meaning_syntax.specs.Binding.{Declared, item_statements, item_name, item_declared, object_of}
 use Rattle.meaning_syntax.specs.Trees.{SyntaxParts, statement_tree, statement_trees, word_tree, word_trees, attribute_trees, star_trees, item_tree, item_trees, unit_tree}
@@ -53,7 +54,7 @@ flags_behind_words-words token (AddressSpace [] ∷ words) flags =
     flags_behind_words-words (token + length (word_spelled (AddressSpace [])) + 1) words (record flags { space = space_of [] })
 flags_behind_words-words token (AddressSpace (byte ∷ id) ∷ words) flags =
     let behind : ℕ = token + length (word_spelled (AddressSpace (byte ∷ id))) + 1 in
-    flags-space (is_identifier (byte ∷ id)) byte id (number_of (byte ∷ id)) token flags (parts_of TypePart (word_trees behind words))
+    flags-space (is_plain_identifier (byte ∷ id)) byte id (number_of (byte ∷ id)) token flags (parts_of TypePart (word_trees behind words))
     ∙ flags_behind_words-words behind words (record flags { space = space_of (byte ∷ id) })
 
 -- so do the specifiers
@@ -157,7 +158,7 @@ stars-conversions scope token (suc stars) = stars-conversions scope (token + 1) 
 
 word-conversions : (scope : List Binding) (token : ℕ) (word : Word) → conversions_of scope (word_tree token word) ≡ []
 word-conversions scope token Noderef = refl
-word-conversions scope token (AddressSpace id) = space-conversions (is_identifier id)
+word-conversions scope token (AddressSpace id) = space-conversions (is_plain_identifier id)
   where
     space-conversions :
         (test : Bool) →

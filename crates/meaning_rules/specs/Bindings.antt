@@ -3,7 +3,8 @@ use Rattle.std.specs.Prelude.{ℕ, true, List, [], ◌∷◌, ◌++◌, Option, 
 use Rattle.std.specs.Str.{bytes_eq}
 use Rattle.vocabulary.specs.declared.int_kind.IntKind.TheVariants.{Int}
 use Rattle.meaning_types.specs.Types.{Space, NumberedSpace, NamedSpace, Flags, no_flags, no_qualifiers, TypeTree, Typed, BaseTree, IntegerTree, PointerTree}
-use Rattle.meaning_tree.specs.Kinds.{NodeKind, Declaration, FunctionDefinition, Specifiers, IntSpecifier, AttributeList, NoderefAttribute, AddressSpaceAttribute, Declarator, PointerDeclarator}
+use Rattle.vocabulary.specs.declared.node_kind.NodeKind.{NodeKind}
+use Rattle.vocabulary.specs.declared.node_kind.NodeKind.TheVariants.{Declaration, FunctionDefinition, Specifiers, IntSpecifier, AttributeList, NoderefAttribute, AddressSpaceAttribute, Declarator, PointerDeclarator}
 use Rattle.meaning_tree.specs.Trees.{SyntaxTree, Node, NoParts, Part}
 use Rattle.meaning_syntax.specs.Trees.{SyntaxParts}
 

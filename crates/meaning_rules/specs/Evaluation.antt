@@ -1,8 +1,10 @@
 -- Which places a unit reads and writes, and which values it converts, by its tree.
 use Rattle.std.specs.Prelude.{ℕ, zero, ◌+◌, List, [], ◌∷◌, ◌++◌, Option, Some, None}
 use Rattle.meaning_types.specs.Types.{TypeTree}
-use Rattle.meaning_tree.specs.Kinds.{NodeKind, TranslationUnit, Address, Assignment, Evaluated, Condition, TypePart, Unevaluated}
-use Rattle.meaning_tree.specs.Trees.{SyntaxTree, Node, NoParts, Part}
+use Rattle.vocabulary.specs.declared.node_kind.NodeKind.{NodeKind}
+use Rattle.vocabulary.specs.declared.node_kind.NodeKind.TheVariants.{Address, Assignment}
+use Rattle.vocabulary.specs.declared.role.Role.TheVariants.{Evaluated, Condition, TypePart, Unevaluated}
+use Rattle.meaning_tree.specs.Trees.{SyntaxTree, Node, NoParts, Part, external_parts}
 use Rattle.meaning_syntax.specs.Trees.{SyntaxParts}
 use Rattle.meaning_rules.specs.Bindings.{Binding, bindings_of}
 use Rattle.meaning_rules.specs.Expressions.{Fact, row, facts_of}
@@ -88,11 +90,6 @@ abbrev mutual
   parts_conversions scope (Part role tree parts) = conversions_of scope tree ++ parts_conversions scope parts
 
 -- The unit: each declaration and each function in the scope of those before it
-
--- the declarations and functions of a unit
-abbrev pub external_parts : SyntaxTree → SyntaxParts
-external_parts (Node TranslationUnit token name number parts) = parts
-external_parts (Node kind token name number parts) = NoParts
 
 -- what the declarations and functions of a unit have, if this gives what one of them has in a scope
 abbrev pub gathered : {A : Type 0} → (List Binding → SyntaxTree → List A) → List Binding → SyntaxParts → List A

@@ -2,7 +2,8 @@
 use Rattle.std.specs.Prelude.{ℕ, List, [], ◌∷◌, Option, Some, None, option_map}
 use Rattle.std.specs.Option.{option_and_then}
 use Rattle.meaning_types.specs.Types.{TypeTree, Typed, IntegerTree, PointerTree, value_type}
-use Rattle.meaning_tree.specs.Kinds.{NodeKind, Name, Indirection, Address, Assignment}
+use Rattle.vocabulary.specs.declared.node_kind.NodeKind.{NodeKind}
+use Rattle.vocabulary.specs.declared.node_kind.NodeKind.TheVariants.{Name, Indirection, Address, Assignment}
 use Rattle.meaning_tree.specs.Trees.{SyntaxTree, Node, NoParts, Part}
 use Rattle.meaning_syntax.specs.Trees.{SyntaxParts}
 use Rattle.meaning_rules.specs.Bindings.{Binding, pointer_to, type_in}

@@ -1,7 +1,8 @@
 -- Worked examples: what single expressions and declarations are read, write, convert and bind, in a small scope.
 use Rattle.std.specs.Prelude.{◌≡◌, true, List, [], ◌∷◌, ◌++◌, Some, None, codes}
 use Rattle.meaning_types.specs.Types.{NoSpace, NamedSpace, NumberedSpace, Flags, no_flags, TypeTree}
-use Rattle.meaning_tree.specs.Kinds.{Declaration, Specifiers, ExternSpecifier, IntSpecifier, AttributeList, NoderefAttribute, AddressSpaceAttribute, ExpressionStatement, Evaluated, Condition, TypePart, Unevaluated}
+use Rattle.vocabulary.specs.declared.node_kind.NodeKind.TheVariants.{Declaration, Specifiers, ExternSpecifier, IntSpecifier, AttributeList, NoderefAttribute, AddressSpaceAttribute, ExpressionStatement}
+use Rattle.vocabulary.specs.declared.role.Role.TheVariants.{Evaluated, Condition, TypePart, Unevaluated}
 use Rattle.meaning_tree.specs.Trees.{SyntaxTree, Node, NoParts, Part, parts_of}
 use Rattle.meaning_syntax.specs.Items.{Noderef, AddressSpace, Assign, Object}
 use Rattle.meaning_syntax.specs.Trees.{plain_node, leaf, one_part, two_parts, name_tree, assignment_tree, indirection_tree, address_tree, declarator_tree, object_tree, function_declarator, function_tree, unit_tree}

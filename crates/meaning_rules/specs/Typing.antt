@@ -4,7 +4,7 @@ use Rattle.std.specs.Option.{option_and_then}
 use Rattle.std.specs.Str.Parse.{digits_value}
 use Rattle.vocabulary.specs.declared.int_kind.IntKind.TheVariants.{Int}
 use Rattle.meaning_types.specs.Types.{Space, NumberedSpace, NamedSpace, Flags, no_flags, no_qualifiers, TypeTree, Typed, IntegerTree, value_type}
-use Rattle.meaning_text.specs.Words.{is_identifier}
+use Rattle.meaning_syntax.specs.Words.{is_plain_identifier}
 use Rattle.meaning_syntax.specs.Items.{Word, Noderef, AddressSpace, Item}
 use Rattle.meaning_syntax.specs.Binding.{Declared, object_of}
 use Rattle.meaning_rules.specs.Bindings.{pointer_to}
@@ -12,7 +12,7 @@ use Rattle.meaning_rules.specs.Expressions.{target_of}
 
 -- the space that an attribute names by an identifier or a number
 abbrev pub space_of : List ℕ → Space
-space_of id = if is_identifier id then NamedSpace id else NumberedSpace (digits_value 10 id)
+space_of id = if is_plain_identifier id then NamedSpace id else NumberedSpace (digits_value 10 id)
 
 -- the flags behind some more words of an attribute; a later space replaces an earlier one
 abbrev pub flagged : Flags → List Word → Flags

@@ -1,8 +1,10 @@
 -- Worked examples: files whose items one can tell by eye, and the nearest ones that are refused.
-use Rattle.std.specs.Prelude.{◌≡◌, ℕ, true, false, List, [], ◌∷◌, ◌++◌, length, Some, None, codes, is_some, ◌==◌, if◌then◌else◌}
+use Rattle.std.specs.Prelude.{◌≡◌, ℕ, Bool, true, false, List, [], ◌∷◌, Some, None, codes, is_some, ◌==◌, if◌then◌else◌}
 use Rattle.std.specs.List.{list_any}
+use Rattle.vocabulary.specs.Words.{WordTable}
+use Rattle.vocabulary.specs.declared.words.TheConstants.{KEYWORDS, PREDEFINED_MACROS}
 use Rattle.meaning_text.specs.Bytes.{space}
-use Rattle.meaning_syntax.specs.Words.{declaration_keywords, statement_keywords, underscore_keywords, is_name, is_space_id}
+use Rattle.meaning_syntax.specs.Words.{is_name, is_space_id}
 use Rattle.meaning_syntax.specs.Items.{Item, Object, Function, Noderef, AddressSpace, Assign, AssignThrough, AssignAddress}
 use Rattle.meaning_syntax.specs.Reading.{Texts, read_items, read_unit}
 
@@ -42,13 +44,9 @@ IsNoSpace id = IsNoItems (pointer_in id)
 abbrev pub IsUnbound : Texts → Type 0
 IsUnbound texts = (is_some (read_items texts) ≡ true) × (read_unit texts ≡ None)
 
--- all keywords, in the order of C11 6.4.1
-abbrev pub keywords_in_order : Texts
-keywords_in_order =
-    spaced
-    (codes "auto break case char const continue default do double else enum extern float for goto if inline int long register "
-    ++ codes "restrict return short signed sizeof static struct switch typedef union unsigned void volatile while _Alignas _Alignof "
-    ++ codes "_Atomic _Bool _Complex _Generic _Imaginary _Noreturn _Static_assert _Thread_local")
+-- no word of this table passes the test
+abbrev pub PassesNone : (List ℕ → Bool) → WordTable → Type 0
+PassesNone test words = list_any (λ word. test word.now) words ≡ false
 
 -- what is read
 pub record ReadExamples : Type 0 where
@@ -61,7 +59,6 @@ pub record ReadExamples : Type 0 where
       ∷ [])
   pub three_stars : IsReadAs (spaced (codes "extern int * * * p ;")) (Object [] 3 (codes "p") ∷ [])
   pub one_underscore : IsReadAs (spaced (codes "extern int _x ;")) (Object [] 0 (codes "_x") ∷ [])
-  pub universal_name : IsReadAs (spaced (codes "extern int \\u00e9 ;")) (Object [] 0 (codes "\\u00e9") ∷ [])
   pub no_statement : IsReadAs (spaced (codes "void f ( void ) { }")) (Function (codes "f") [] ∷ [])
   pub through_pointer : IsReadAs (spaced (codes "extern int * p ; extern int x ; void f ( void ) { * p = x ; }"))
       (Object [] 1 (codes "p") ∷ Object [] 0 (codes "x") ∷ Function (codes "f") (AssignThrough (codes "p") (codes "x") ∷ []) ∷ [])
@@ -75,12 +72,13 @@ pub record ReadExamples : Type 0 where
 
 -- what isn't spelled as items
 pub record MisspelledExamples : Type 0 where
-  pub keyword_count : length (declaration_keywords ++ statement_keywords ++ underscore_keywords) ≡ 44
-  pub no_keyword_is_a_name : list_any is_name keywords_in_order ≡ false
+  pub no_keyword_is_a_name : PassesNone is_name KEYWORDS
   pub four_stars : IsNoItems (spaced (codes "extern int * * * * p ;"))
   pub keyword_as_name : IsNoItems (spaced (codes "extern int while ;"))
   pub character_as_name : IsNoItems (spaced (codes "extern int L'a' ;"))
   pub string_as_name : IsNoItems (spaced (codes "extern int u8\"a\" ;"))
+  pub universal_name : IsNoItems (spaced (codes "extern int \\u00e9 ;"))
+  pub universal_name_behind_a_letter : IsNoItems (spaced (codes "extern int a\\U000000e9 ;"))
   pub two_underscores : IsNoItems (spaced (codes "extern int __x ;"))
   pub reserved_name : IsNoItems (spaced (codes "extern int asm ;"))
   pub typeof_name : IsNoItems (spaced (codes "extern int typeof ;"))
@@ -115,14 +113,13 @@ pub record SpaceExamples : Type 0 where
   pub one : IsSpace (codes "1")
   pub largest : IsSpace (codes "4294967295")
   pub asm_word : IsSpace (codes "asm")
-  pub universal_name : IsSpace (codes "\\u00e9")
+  pub universal_name : IsNoSpace (codes "\\u00e9")
   pub character : IsNoSpace (codes "L'a'")
   pub zero : IsNoSpace (codes "0")
   pub leading_zero : IsNoSpace (codes "01")
   pub too_large : IsNoSpace (codes "4294967296")
   pub keyword : IsNoSpace (codes "int")
-  pub no_keyword : list_any is_space_id keywords_in_order ≡ false
+  pub no_keyword : PassesNone is_space_id KEYWORDS
   pub predefined_macro : IsNoSpace (codes "__LINE__")
-  pub no_predefined_macro :
-      list_any is_space_id (spaced (codes "__CHECKER__ __STDC__ __STDC_VERSION__ __LP64__ __FILE__ __LINE__ __COUNTER__")) ≡ false
+  pub no_predefined_macro : PassesNone is_space_id PREDEFINED_MACROS
   pub digits_and_letters : IsNoSpace (codes "1u")

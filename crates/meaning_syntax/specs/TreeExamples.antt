@@ -1,6 +1,7 @@
 -- Worked examples: the trees of small units, node by node.
 use Rattle.std.specs.Prelude.{◌≡◌, List, [], ◌∷◌, codes}
-use Rattle.meaning_tree.specs.Kinds.{TranslationUnit, Declaration, FunctionDefinition, Specifiers, ExternSpecifier, IntSpecifier, VoidSpecifier, AttributeList, NoderefAttribute, AddressSpaceAttribute, Declarator, PointerDeclarator, FunctionDeclarator, Parameter, CompoundStatement, ExpressionStatement, Assignment, Indirection, Address, Name, Evaluated, TypePart}
+use Rattle.vocabulary.specs.declared.node_kind.NodeKind.TheVariants.{TranslationUnit, Declaration, FunctionDefinition, Specifiers, ExternSpecifier, IntSpecifier, VoidSpecifier, AttributeList, NoderefAttribute, AddressSpaceAttribute, Declarator, PointerDeclarator, FunctionDeclarator, Parameter, CompoundStatement, ExpressionStatement, Assignment, Indirection, Address, Name}
+use Rattle.vocabulary.specs.declared.role.Role.TheVariants.{Evaluated, TypePart}
 use Rattle.meaning_tree.specs.Trees.{SyntaxTree, Node, NoParts, Part, parts_of}
 use Rattle.meaning_syntax.specs.Items.{Item, Object, Function, Noderef, AddressSpace, Assign, AssignThrough, AssignAddress}
 use Rattle.meaning_syntax.specs.Trees.{SyntaxParts, word_trees, statement_tree, statement_trees, unit_tree}

@@ -2,10 +2,14 @@
 -- has the empty spelling.
 use Rattle.std.specs.Prelude.{◌≡◌, ℕ, suc, zero, ◌+◌, true, List, [], ◌∷◌, length, if◌then◌else◌}
 use Rattle.std.specs.List.{list_all}
-use Rattle.meaning_tree.specs.Kinds.{NodeKind, TranslationUnit, Declaration, FunctionDefinition, Specifiers, ExternSpecifier, IntSpecifier, VoidSpecifier, AttributeList, NoderefAttribute, AddressSpaceAttribute, Declarator, PointerDeclarator, FunctionDeclarator, Parameter, CompoundStatement, ExpressionStatement, Assignment, Indirection, Address, Name, Evaluated, TypePart}
+use Rattle.vocabulary.specs.declared.node_kind.NodeKind.{NodeKind}
+use Rattle.vocabulary.specs.declared.node_kind.NodeKind.TheVariants.{TranslationUnit, Declaration, FunctionDefinition, Specifiers, ExternSpecifier, IntSpecifier, VoidSpecifier, AttributeList, NoderefAttribute, AddressSpaceAttribute, Declarator, PointerDeclarator, FunctionDeclarator, Parameter, CompoundStatement, ExpressionStatement, Assignment, Indirection, Address, Name}
+use Rattle.vocabulary.specs.declared.role.Role.TheVariants.{Evaluated, TypePart}
+use Rattle.meaning_text.specs.Places.{main_file}
+use Rattle.meaning_text.specs.Tokens.{Tok, LexesFile}
+use Rattle.meaning_text.specs.Terminals.{terminals_of}
 use Rattle.meaning_tree.specs.Trees.{SyntaxTree, Node, Parts, NoParts, Part, parts_of}
-use Rattle.meaning_text.specs.Words.{is_identifier}
-use Rattle.meaning_syntax.specs.Words.{number_of}
+use Rattle.meaning_syntax.specs.Words.{is_plain_identifier, number_of}
 use Rattle.meaning_syntax.specs.Items.{Word, Noderef, AddressSpace, Statement, Assign, AssignThrough, AssignAddress, Item, Object, Function, word_spelled, attribute_spelled, statement_spelled, item_spelled, item_fits}
 use Rattle.meaning_syntax.specs.Binding.{are_bound}
 use Rattle.meaning_syntax.specs.Form.{IsUnit}
@@ -66,7 +70,7 @@ statement_trees first (statement ∷ statements) =
 abbrev pub word_tree : ℕ → Word → SyntaxTree
 word_tree token Noderef = leaf NoderefAttribute token
 word_tree token (AddressSpace id) =
-    if is_identifier id then Node AddressSpaceAttribute token id 0 NoParts
+    if is_plain_identifier id then Node AddressSpaceAttribute token id 0 NoParts
     else Node AddressSpaceAttribute token [] (number_of id) NoParts
 
 -- a comma stands before each further word
@@ -146,3 +150,8 @@ pub record Derives (texts : List (List ℕ)) (tree : SyntaxTree) : Type 0 where
   pub items : List Item
   pub is_unit : IsUnit texts items
   pub is_tree : tree ≡ unit_tree items
+
+-- the text of a file is a unit of the form
+abbrev pub IsInForm : List ℕ → Type 0
+IsInForm text =
+    (tokens : List Tok) × (unit : SyntaxTree) × LexesFile main_file text tokens × Derives (terminals_of tokens) unit

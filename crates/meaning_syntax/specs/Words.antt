@@ -1,59 +1,43 @@
--- Which words can be names, and which can name an address space. An identifier is one by its whole spelling: a
--- literal with a prefix begins like one.
-use Rattle.std.specs.Prelude.{ℕ, Bool, false, ◌&&◌, ◌||◌, ◌==◌, List, [], ◌∷◌, codes, not, nat_le}
+-- Which words can be names, and which can name an address space. A token is one by its whole spelling: a literal
+-- with a prefix begins like a name.
+use Rattle.std.specs.Prelude.{ℕ, Bool, false, ◌&&◌, ◌||◌, ◌==◌, List, [], ◌∷◌, not, nat_le}
 use Rattle.std.specs.List.{list_any, list_all}
 use Rattle.std.specs.Str.{bytes_eq}
 use Rattle.std.specs.Str.Parse.{digits_value}
 use Rattle.std.specs.Char.{is_ascii_digit}
-use Rattle.meaning_text.specs.Bytes.{underscore}
-use Rattle.meaning_text.specs.Words.{is_identifier}
+use Rattle.vocabulary.specs.Words.{WordTable}
+use Rattle.vocabulary.specs.declared.words.TheConstants.{KEYWORDS, RESERVED_WORDS, PREDEFINED_MACROS}
+use Rattle.meaning_text.specs.Bytes.{underscore, is_nondigit, is_word_byte}
 
--- the text is one of these
-abbrev pub is_among : List ℕ → List (List ℕ) → Bool
-is_among text texts = list_any (bytes_eq text) texts
+-- the text is one of these words
+abbrev pub is_among : List ℕ → WordTable → Bool
+is_among text words = list_any (λ word. bytes_eq text word.now) words
 
--- the keywords of types and declarations (C11 6.4.1)
-abbrev pub declaration_keywords : List (List ℕ)
-declaration_keywords =
-    codes "auto" ∷ codes "char" ∷ codes "const" ∷ codes "double" ∷ codes "enum" ∷ codes "extern" ∷ codes "float"
-    ∷ codes "inline" ∷ codes "int" ∷ codes "long" ∷ codes "register" ∷ codes "restrict" ∷ codes "short"
-    ∷ codes "signed" ∷ codes "static" ∷ codes "struct" ∷ codes "typedef" ∷ codes "union" ∷ codes "unsigned"
-    ∷ codes "void" ∷ codes "volatile" ∷ []
-
--- the keywords of statements and expressions (6.4.1)
-abbrev pub statement_keywords : List (List ℕ)
-statement_keywords =
-    codes "break" ∷ codes "case" ∷ codes "continue" ∷ codes "default" ∷ codes "do" ∷ codes "else" ∷ codes "for"
-    ∷ codes "goto" ∷ codes "if" ∷ codes "return" ∷ codes "sizeof" ∷ codes "switch" ∷ codes "while" ∷ []
-
--- the keywords with an underscore (6.4.1)
-abbrev pub underscore_keywords : List (List ℕ)
-underscore_keywords =
-    codes "_Alignas" ∷ codes "_Alignof" ∷ codes "_Atomic" ∷ codes "_Bool" ∷ codes "_Complex" ∷ codes "_Generic"
-    ∷ codes "_Imaginary" ∷ codes "_Noreturn" ∷ codes "_Static_assert" ∷ codes "_Thread_local" ∷ []
-
+-- a keyword (C11 6.4.1)
 unfoldable pub is_keyword : List ℕ → Bool
-is_keyword text =
-    is_among text declaration_keywords || is_among text statement_keywords || is_among text underscore_keywords
+is_keyword text = is_among text KEYWORDS
 
--- words that no keyword of C11 is and that can't be names all the same
+-- a word that no keyword of C11 is and that can't be a name all the same
 unfoldable pub is_reserved : List ℕ → Bool
-is_reserved text = is_among text (codes "asm" ∷ codes "typeof" ∷ codes "_Pragma" ∷ [])
+is_reserved text = is_among text RESERVED_WORDS
 
--- the macros that are defined before the first line
+-- a macro that is defined before the first line
 unfoldable pub is_predefined_macro : List ℕ → Bool
-is_predefined_macro text =
-    is_among text
-    (codes "__CHECKER__" ∷ codes "__STDC__" ∷ codes "__STDC_VERSION__" ∷ codes "__LP64__" ∷ codes "__FILE__" ∷ codes "__LINE__" ∷ codes "__COUNTER__" ∷ [])
+is_predefined_macro text = is_among text PREDEFINED_MACROS
 
 abbrev pub begins_with_two_underscores : List ℕ → Bool
 begins_with_two_underscores (a ∷ b ∷ text) = a == underscore && b == underscore
 begins_with_two_underscores text = false
 
+-- an identifier of letters, digits and underscores alone, without universal character names (6.4.2.1)
+abbrev pub is_plain_identifier : List ℕ → Bool
+is_plain_identifier [] = false
+is_plain_identifier (byte ∷ bytes) = is_nondigit byte && list_all is_word_byte bytes
+
 -- a token that can name an object or a function
 unfoldable pub is_name : List ℕ → Bool
 is_name text =
-    is_identifier text && not (is_keyword text) && not (is_reserved text) && not (begins_with_two_underscores text)
+    is_plain_identifier text && not (is_keyword text) && not (is_reserved text) && not (begins_with_two_underscores text)
 
 -- the value of decimal digits
 abbrev pub number_of : List ℕ → ℕ
@@ -69,7 +53,7 @@ unfoldable pub is_space_number : List ℕ → Bool
 is_space_number text = is_plain_decimal text && nat_le (number_of text) 4294967295
 
 unfoldable pub is_space_name : List ℕ → Bool
-is_space_name text = is_identifier text && not (is_keyword text) && not (is_predefined_macro text)
+is_space_name text = is_plain_identifier text && not (is_keyword text) && not (is_predefined_macro text)
 
 -- a token that can stand for an address space
 unfoldable pub is_space_id : List ℕ → Bool

@@ -1,7 +1,7 @@
 -- Which trees nodes stand for.
 use Rattle.std.proofs.Common.{◌≡◌, ℕ, zero, suc, ◌<◌, ◌≤◌, List, [], ◌∷◌, ◌++◌, refl, sym, subst, ◌∙◌, All, arith}
 use Rattle.std.proofs.lemmas.List.Elements.{All-head, All-tail, All-weaker}
-use Rattle.meaning_tree.specs.Kinds.{role_of}
+use Rattle.vocabulary.specs.Roles.{role_of}
 use Rattle.meaning_tree.specs.Trees.{Tree, Node, Parts, NoParts, Part, with_parts}
 use Rattle.meaning_tree.specs.Nodes.{TreeNode, NodeList, end_of, HasNode, StandsFor, StandFor, ChildrenStandBefore, Grows, joined, with_node}
 use Rattle.meaning_tree.proofs.Finding.{node_unique, HasNode-exists, HasNode-grows, HasNode-joined_front, HasNode-joined_part, HasNode-added, Grows-added}

@@ -1,6 +1,9 @@
 -- Worked examples: a few nodes, written out, and their trees.
 use Rattle.std.specs.Prelude.{◌≡◌, ℕ, List, [], ◌∷◌, map, codes}
-use Rattle.meaning_tree.specs.Kinds.{NodeKind, ExpressionStatement, Assignment, Name, Evaluated, Condition, TypePart, Unevaluated, tag_of}
+use Rattle.vocabulary.specs.declared.node_kind.NodeKind.{NodeKind}
+use Rattle.vocabulary.specs.declared.node_kind.NodeKind.TheVariants.{ExpressionStatement, Assignment, Name}
+use Rattle.vocabulary.specs.declared.role.Role.TheVariants.{Evaluated, Condition, TypePart, Unevaluated}
+use Rattle.vocabulary.specs.Roles.{role_tag}
 use Rattle.meaning_tree.specs.Trees.{SyntaxTree, Node, Parts, NoParts, Part, with_parts, parts_of}
 use Rattle.meaning_tree.specs.Nodes.{TreeNode, NodeList, IsTreeOf, ChildrenStandBefore, joined}
 
@@ -52,7 +55,7 @@ pub record PartExamples : Type 0 where
   pub behind_others :
       with_parts (Part Condition a_leaf NoParts) (Part Evaluated b_leaf NoParts) ≡ Part Condition a_leaf (Part Evaluated b_leaf NoParts)
   -- the tags by which lists of children keep roles
-  pub tags : map tag_of (Evaluated ∷ Condition ∷ TypePart ∷ Unevaluated ∷ []) ≡ 0 ∷ 1 ∷ 2 ∷ 3 ∷ []
+  pub tags : map role_tag (Evaluated ∷ Condition ∷ TypePart ∷ Unevaluated ∷ []) ≡ 0 ∷ 1 ∷ 2 ∷ 3 ∷ []
 
 -- a short list of nodes
 pub record NodeExamples : Type 0 where

@@ -1,12 +1,8 @@
 -- What holds of nodes and of the trees that they stand for, whatever names are.
 use Rattle.std.specs.Prelude.{◌≡◌, ℕ, ◌+◌, ◌<◌, ◌≤◌, List, [], ◌∷◌, ◌++◌, All}
-use Rattle.meaning_tree.specs.Kinds.{Role, role_of, tag_of}
+use Rattle.vocabulary.specs.Roles.{role_of}
 use Rattle.meaning_tree.specs.Trees.{Tree, Node, Parts, NoParts, Part, with_parts}
 use Rattle.meaning_tree.specs.Nodes.{TreeNode, NodeList, end_of, StandsFor, StandFor, ChildrenStandBefore, Grows, joined, with_node}
-
--- a role's tag is read as that role, so no two roles have one tag
-abbrev pub TagsKeepRoles : Type 0
-TagsKeepRoles = (role : Role) → role_of (tag_of role) ≡ role
 
 -- a node stands for at most one tree
 abbrev pub TreesAreUnique : Type 0 → Type 0

@@ -1,4 +1,3 @@
-pub mod Kinds
 pub mod Trees
 pub mod Nodes
 pub mod Laws

@@ -1,6 +1,7 @@
 -- The tree that a node stands for, in a list of nodes that name their children by handles.
 use Rattle.std.specs.Prelude.{◌≡◌, ℕ, ◌+◌, ◌-◌, ◌<◌, ◌≤◌, List, [], ◌∷◌, ◌++◌, Some, All, length, slice_get}
-use Rattle.meaning_tree.specs.Kinds.{NodeKind, role_of}
+use Rattle.vocabulary.specs.declared.node_kind.NodeKind.{NodeKind}
+use Rattle.vocabulary.specs.Roles.{role_of}
 use Rattle.meaning_tree.specs.Trees.{Tree, Node, Parts, NoParts, Part}
 
 -- a node, with the handle and the tag of each child

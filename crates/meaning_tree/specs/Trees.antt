@@ -1,6 +1,8 @@
 -- Trees: a node has a kind, the index of the token at which it stands, a name, a number, and parts in order.
 use Rattle.std.specs.Prelude.{ℕ, List, [], ◌∷◌}
-use Rattle.meaning_tree.specs.Kinds.{NodeKind, Role}
+use Rattle.vocabulary.specs.declared.node_kind.NodeKind.{NodeKind}
+use Rattle.vocabulary.specs.declared.node_kind.NodeKind.TheVariants.{TranslationUnit}
+use Rattle.vocabulary.specs.declared.role.Role.{Role}
 
 -- The type of names is left open: a spelling, or the number of one.
 mutual
@@ -24,3 +26,8 @@ with_parts (Part role tree parts) others = Part role tree (with_parts parts othe
 abbrev pub parts_of : {Spelling : Type 0} → Role → List (Tree Spelling) → Parts Spelling
 parts_of role [] = NoParts
 parts_of role (tree ∷ trees) = Part role tree (parts_of role trees)
+
+-- the declarations and functions of a unit (C11 6.9)
+abbrev pub external_parts : SyntaxTree → Parts (List ℕ)
+external_parts (Node TranslationUnit token name number parts) = parts
+external_parts (Node kind token name number parts) = NoParts

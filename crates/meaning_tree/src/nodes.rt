@@ -1,10 +1,5 @@
 ghost use Rattle.meaning_tree.specs.Examples.{NodeExamples, PartExamples};
-ghost use Rattle.meaning_tree.specs.Laws.{AddedNodeGrows, AddedNodeStands, AddedNodeStandsBehind, FurtherChildStands, GrowthIsReflexive, GrowthIsTransitive, JoinedPartGrows, JoinedStandBefore, NoTreesCome, NothingStandsBefore, PartsAreUnique, PartsStay, TagsKeepRoles, TreesAreUnique, TreesExist, TreesStay, TreesStayBehind, TreesStayInFront};
-
-/// A list of children keeps the role of each of them.
-pub fn tags_keep_roles()
-    ensures { TagsKeepRoles }
-{}
+ghost use Rattle.meaning_tree.specs.Laws.{AddedNodeGrows, AddedNodeStands, AddedNodeStandsBehind, FurtherChildStands, GrowthIsReflexive, GrowthIsTransitive, JoinedPartGrows, JoinedStandBefore, NoTreesCome, NothingStandsBefore, PartsAreUnique, PartsStay, TreesAreUnique, TreesExist, TreesStay, TreesStayBehind, TreesStayInFront};
 
 /// A node stands for at most one tree, and for one where children stand before their parents.
 pub fn each_node_stands_for_one_tree<Spelling>()

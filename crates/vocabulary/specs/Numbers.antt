@@ -1,9 +1,7 @@
--- The numbers by which users see rules and errors, and the tags of roles.
+-- The numbers by which users see rules and errors.
 use Rattle.std.specs.Prelude.{ℕ}
 use Rattle.vocabulary.specs.declared.rule.RuleCode.{RuleCode}
 use Rattle.vocabulary.specs.declared.rule.RuleCode.TheVariants.{A1, A2, A3, A4, A5, A6, A7, B1, B2, B3, B4, B5, B6, B7, C1, C2, C3, N1, S1, S2, S3, S4, S5, S6, S7, S8}
-use Rattle.vocabulary.specs.declared.role.Role.{Role}
-use Rattle.vocabulary.specs.declared.role.Role.TheVariants.{Evaluated, Condition, TypePart, Unevaluated}
 use Rattle.vocabulary.specs.declared.error_kind.ErrorKind.{ErrorKind}
 use Rattle.vocabulary.specs.declared.error_kind.ErrorKind.TheVariants.{NoSuchFile, IncludeNotFound, UnterminatedComment, UnterminatedLiteral, UnterminatedConditional, ConditionalWithoutIf, ConditionalAfterElse, MalformedDirective, UnknownDirective, MacroRedefined, BadMacroDefinition, WrongNumberOfMacroArguments, UnterminatedMacroCall, BadPaste, BadIfExpression, DivisionByZeroInIf, ErrorDirective, SyntaxError, NotDeclared, Redeclared, BadAttribute, BadNumber, NumberTooLarge, BadEscape, EmptyCharacterConstant, BadDeclaration, FormNotBuilt, FloatingType, InlineAssembly, ParameterWithoutType, NestedFunction, ComputedGoto, GenericSelection, AtomicType, ComplexType, ThreadLocal, Int128, LocalLabel, UniversalCharacterName, WideOrUtfLiteral, CaseRange, DesignatorRange, AutoType, Alignas, Builtin, PragmaOperator, QualifierInArrayBrackets, BadScriptLine, NotPlain, CannotDereference, CannotTakeAddress, NotModifiable, WrongOperandTypes, CalledObjectIsNoFunction, WrongNumberOfArguments, NoSuchMember, NoAggregate, VoidValueUsed, IncompleteType, IncompatibleTypes, BadCast, ConditionIsNotScalar, SwitchOnNoInteger, CaseLabelIsNotConstant, CaseValueUsedTwice, TwoDefaultLabels, LabelOutsideSwitch, JumpOutsideLoop, LabelIsNotDefined, LabelDefinedTwice, JumpIntoStatementExpression, ValueReturnedFromVoid, ReturnWithoutValue, VariableLengthArray, NegativeArraySize, BadElementType, BadResultType, BadBitField, RestrictedBitField, BitwiseOnNoInteger, EnumeratorIsNotConstant, EnumeratorOutOfRange, MemberDeclaredTwice, TagRedeclared, DefinedTwice, StaticAssertionFailed, ExtraInitializer, InitializerIsNotConstant, BadDesignator, TypedefHasAnotherType}
 
@@ -126,9 +124,3 @@ error_number ExtraInitializer = 98
 error_number InitializerIsNotConstant = 99
 error_number BadDesignator = 100
 error_number TypedefHasAnotherType = 101
-
-abbrev pub role_tag : Role → ℕ
-role_tag Evaluated = 0
-role_tag Condition = 1
-role_tag TypePart = 2
-role_tag Unevaluated = 3

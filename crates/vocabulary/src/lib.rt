@@ -1,5 +1,5 @@
 //! The lists of names on which the definitions and the code agree: kinds of tokens, of nodes and of
-//! integers, roles, rules and their classes, errors, limits.
+//! integers, roles, rules and their classes, errors, limits; and the tables of words.
 //!
 //! Definitions cite these types as they are declared here, so that each list stands once. Whatever has
 //! an id, a place in memory or a stack stands above.
@@ -13,12 +13,14 @@ mod node_kind;
 mod role;
 mod rule;
 mod token_kind;
+mod words;
 
 pub use class::Class;
 pub use error_kind::ErrorKind;
 pub use int_kind::IntKind;
 pub use limit::LimitKind;
 pub use node_kind::NodeKind;
-pub use role::Role;
+pub use role::{Role, tags_keep_roles};
 pub use rule::RuleCode;
 pub use token_kind::TokenKind;
+pub use words::{KEYWORDS, PREDEFINED_MACROS, RESERVED_WORDS, words_are_spelled};

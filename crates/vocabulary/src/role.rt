@@ -1,5 +1,5 @@
 ghost use Rattle.std.specs.Prelude.{◌≡◌};
-ghost use Rattle.vocabulary.specs.Numbers.{role_tag};
+ghost use Rattle.vocabulary.specs.Roles.{TagsKeepRoles, role_tag};
 
 /// What a part is for the node above it.
 #[derive(Clone, Copy, Debug, PartialEq, Eq)]
@@ -22,3 +22,8 @@ impl Role {
         self as u8
     }
 }
+
+/// A list of children keeps the role of each of them.
+pub fn tags_keep_roles()
+    ensures { TagsKeepRoles }
+{}

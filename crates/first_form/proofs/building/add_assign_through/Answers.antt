@@ -1,4 +1,4 @@
-use Rattle.meaning_tree.specs.Kinds.{Evaluated}
+use Rattle.vocabulary.specs.declared.role.Role.TheVariants.{Evaluated}
 use Rattle.first_form.proofs.BuildLemmas.{AddsParts-cons, AddsParts-nodes, AddsParts-one, IfOk-plain}
 use Rattle.first_form.proofs.building.add_assign_through.Goals as goal
 

@@ -1,5 +1,5 @@
 use Rattle.std.proofs.Common.{◌+◌}
-use Rattle.meaning_tree.specs.Kinds.{Declarator}
+use Rattle.vocabulary.specs.declared.node_kind.NodeKind.TheVariants.{Declarator}
 use Rattle.first_form.proofs.BuildLemmas.{AddsParts-nodes, IfOk-named}
 use Rattle.first_form.proofs.building.add_declarator.Goals as goal
 

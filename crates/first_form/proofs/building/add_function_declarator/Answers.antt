@@ -1,6 +1,7 @@
 use Rattle.std.proofs.Common.{◌<◌, ◌^◌, [], arith}
 use Rattle.std.proofs.lemmas.List.Elements.{All-cons, All-nil}
-use Rattle.meaning_tree.specs.Kinds.{Declarator, TypePart}
+use Rattle.vocabulary.specs.declared.node_kind.NodeKind.TheVariants.{Declarator}
+use Rattle.vocabulary.specs.declared.role.Role.TheVariants.{TypePart}
 use Rattle.first_form.proofs.BuildLemmas.{AddsParts-nodes, AddsParts-one, AddsParts-same, IfOk-named}
 use Rattle.first_form.proofs.building.add_function_declarator.Goals as goal
 

@@ -1,7 +1,7 @@
 use Rattle.std.proofs.Common.{◌+◌, length, ap, refl, sym, arith}
 use Rattle.std.proofs.Math.ListN.{drop_of_length-le}
 use Rattle.std.proofs.lemmas.List.Sums.{sum_by_more, sum_by_more_le}
-use Rattle.meaning_tree.specs.Kinds.{Evaluated}
+use Rattle.vocabulary.specs.declared.role.Role.TheVariants.{Evaluated}
 use Rattle.meaning_syntax.specs.Items.{item_fits}
 use Rattle.meaning_syntax.specs.Trees.{item_trees}
 use Rattle.first_form.specs.Counts.{token_count}

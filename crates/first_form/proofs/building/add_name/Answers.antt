@@ -1,4 +1,4 @@
-use Rattle.meaning_tree.specs.Kinds.{Name}
+use Rattle.vocabulary.specs.declared.node_kind.NodeKind.TheVariants.{Name}
 use Rattle.first_form.proofs.BuildLemmas.{AddsParts-none, IfOk-named}
 use Rattle.first_form.proofs.building.add_name.Goals as goal
 

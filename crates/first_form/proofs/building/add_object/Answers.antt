@@ -1,5 +1,5 @@
 use Rattle.first_form.proofs.CountLemmas.{length-attribute}
-use Rattle.meaning_tree.specs.Kinds.{Evaluated, TypePart}
+use Rattle.vocabulary.specs.declared.role.Role.TheVariants.{Evaluated, TypePart}
 use Rattle.first_form.proofs.BuildLemmas.{AddsParts-cons, AddsParts-nodes, AddsParts-one, IfOk-plain}
 use Rattle.first_form.proofs.building.add_object.Goals as goal
 

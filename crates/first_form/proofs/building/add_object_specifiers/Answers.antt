@@ -1,6 +1,6 @@
 use Rattle.std.proofs.Common.{◌≡◌, ◌+◌, ◌<◌, length, arith}
 use Rattle.std.proofs.lemmas.Bool.Decides.{nat_tests}
-use Rattle.meaning_tree.specs.Kinds.{TypePart}
+use Rattle.vocabulary.specs.declared.role.Role.TheVariants.{TypePart}
 use Rattle.first_form.proofs.BuildLemmas.{AddsParts-cons, AddsParts-one, IfOk-plain}
 use Rattle.first_form.proofs.building.add_object_specifiers.Goals as goal
 use Rattle.first_form.proofs.TreeLemmas.{attribute_trees-none, attribute_trees-some}

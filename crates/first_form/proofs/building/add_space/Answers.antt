@@ -1,5 +1,5 @@
 use Rattle.std.proofs.Common.{sym, ap, ◌∙◌}
-use Rattle.meaning_tree.specs.Kinds.{AddressSpaceAttribute}
+use Rattle.vocabulary.specs.declared.node_kind.NodeKind.TheVariants.{AddressSpaceAttribute}
 use Rattle.c_tokens.specs.Seen.{text_of}
 use Rattle.meaning_types.specs.Types.{NamedSpace, NumberedSpace}
 use Rattle.meaning_rules.specs.Typing.{space_of}

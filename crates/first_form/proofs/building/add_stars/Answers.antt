@@ -1,5 +1,5 @@
 use Rattle.std.proofs.Common.{◌≡◌, ◌+◌, ◌-◌, length, ap, ap₂, arith}
-use Rattle.meaning_tree.specs.Kinds.{TypePart}
+use Rattle.vocabulary.specs.declared.role.Role.TheVariants.{TypePart}
 use Rattle.first_form.proofs.BuildLemmas.{AddsSome-all, AddsSome-more, AddsSome-none}
 use Rattle.meaning_syntax.specs.Trees.{star_trees}
 use Rattle.first_form.proofs.building.add_stars.Goals as goal

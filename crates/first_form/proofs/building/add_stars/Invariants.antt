@@ -1,5 +1,5 @@
 use Rattle.std.proofs.Common.{◌≡◌, ◌+◌, ◌-◌, length}
-use Rattle.meaning_tree.specs.Kinds.{TypePart}
+use Rattle.vocabulary.specs.declared.role.Role.TheVariants.{TypePart}
 use Rattle.meaning_tree.specs.Nodes.{end_of}
 use Rattle.meaning_tree.specs.Trees.{parts_of}
 use Rattle.meaning_syntax.specs.Trees.{star_trees}

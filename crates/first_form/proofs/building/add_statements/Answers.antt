@@ -1,7 +1,7 @@
 use Rattle.std.proofs.Common.{◌+◌, length, map, slice_index_or, ap, refl, arith}
 use Rattle.std.proofs.Math.ListN.{drop_of_length-le}
 use Rattle.std.proofs.lemmas.List.Sums.{sum_by_more}
-use Rattle.meaning_tree.specs.Kinds.{Evaluated}
+use Rattle.vocabulary.specs.declared.role.Role.TheVariants.{Evaluated}
 use Rattle.meaning_syntax.specs.Trees.{statement_trees}
 use Rattle.first_form.specs.declared.item.Statement.TheVariants.{Assign}
 use Rattle.first_form.specs.Counts.{statement_count}

@@ -1,6 +1,6 @@
 use Rattle.std.proofs.Common.{◌≡◌, ◌+◌, ◌≤◌, drop, length, map, take}
 use Rattle.std.specs.List.{sum_by}
-use Rattle.meaning_tree.specs.Kinds.{Evaluated}
+use Rattle.vocabulary.specs.declared.role.Role.TheVariants.{Evaluated}
 use Rattle.meaning_tree.specs.Nodes.{end_of}
 use Rattle.meaning_tree.specs.Trees.{parts_of}
 use Rattle.meaning_syntax.specs.Trees.{statement_trees}

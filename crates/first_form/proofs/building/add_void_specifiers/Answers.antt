@@ -1,4 +1,4 @@
-use Rattle.meaning_tree.specs.Kinds.{TypePart}
+use Rattle.vocabulary.specs.declared.role.Role.TheVariants.{TypePart}
 use Rattle.first_form.proofs.BuildLemmas.{AddsParts-nodes, AddsParts-one, IfOk-plain}
 use Rattle.first_form.proofs.building.add_void_specifiers.Goals as goal
 

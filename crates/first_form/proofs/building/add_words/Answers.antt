@@ -1,7 +1,7 @@
 use Rattle.std.proofs.Common.{◌+◌, length, map, slice_index_or, ap, refl, arith}
 use Rattle.std.proofs.Math.ListN.{drop_of_length-le}
 use Rattle.std.proofs.lemmas.List.Sums.{sum_by_more, sum_by_more_le}
-use Rattle.meaning_tree.specs.Kinds.{TypePart}
+use Rattle.vocabulary.specs.declared.role.Role.TheVariants.{TypePart}
 use Rattle.meaning_syntax.specs.Items.{word_fits}
 use Rattle.meaning_syntax.specs.Trees.{word_trees}
 use Rattle.first_form.specs.declared.item.Word.TheVariants.{Noderef}

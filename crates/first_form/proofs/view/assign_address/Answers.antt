@@ -1,4 +1,4 @@
-use Rattle.meaning_tree.specs.Kinds.{Evaluated}
+use Rattle.vocabulary.specs.declared.role.Role.TheVariants.{Evaluated}
 use Rattle.meaning_tree.specs.Trees.{NoParts}
 use Rattle.meaning_syntax.specs.Trees.{name_tree}
 use Rattle.first_form.proofs.view.assign_address.Goals as goal

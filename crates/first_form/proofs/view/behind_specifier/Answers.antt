@@ -1,6 +1,7 @@
 use Rattle.std.proofs.Common.{◌≡◌, sym, subst, ◌∙◌}
 use Rattle.std.proofs.lemmas.Bool.{false≢true}
-use Rattle.meaning_tree.specs.Kinds.{AttributeList, NodeKind}
+use Rattle.vocabulary.specs.declared.node_kind.NodeKind.{NodeKind}
+use Rattle.vocabulary.specs.declared.node_kind.NodeKind.TheVariants.{AttributeList}
 use Rattle.meaning_tree.specs.Trees.{Node}
 use Rattle.c_tree.specs.Seen.{HasNodeWith}
 use Rattle.first_form.proofs.FlagLemmas.{HasFlags-specifier, behind_list}

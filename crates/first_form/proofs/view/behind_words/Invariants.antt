@@ -1,6 +1,6 @@
 use Rattle.std.proofs.Common.{ℕ, List}
 use Rattle.meaning_types.specs.Types.{Flags}
-use Rattle.meaning_tree.specs.Kinds.{AttributeList}
+use Rattle.vocabulary.specs.declared.node_kind.NodeKind.TheVariants.{AttributeList}
 use Rattle.meaning_tree.specs.Trees.{Node}
 use Rattle.meaning_syntax.specs.Trees.{SyntaxParts}
 use Rattle.meaning_rules.specs.Bindings.{flags_behind_words}

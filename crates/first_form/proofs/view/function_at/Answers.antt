@@ -1,5 +1,5 @@
 use Rattle.std.proofs.Common.{◌+◌}
-use Rattle.meaning_tree.specs.Kinds.{Evaluated, TypePart}
+use Rattle.vocabulary.specs.declared.role.Role.TheVariants.{Evaluated, TypePart}
 use Rattle.meaning_syntax.specs.Trees.{function_declarator, void_specifiers}
 use Rattle.first_form.specs.View.{body_tree}
 use Rattle.first_form.proofs.ViewLemmas.{root_parts}

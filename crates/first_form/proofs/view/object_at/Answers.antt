@@ -1,5 +1,5 @@
 use Rattle.std.proofs.Common.{◌+◌, length, ◌∙◌}
-use Rattle.meaning_tree.specs.Kinds.{Evaluated, TypePart}
+use Rattle.vocabulary.specs.declared.role.Role.TheVariants.{Evaluated, TypePart}
 use Rattle.meaning_tree.specs.Trees.{parts_of}
 use Rattle.meaning_syntax.specs.Items.{attribute_spelled}
 use Rattle.meaning_syntax.specs.Trees.{declarator_tree, object_specifiers, star_trees}

@@ -1,7 +1,8 @@
 use Rattle.std.proofs.Common.{◌≡◌, ℕ, List, sym, subst, ◌∙◌}
 use Rattle.std.proofs.lemmas.Bool.{false≢true}
 use Rattle.std.proofs.lemmas.List.Elements.{All-rest}
-use Rattle.meaning_tree.specs.Kinds.{PointerDeclarator, TypePart}
+use Rattle.vocabulary.specs.declared.node_kind.NodeKind.TheVariants.{PointerDeclarator}
+use Rattle.vocabulary.specs.declared.role.Role.TheVariants.{TypePart}
 use Rattle.meaning_tree.specs.Trees.{parts_of}
 use Rattle.meaning_syntax.specs.Trees.{leaf, star_trees}
 use Rattle.first_form.specs.View.{ShowParts}

@@ -1,5 +1,6 @@
 use Rattle.std.proofs.Common.{ℕ, List}
-use Rattle.meaning_tree.specs.Kinds.{Declarator, TypePart}
+use Rattle.vocabulary.specs.declared.node_kind.NodeKind.TheVariants.{Declarator}
+use Rattle.vocabulary.specs.declared.role.Role.TheVariants.{TypePart}
 use Rattle.meaning_tree.specs.Trees.{Node, parts_of}
 use Rattle.meaning_syntax.specs.Trees.{star_trees}
 use Rattle.first_form.specs.View.{Shows, ShowParts}

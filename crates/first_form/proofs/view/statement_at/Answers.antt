@@ -1,4 +1,4 @@
-use Rattle.meaning_tree.specs.Kinds.{Evaluated}
+use Rattle.vocabulary.specs.declared.role.Role.TheVariants.{Evaluated}
 use Rattle.meaning_syntax.specs.Trees.{expression_tree}
 use Rattle.first_form.specs.View.{left_tree, right_tree, tokens_of}
 use Rattle.first_form.proofs.ViewLemmas.{Shows-sides, tokens-statement}

@@ -1,7 +1,7 @@
 -- The examples compute, node by node.
 use Rattle.std.proofs.Common.{ℕ, ◌<◌, ◌≤◌, [], ◌∷◌, codes, refl, arith}
 use Rattle.std.proofs.lemmas.List.Elements.{All-nil, All-cons}
-use Rattle.meaning_tree.specs.Kinds.{Name, Assignment, ExpressionStatement}
+use Rattle.vocabulary.specs.declared.node_kind.NodeKind.TheVariants.{Name, Assignment, ExpressionStatement}
 use Rattle.meaning_tree.specs.Nodes.{ChildrenStandBefore}
 use Rattle.meaning_tree.specs.Examples.{node_at, assignment_nodes}
 use Rattle.meaning_tree.proofs.Finding.{stand_before-nil, stand_before-added}

@@ -1,3 +1,4 @@
+pub mod Conversion
 pub mod Similar
 pub mod Storage
 pub mod Places
@@ -7,3 +8,4 @@ pub mod Worlds
 pub mod Lasting
 pub mod Playing
 pub mod Replaying
+pub mod Adopting

@@ -51,7 +51,7 @@ equal_kinds kind other passed =
 
 -- similar types are equal but for const and volatile
 mutual
-  bare-from_similar : (type_ other : TypeTree) → are_similar type_ other ≡ true → bare type_ ≡ bare other
+  pub bare-from_similar : (type_ other : TypeTree) → are_similar type_ other ≡ true → bare type_ ≡ bare other
   bare-from_similar (Typed base _ flags) (Typed other _ others) passed =
       let parts = and_parts _ _ passed in
       let equal = (are_equal_flags-Decides flags others).0 parts.0 in

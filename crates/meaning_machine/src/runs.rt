@@ -1,5 +1,5 @@
 ghost use Rattle.meaning_machine.specs.Played.{MovesArePlayed, PlayedIsRun, RunIsPlayed};
-ghost use Rattle.meaning_machine.specs.RowExamples.{CellExamples, FitExamples, LastExamples, RangeExamples, RowExamples};
+ghost use Rattle.meaning_machine.specs.RowExamples.{CellExamples, ConversionExamples, FitExamples, LastExamples, RangeExamples, RowExamples};
 ghost use Rattle.meaning_machine.specs.StepExamples.{StepExamples};
 ghost use Rattle.meaning_machine.specs.Examples.{SpaceIsLost, NoderefIsAccessed, FlaggedIntIsLoaded, SilentUnitLeaves, SilentUnitEnds, SilentUnitCopies, NullIsUndefined, ForeignIsUndefined, ConstIsCopied, IndeterminateIsUndefined, ConstIsAdopted, AddressIsNoPlace, StatementWithoutRowIsFault};
 
@@ -32,10 +32,11 @@ pub fn worked_runs()
     ensures rowless_fault { StatementWithoutRowIsFault }
 {}
 
-/// The numbers of each kind, what fits a type, what single loads, stores and steps give, and which blocks
+/// The numbers of each kind, what a number becomes in another one, what fits a type, what single loads, stores and steps give, and which blocks
 /// outlast others.
 pub fn worked_rows()
     ensures ranges { RangeExamples }
+    ensures conversions { ConversionExamples }
     ensures rows { RowExamples }
     ensures cells { CellExamples }
     ensures fits { FitExamples }

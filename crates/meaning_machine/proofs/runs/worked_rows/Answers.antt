@@ -20,6 +20,20 @@ one_stays block later made dead (suc number) one there = absurd (none-some _ the
 pub returns-clause-ranges : goal.returns-clause-ranges
 returns-clause-ranges c = record { least_signed = refl; greatest_signed = refl; least_unsigned = refl; greatest_unsigned = refl }
 
+pub returns-clause-conversions : goal.returns-clause-conversions
+returns-clause-conversions c = record {
+  zero_signed = refl;
+  zero_unsigned = refl;
+  minus_one_signed = refl;
+  minus_one_unsigned = refl;
+  two_hundred = refl;
+  nine_bits = refl;
+  nine_bits_unsigned = refl;
+  behind_int = refl;
+  before_int = refl;
+  two_to_64 = refl;
+}
+
 pub returns-clause-rows : goal.returns-clause-rows
 returns-clause-rows c = record {
   opening_blocks = refl;
@@ -43,9 +57,17 @@ returns-clause-rows c = record {
   no_block_stored = refl;
   zero_adopted = refl;
   one_adopted = refl;
+  negative_adopted = refl;
   pointer_adopted_by_int = refl;
+  null_adopted_by_bool = refl;
+  pointers_adopted_by_bool = refl;
   other_kind_adopted = refl;
+  wider_adopted = refl;
+  adopted_by_bool = refl;
   restricted_adopted = refl;
+  restricted_zero_adopted = refl;
+  restricted_fouled_adopted = refl;
+  restricted_adopted_by_pointer = refl;
   fouled_adopted = refl;
   flags_lost = refl;
   deeper_flags_lost = refl;

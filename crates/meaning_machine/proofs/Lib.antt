@@ -6,6 +6,7 @@ pub mod WellTyped
 pub mod Steps
 pub mod Worlds
 pub mod Lasting
+pub mod Possible
 pub mod Playing
 pub mod Replaying
 pub mod Adopting

@@ -8,5 +8,6 @@ pub mod Worlds
 pub mod Lasting
 pub mod Possible
 pub mod Playing
+pub mod Worked
 pub mod Replaying
 pub mod Adopting

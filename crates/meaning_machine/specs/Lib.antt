@@ -8,6 +8,7 @@ pub mod Machine
 pub mod Runs
 pub mod Played
 pub mod Examples
+pub mod ActivityExamples
 pub mod RowExamples
 pub mod StepExamples
 pub mod Laws

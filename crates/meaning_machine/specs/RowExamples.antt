@@ -1,6 +1,7 @@
 -- Worked examples: the numbers of each kind, what fits, single loads and stores, and blocks that outlast others.
 use Rattle.std.specs.Prelude.{◌≡◌, ℕ, ◌-◌, ◌^◌, Bool, true, false, ℤ, pos, negsuc, List, [], ◌∷◌, Some, None, map, replicate, codes}
 use Rattle.meaning_types.specs.Types.{Kind, BoolKind, CharKind, SignedCharKind, UnsignedCharKind, ShortKind, UnsignedShortKind, IntKind, UnsignedIntKind, LongKind, UnsignedLongKind, LongLongKind, UnsignedLongLongKind, NumberedSpace, Flags, no_flags, no_qualifiers, TypeTree, Typed, IntegerTree}
+use Rattle.meaning_tree.specs.Trees.{SyntaxTree}
 use Rattle.meaning_syntax.specs.Items.{Object}
 use Rattle.meaning_syntax.specs.Trees.{unit_tree}
 use Rattle.meaning_rules.specs.Bindings.{pointer_to}
@@ -10,9 +11,9 @@ use Rattle.meaning_machine.specs.Values.{Spot, Null, Foreign, In, Value, Integer
 use Rattle.meaning_machine.specs.Conversion.{converted}
 use Rattle.meaning_machine.specs.Outcomes.{DeadBlock, ForeignPointer, OutOfBounds, ReadOnly, AccessFault, SpaceFault, RestrictedFault, ShapeFault, Gives, IsFault, IsUndefined}
 use Rattle.meaning_machine.specs.Memory.{adopt, content_at, with_content, block_with, load, store}
-use Rattle.meaning_machine.specs.Runs.{IsWritable, opening}
+use Rattle.meaning_machine.specs.Runs.{IsWritable, opening, Write, Moves}
 use Rattle.meaning_machine.specs.Soundness.{Last}
-use Rattle.meaning_machine.specs.Examples.{plain_int, const_int, int_of, object_spot}
+use Rattle.meaning_machine.specs.Examples.{plain_int, const_int, int_of, object_spot, indeterminate_block}
 
 -- Ranges (C11 6.2.6.2): two's complement, with the widths of LP64
 
@@ -123,6 +124,7 @@ pub record RowExamples : Type 0 where
   pub function_loaded : load (function_block ∷ []) (record { type_ = plain_int; spot = object_spot 0 }) ≡ IsFault ShapeFault
   pub no_block_loaded : load [] (record { type_ = plain_int; spot = object_spot 0 }) ≡ IsFault ShapeFault
   pub stored : store living (object_spot 0) (int_of 5) ≡ Gives (int_block plain_int true 5 ∷ [])
+  pub indeterminate_stored : store (indeterminate_block ∷ []) (object_spot 0) (int_of 5) ≡ Gives (int_block plain_int true 5 ∷ [])
   pub dead_stored : store dead (object_spot 0) (int_of 5) ≡ IsUndefined DeadBlock
   pub stored_behind_the_end : store living behind_the_end (int_of 5) ≡ IsUndefined OutOfBounds
   pub const_stored : store constant (object_spot 0) (int_of 5) ≡ IsUndefined ReadOnly
@@ -206,9 +208,14 @@ pub record FitExamples : Type 0 where
   pub other_kind : Fits [] (Integer CharKind None false (pos 0)) plain_int → ⊥
   pub restricted : Fits [] (Integer IntKind (Some 0) false (pos 0)) plain_int → ⊥
   pub fouled : Fits [] (Integer IntKind None true (pos 0)) plain_int → ⊥
-  -- the outside writes into living cells alone
+  -- the outside writes into living cells alone, into indeterminate ones too
   pub written : IsWritable living (int_block plain_int true 3) [] (int_of 5)
   pub const_written : IsWritable constant (int_block const_int true 3) [] (int_of 5)
+  pub indeterminate_written : IsWritable (indeterminate_block ∷ []) indeterminate_block [] (int_of 5)
+  pub indeterminate_moved :
+      (unit : SyntaxTree)
+      → Moves unit (record { blocks = indeterminate_block ∷ []; activities = [] }) (Write 0 [] (int_of 5))
+      (record { blocks = int_block plain_int true 5 ∷ []; activities = [] })
   pub dead_written : IsWritable dead (int_block plain_int false 3) [] (int_of 5) → ⊥
   pub no_cell : IsWritable living (int_block plain_int true 3) (0 ∷ []) (int_of 5) → ⊥
 

@@ -1,6 +1,7 @@
 ghost use Rattle.meaning_machine.specs.Played.{MovesArePlayed, PlayedIsRun, RunIsPlayed};
 ghost use Rattle.meaning_machine.specs.RowExamples.{CellExamples, ConversionExamples, FitExamples, LastExamples, RangeExamples, RowExamples};
 ghost use Rattle.meaning_machine.specs.StepExamples.{StepExamples};
+ghost use Rattle.meaning_machine.specs.ActivityExamples.{OthersGoOn, ThirdMeetsFault, ThreeByTurns, ThreeInOrder};
 ghost use Rattle.meaning_machine.specs.Examples.{SpaceIsLost, NoderefIsAccessed, FlaggedIntIsLoaded, SilentUnitLeaves, SilentUnitEnds, SilentUnitCopies, NullIsUndefined, ForeignIsUndefined, ConstIsCopied, IndeterminateIsUndefined, ConstIsAdopted, AddressIsNoPlace, StatementWithoutRowIsFault};
 
 /// What the plain program plays is a run.
@@ -30,6 +31,15 @@ pub fn worked_runs()
     ensures const_adopted { ConstIsAdopted }
     ensures address_no_place { AddressIsNoPlace }
     ensures rowless_fault { StatementWithoutRowIsFault }
+{}
+
+/// Runs of three activities, one after another, by turns, and where the third meets a fault; and one that
+/// goes on where another stands still.
+pub fn worked_activities()
+    ensures in_order { ThreeInOrder }
+    ensures by_turns { ThreeByTurns }
+    ensures third_meets { ThirdMeetsFault }
+    ensures others_go_on { OthersGoOn }
 {}
 
 /// The numbers of each kind, what a number becomes in another one, what fits a type, what single loads, stores and steps give, and which blocks

@@ -7,7 +7,7 @@ use Rattle.meaning_machine.specs.Values.{Block}
 use Rattle.meaning_machine.specs.Memory.{is_read_only}
 use Rattle.meaning_machine.specs.Soundness.{Last}
 use Rattle.meaning_machine.specs.RowExamples.{int_block}
-use Rattle.meaning_machine.specs.Examples.{plain_int, const_int}
+use Rattle.meaning_machine.specs.Examples.{plain_int, const_int, indeterminate_block}
 use Rattle.meaning_machine.proofs.runs.worked_rows.Goals as goal
 
 -- of lists of one block, the second outlasts the first
@@ -49,6 +49,7 @@ returns-clause-rows c = record {
   function_loaded = refl;
   no_block_loaded = refl;
   stored = refl;
+  indeterminate_stored = refl;
   dead_stored = refl;
   stored_behind_the_end = refl;
   const_stored = refl;
@@ -101,6 +102,9 @@ returns-clause-fits c = record {
   fouled = λ fits. cc (fits.2);
   written = (plain_int, _, refl, refl, refl, (refl, refl, refl, (le_z_yes tt, le_z_yes tt)));
   const_written = (const_int, _, refl, refl, refl, (refl, refl, refl, (le_z_yes tt, le_z_yes tt)));
+  indeterminate_written = (plain_int, _, refl, refl, refl, (refl, refl, refl, (le_z_yes tt, le_z_yes tt)));
+  indeterminate_moved = λ unit.
+      (indeterminate_block, refl, (plain_int, _, refl, refl, refl, (refl, refl, refl, (le_z_yes tt, le_z_yes tt))), refl);
   dead_written = λ is. false≢true is.3;
   no_cell = λ is. none-some _ is.4;
 }

@@ -1,14 +1,11 @@
 -- How the values of this crate are seen by the definitions of `meaning_literals`.
 use Rattle.std.specs.Prelude.{◌≡◌, ℕ, Option, Some, None, option_map, Result, Ok, Err}
-use Rattle.meaning_types.specs.Types.{Kind, BoolKind, CharKind, SignedCharKind, UnsignedCharKind, ShortKind, UnsignedShortKind, IntKind, UnsignedIntKind, LongKind, UnsignedLongKind, LongLongKind, UnsignedLongLongKind}
 use Rattle.meaning_literals.specs.Numbers as numbers
 use Rattle.meaning_literals.specs.Suffixes as suffixes
 use Rattle.meaning_literals.specs.Constants.{Constant, Fault, BadDigitFault, BadSuffixFault, TooBigFault, FloatingFault, BadEscapeFault, EmptyFault, WideFault, UniversalFault}
 use Rattle.meaning_literals.specs.Elements.{Element, Piece}
 use Rattle.meaning_literals.specs.Quoted.{byte_of}
 use Rattle.sparse_model.specs.declared.int_const.IntConst.{IntConst}
-use Rattle.vocabulary.specs.declared.int_kind.IntKind as kinds
-use Rattle.vocabulary.specs.declared.int_kind.IntKind.TheVariants.{Bool, Char, SChar, UChar, Short, UShort, Int, UInt, Long, ULong, LLong, ULLong}
 use Rattle.c_literals.specs.declared.element.Piece as pieces
 use Rattle.c_literals.specs.declared.fault.LiteralFault.{LiteralFault}
 use Rattle.c_literals.specs.declared.fault.LiteralFault.TheVariants.{BadDigit, BadSuffix, TooBig, Floating, BadEscape, Empty, Wide, Universal, Memory}
@@ -17,22 +14,8 @@ use Rattle.c_literals.specs.declared.numbers.Base.TheVariants.{Octal, Decimal, H
 use Rattle.c_literals.specs.declared.suffix.Suffix.{Suffix}
 use Rattle.c_literals.specs.declared.suffix.Suffix.TheVariants as found
 
-abbrev pub kind_seen : kinds.IntKind → Kind
-kind_seen Bool = BoolKind
-kind_seen Char = CharKind
-kind_seen SChar = SignedCharKind
-kind_seen UChar = UnsignedCharKind
-kind_seen Short = ShortKind
-kind_seen UShort = UnsignedShortKind
-kind_seen Int = IntKind
-kind_seen UInt = UnsignedIntKind
-kind_seen Long = LongKind
-kind_seen ULong = UnsignedLongKind
-kind_seen LLong = LongLongKind
-kind_seen ULLong = UnsignedLongLongKind
-
 abbrev pub constant_seen : IntConst → Constant
-constant_seen constant = record { kind = kind_seen constant.kind; bits = constant.bits }
+constant_seen constant = record { kind = constant.kind; bits = constant.bits }
 
 abbrev pub base_seen : Base → numbers.Base
 base_seen Octal = numbers.Octal

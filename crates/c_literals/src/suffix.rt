@@ -1,8 +1,9 @@
 //! The suffixes of integer constants, and the kinds that they leave.
-ghost use Rattle.std.specs.Prelude.{◌≡◌, map, option_map};
+ghost use Rattle.std.specs.Prelude.{◌≡◌, option_map, pos};
+ghost use Rattle.meaning_types.specs.Ranges.{greatest};
 ghost use Rattle.meaning_literals.specs.Suffixes.{UL, ULL, is_spelling, suffix_of};
-ghost use Rattle.meaning_literals.specs.Kinds.{decimal_kinds, first_that_holds, greatest, kinds_of, octal_kinds};
-ghost use Rattle.c_literals.specs.Seen.{base_seen, kind_seen, suffix_seen};
+ghost use Rattle.meaning_literals.specs.Kinds.{decimal_kinds, first_that_holds, kinds_of, octal_kinds};
+ghost use Rattle.c_literals.specs.Seen.{base_seen, suffix_seen};
 
 use crate::numbers::Base;
 use sparse_model::IntKind;
@@ -67,8 +68,7 @@ fn is_unsigned_long_long(text: &[u8]) -> bool
 
 /// The first kind that holds the value, of those that the base and the suffix leave (6.4.4.1 p5).
 pub(crate) fn first_kind(base: Base, suffix: Suffix, value: u64) -> Option<IntKind>
-    ensures { option_map kind_seen result
-        ≡ first_that_holds value (kinds_of (base_seen base) (suffix_seen suffix)) }
+    ensures { result ≡ first_that_holds value (kinds_of (base_seen base) (suffix_seen suffix)) }
 {
     let mut kinds = kinds_of(base, suffix);
     'kinds: while let Some((&kind, others)) = kinds.split_first() {
@@ -82,7 +82,7 @@ pub(crate) fn first_kind(base: Base, suffix: Suffix, value: u64) -> Option<IntKi
 
 // The kinds in the order in which they are tried.
 fn kinds_of(base: Base, suffix: Suffix) -> &'static [IntKind]
-    ensures { map kind_seen result.now ≡ kinds_of (base_seen base) (suffix_seen suffix) }
+    ensures { result.now ≡ kinds_of (base_seen base) (suffix_seen suffix) }
 {
     match base {
         Base::Decimal => decimal_kinds(suffix),
@@ -91,7 +91,7 @@ fn kinds_of(base: Base, suffix: Suffix) -> &'static [IntKind]
 }
 
 fn decimal_kinds(suffix: Suffix) -> &'static [IntKind]
-    ensures { map kind_seen result.now ≡ decimal_kinds (suffix_seen suffix) }
+    ensures { result.now ≡ decimal_kinds (suffix_seen suffix) }
 {
     match suffix {
         Suffix::None => &[IntKind::Int, IntKind::Long, IntKind::LLong],
@@ -104,7 +104,7 @@ fn decimal_kinds(suffix: Suffix) -> &'static [IntKind]
 }
 
 fn octal_kinds(suffix: Suffix) -> &'static [IntKind]
-    ensures { map kind_seen result.now ≡ octal_kinds (suffix_seen suffix) }
+    ensures { result.now ≡ octal_kinds (suffix_seen suffix) }
 {
     match suffix {
         Suffix::None => &[
@@ -130,7 +130,7 @@ fn octal_kinds(suffix: Suffix) -> &'static [IntKind]
 
 // The greatest value of a kind (5.2.4.2.1), where long has 64 bits and char is signed.
 fn greatest(kind: IntKind) -> u64
-    ensures { result ≡ greatest (kind_seen kind) }
+    ensures { pos result ≡ greatest kind }
 {
     match kind {
         IntKind::Bool => 1,

@@ -3,7 +3,7 @@ use Rattle.std.proofs.Common.{◌≡◌, ℕ, zero, suc, ◌<◌, Bool, true, fa
 use Rattle.std.proofs.lemmas.Bool.{both_ways, cases_Bool}
 use Rattle.meaning_text.specs.Places.{At}
 use Rattle.meaning_text.specs.Logical.{SourceByte, bytes_of}
-use Rattle.meaning_text.specs.Kinds.{Kind}
+use Rattle.vocabulary.specs.declared.token_kind.TokenKind.{TokenKind}
 use Rattle.meaning_text.specs.Fronts.{Front, AtEnd, AtNewLine, AtBlank, AtComment, AtToken, AtOpenComment, AtOpenLiteral, front_of}
 use Rattle.meaning_text.specs.Tokens.{Tok, Context, AtLineStart, allows_header_name, is_line_start, behind_token, LexFault, OpenComment, OpenLiteral}
 use Rattle.meaning_text.specs.Lexing.{Lexed, Tokens, Refused, with_token, lexed_front, lexed_behind}
@@ -85,7 +85,7 @@ found-before_front lexed found context space allowed cursor front allows is done
 
 -- a token joins those that were found
 pub found-over_token :
-    (lexed : Lexed) (found grown : List Tok) (context after : Context) (space : Bool) (at : At) (text rest : List SourceByte) (kind : Kind) (count : ℕ) (spelled : List ℕ) →
+    (lexed : Lexed) (found grown : List Tok) (context after : Context) (space : Bool) (at : At) (text rest : List SourceByte) (kind : TokenKind) (count : ℕ) (spelled : List ℕ) →
     lexed ≡ with_tokens found (lexed_at context space at text (AtToken kind count)) → spelled ≡ take count (bytes_of text) →
     grown ≡ found ++ record { kind = kind; text = spelled; at = at; space_before = space; line_start = is_line_start context } ∷ [] →
     after ≡ behind_token context kind spelled → rest ≡ drop count text →
@@ -147,7 +147,7 @@ front-shorter allowed text rest front is some behind =
     omega (arith, takes.0, takes.1, ap length behind, length-drop (taken front) text)
 
 -- a token has a byte of the file
-pub token-has_byte : (cursor : Cursor) (allowed : Bool) (kind : Kind) (count : ℕ) → AtToken kind count ≡ front_of allowed (ahead cursor) → 0 < length cursor.bytes.now
+pub token-has_byte : (cursor : Cursor) (allowed : Bool) (kind : TokenKind) (count : ℕ) → AtToken kind count ≡ front_of allowed (ahead cursor) → 0 < length cursor.bytes.now
 unfolding front_of
 token-has_byte cursor allowed kind count is =
     ⊎_elim

@@ -29,7 +29,7 @@ punctuator_among-new_line (row ∷ rows) text rest none =
     absurd (both_ways _ (ap (λ spelling. not (has_new_line spelling)) spelled ∙ ap not (has_new_line-append text rest)) parts.0))
     (λ differs. differs)
     (cases_Bool (bytes_eq row.spelling (text ++ new_line ∷ rest))) in
-    ap (λ same. if same then Some row.stands_for else punctuator_among rows (text ++ new_line ∷ rest)) differs
+    ap (λ same. if same then Some row.kind else punctuator_among rows (text ++ new_line ∷ rest)) differs
     ∙ punctuator_among-new_line rows text rest parts.1
 
 punctuator_of-new_line : (text rest : List ℕ) → punctuator_of (text ++ new_line ∷ rest) ≡ None

@@ -2,13 +2,12 @@
 use Rattle.meaning_text.specs.Fronts as fronts
 use Rattle.c_tokens.specs.declared.front.Front.{Front}
 use Rattle.c_tokens.specs.declared.front.Front.TheVariants.{End, NewLine, Blank, Comment, Token, OpenComment, OpenLiteral}
-use Rattle.c_tokens.specs.Seen.{kind_of}
 
 abbrev pub front_seen : Front → fronts.Front
 front_seen End = fronts.AtEnd
 front_seen NewLine = fronts.AtNewLine
 front_seen Blank = fronts.AtBlank
 front_seen (Comment count) = fronts.AtComment count
-front_seen (Token kind count) = fronts.AtToken (kind_of kind) count
+front_seen (Token kind count) = fronts.AtToken kind count
 front_seen OpenComment = fronts.AtOpenComment
 front_seen OpenLiteral = fronts.AtOpenLiteral

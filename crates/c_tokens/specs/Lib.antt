@@ -1,6 +1,5 @@
 pub mod Context
 pub mod Cursor
-pub mod Found
 pub mod Front
 pub mod Remaining
 pub mod Seen

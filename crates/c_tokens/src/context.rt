@@ -1,6 +1,5 @@
 ghost use Rattle.std.specs.Prelude.{◌≡◌};
 ghost use Rattle.meaning_text.specs.Tokens.{allows_header_name, behind_token, is_hash, is_line_start};
-ghost use Rattle.c_tokens.specs.Seen.{kind_of};
 
 use sparse_model::TokenKind;
 
@@ -31,7 +30,7 @@ impl Context {
 
     /// What a token of this kind and spelling makes of the place behind it.
     pub(crate) fn behind(self, kind: TokenKind, spelling: &[u8]) -> Context
-        ensures { context_of result ≡ behind_token (context_of self) (kind_of kind) spelling.now }
+        ensures { context_of result ≡ behind_token (context_of self) kind spelling.now }
     {
         match self {
             Context::LineStart => {
@@ -56,7 +55,7 @@ impl Context {
 
 // `#`, also where it is spelled as a digraph.
 fn is_hash(kind: TokenKind) -> bool
-    ensures { result ≡ is_hash (kind_of kind) }
+    ensures { result ≡ is_hash kind }
 {
     matches!(kind, TokenKind::Hash)
 }

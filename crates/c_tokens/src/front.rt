@@ -4,8 +4,7 @@ ghost use Rattle.std.specs.Prelude.{◌≡◌, ◌<◌, length, drop, true, fals
 ghost use Rattle.meaning_text.specs.Bytes.{is_blank};
 ghost use Rattle.meaning_text.specs.Fronts.{block_front, block_tail_length, found_header_name, found_stray, found_token, front_of, string_length};
 ghost use Rattle.meaning_text.specs.Fronts as fronts;
-ghost use Rattle.meaning_text.specs.Kinds.{HeaderName};
-ghost use Rattle.c_tokens.specs.Found.{found_of};
+ghost use Rattle.vocabulary.specs.declared.token_kind.TokenKind.TheVariants.{HeaderName};
 ghost use Rattle.c_tokens.specs.Front.{front_seen};
 ghost use Rattle.c_tokens.specs.Cursor.{ahead};
 
@@ -74,7 +73,7 @@ fn block_comment(cursor: &Cursor<'_>) -> Front
 // The token with which the text begins.
 fn found_token(cursor: &Cursor<'_>, header_names_allowed: bool) -> Option<(TokenKind, usize)>
     requires { 0 < length (ahead cursor.now) }
-    ensures { found_of result ≡ found_token header_names_allowed (ahead cursor.now) }
+    ensures { result ≡ found_token header_names_allowed (ahead cursor.now) }
 {
     let string = string_length(cursor);
     if header_names_allowed {
@@ -115,7 +114,7 @@ fn header_name(cursor: &Cursor<'_>, string: Option<usize>) -> Option<usize>
 // A byte that is a token where no other token has it.
 fn stray(cursor: &Cursor<'_>) -> Option<(TokenKind, usize)>
     requires { 0 < length (ahead cursor.now) }
-    ensures { found_of result ≡ found_stray (ahead cursor.now) }
+    ensures { result ≡ found_stray (ahead cursor.now) }
 {
     let byte = cursor.byte();
     if is_blank(byte) || matches!(byte, b'\n' | b'\'' | b'"') {

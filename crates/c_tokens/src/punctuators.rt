@@ -1,12 +1,10 @@
 //! The punctuators and their digraphs (C11 6.4.6).
 #![tactic(auto, unfolding(meaning_text::specs::Punctuators::punctuator_of, meaning_text::specs::Punctuators::punctuators, meaning_text::specs::Punctuators::plain_punctuators, meaning_text::specs::Punctuators::digraphs))]
 
-ghost use Rattle.std.specs.Prelude.{◌≡◌, ℕ, ◌<◌, ◌==◌, ◌∷◌, ◌++◌, [], Some, codes, length, false};
-ghost use Rattle.std.specs.List.{list_any};
+ghost use Rattle.std.specs.Prelude.{◌≡◌, ◌<◌, ◌∷◌, [], length};
 ghost use Rattle.std.specs.Option.{option_map};
+ghost use Rattle.meaning_text.specs.Punctuators.{own_spelling, punctuator_of};
 ghost use Rattle.meaning_text.specs.Fronts.{found_punctuator};
-ghost use Rattle.c_tokens.specs.Found.{found_of};
-ghost use Rattle.c_tokens.specs.Seen.{kind_of, punctuator_spelling};
 ghost use Rattle.c_tokens.specs.Cursor.{ahead};
 
 use crate::cursor::Cursor;
@@ -15,7 +13,7 @@ use sparse_model::TokenKind;
 /// How a punctuator is spelled where it is no digraph; `None` for the other kinds of tokens.
 #[rattlefmt::skip]
 pub fn punctuator(kind: TokenKind) -> Option<&'static [u8]>
-    ensures { option_map (λ spelling. spelling.now) result ≡ punctuator_spelling (kind_of kind) }
+    ensures { option_map (λ spelling. spelling.now) result ≡ own_spelling kind }
 {
     let spelling: &'static [u8] = match kind {
         TokenKind::LeftBracket => b"[",         TokenKind::RightBracket => b"]",
@@ -52,7 +50,7 @@ pub fn punctuator(kind: TokenKind) -> Option<&'static [u8]>
 /// The longest punctuator with which the text begins, and how many bytes it has.
 pub(crate) fn found_punctuator(cursor: &Cursor<'_>) -> Option<(TokenKind, usize)>
     requires { 0 < length (ahead cursor.now) }
-    ensures { found_of result ≡ found_punctuator (ahead cursor.now) }
+    ensures { result ≡ found_punctuator (ahead cursor.now) }
 {
     let second = cursor.next();
     let third = second.next();
@@ -62,210 +60,93 @@ pub(crate) fn found_punctuator(cursor: &Cursor<'_>) -> Option<(TokenKind, usize)
 
 // The longest with which these four bytes begin.
 fn longest(first: u8, second: u8, third: u8, fourth: u8) -> Option<(TokenKind, usize)>
-    ensures { found_of result ≡ found_punctuator (first ∷ second ∷ third ∷ fourth ∷ []) }
+    ensures { result ≡ found_punctuator (first ∷ second ∷ third ∷ fourth ∷ []) }
 {
-    let found = match first {
-        b'+' => plus(second),
-        b'-' => minus(second),
-        b'&' => ampersand(second),
-        b'|' => bar(second),
-        b'*' => star(second),
-        b'/' => slash(second),
-        b'^' => caret(second),
-        b'!' => exclamation(second),
-        b'=' => equal(second),
-        b'#' => hash(second),
-        b':' => colon(second),
-        b'.' => dot(second, third),
-        b'<' => less(second, third),
-        b'>' => greater(second, third),
-        b'%' => percent(second, third, fourth),
-        _ => return alone(first, second, third, fourth),
-    };
-    Some(found)
-}
-
-// Those that no longer one begins with.
-fn alone(first: u8, second: u8, third: u8, fourth: u8) -> Option<(TokenKind, usize)>
-    requires { list_any (λ b. first == b) (codes "+-&|*/^!=#:.<>%") ≡ false }
-    ensures { found_of result ≡ found_punctuator (first ∷ second ∷ third ∷ fourth ∷ []) }
-{
-    let kind = match first {
-        b'[' => TokenKind::LeftBracket,
-        b']' => TokenKind::RightBracket,
-        b'(' => TokenKind::LeftParenthesis,
-        b')' => TokenKind::RightParenthesis,
-        b'{' => TokenKind::LeftBrace,
-        b'}' => TokenKind::RightBrace,
-        b'~' => TokenKind::Tilde,
-        b'?' => TokenKind::Question,
-        b';' => TokenKind::Semicolon,
-        b',' => TokenKind::Comma,
-        _ => return None,
-    };
+    if let Some(kind) = of_four(first, second, third, fourth) {
+        return Some((kind, 4));
+    }
+    if let Some(kind) = of_three(first, second, third) {
+        return Some((kind, 3));
+    }
+    if let Some(kind) = of_two(first, second) {
+        return Some((kind, 2));
+    }
+    let kind = of_one(first)?;
     Some((kind, 1))
 }
 
-// The longest that begins with `+`.
-fn plus(second: u8) -> (TokenKind, usize)
-    ensures { (third fourth : ℕ) → found_of (Some result) ≡ found_punctuator (codes "+" ++ second ∷ third ∷ fourth ∷ []) }
+// Of four bytes, which is a digraph.
+fn of_four(first: u8, second: u8, third: u8, fourth: u8) -> Option<TokenKind>
+    ensures { result ≡ punctuator_of (first ∷ second ∷ third ∷ fourth ∷ []) }
 {
-    match second {
-        b'+' => (TokenKind::PlusPlus, 2),
-        b'=' => (TokenKind::PlusAssign, 2),
-        _ => (TokenKind::Plus, 1),
+    if first == b'%' && second == b':' && third == b'%' && fourth == b':' {
+        Some(TokenKind::HashHash)
+    } else {
+        None
     }
 }
 
-// The longest that begins with `-`.
-fn minus(second: u8) -> (TokenKind, usize)
-    ensures { (third fourth : ℕ) → found_of (Some result) ≡ found_punctuator (codes "-" ++ second ∷ third ∷ fourth ∷ []) }
+// Of three bytes.
+fn of_three(first: u8, second: u8, third: u8) -> Option<TokenKind>
+    ensures { result ≡ punctuator_of (first ∷ second ∷ third ∷ []) }
 {
-    match second {
-        b'-' => (TokenKind::MinusMinus, 2),
-        b'>' => (TokenKind::Arrow, 2),
-        b'=' => (TokenKind::MinusAssign, 2),
-        _ => (TokenKind::Minus, 1),
+    match first {
+        b'.' if second == b'.' && third == b'.' => Some(TokenKind::Ellipsis),
+        b'<' if second == b'<' && third == b'=' => Some(TokenKind::ShiftLeftAssign),
+        b'>' if second == b'>' && third == b'=' => Some(TokenKind::ShiftRightAssign),
+        _ => None,
     }
 }
 
-// The longest that begins with `&`.
-fn ampersand(second: u8) -> (TokenKind, usize)
-    ensures { (third fourth : ℕ) → found_of (Some result) ≡ found_punctuator (codes "&" ++ second ∷ third ∷ fourth ∷ []) }
+// Of two bytes, five digraphs among them.
+#[rattlefmt::skip]
+fn of_two(first: u8, second: u8) -> Option<TokenKind>
+    ensures { result ≡ punctuator_of (first ∷ second ∷ []) }
 {
-    match second {
-        b'&' => (TokenKind::AndAnd, 2),
-        b'=' => (TokenKind::AndAssign, 2),
-        _ => (TokenKind::Ampersand, 1),
-    }
+    let kind = match first {
+        b'+' => match second { b'+' => TokenKind::PlusPlus, b'=' => TokenKind::PlusAssign, _ => return None },
+        b'-' => match second { b'-' => TokenKind::MinusMinus, b'=' => TokenKind::MinusAssign, b'>' => TokenKind::Arrow, _ => return None },
+        b'&' => match second { b'&' => TokenKind::AndAnd, b'=' => TokenKind::AndAssign, _ => return None },
+        b'|' => match second { b'|' => TokenKind::OrOr, b'=' => TokenKind::OrAssign, _ => return None },
+        b'*' => match second { b'=' => TokenKind::StarAssign, _ => return None },
+        b'/' => match second { b'=' => TokenKind::SlashAssign, _ => return None },
+        b'^' => match second { b'=' => TokenKind::XorAssign, _ => return None },
+        b'!' => match second { b'=' => TokenKind::NotEqual, _ => return None },
+        b'=' => match second { b'=' => TokenKind::EqualEqual, _ => return None },
+        b'#' => match second { b'#' => TokenKind::HashHash, _ => return None },
+        b':' => match second { b'>' => TokenKind::RightBracket, _ => return None },
+        b'<' => match second {
+            b'<' => TokenKind::ShiftLeft, b'=' => TokenKind::LessEqual,
+            b':' => TokenKind::LeftBracket, b'%' => TokenKind::LeftBrace, _ => return None,
+        },
+        b'>' => match second { b'>' => TokenKind::ShiftRight, b'=' => TokenKind::GreaterEqual, _ => return None },
+        b'%' => match second {
+            b'=' => TokenKind::PercentAssign, b'>' => TokenKind::RightBrace, b':' => TokenKind::Hash, _ => return None,
+        },
+        _ => return None,
+    };
+    Some(kind)
 }
 
-// The longest that begins with `|`.
-fn bar(second: u8) -> (TokenKind, usize)
-    ensures { (third fourth : ℕ) → found_of (Some result) ≡ found_punctuator (codes "|" ++ second ∷ third ∷ fourth ∷ []) }
+// Of one byte.
+#[rattlefmt::skip]
+fn of_one(first: u8) -> Option<TokenKind>
+    ensures { result ≡ punctuator_of (first ∷ []) }
 {
-    match second {
-        b'|' => (TokenKind::OrOr, 2),
-        b'=' => (TokenKind::OrAssign, 2),
-        _ => (TokenKind::Bar, 1),
-    }
-}
-
-// The longest that begins with `*`.
-fn star(second: u8) -> (TokenKind, usize)
-    ensures { (third fourth : ℕ) → found_of (Some result) ≡ found_punctuator (codes "*" ++ second ∷ third ∷ fourth ∷ []) }
-{
-    match second {
-        b'=' => (TokenKind::StarAssign, 2),
-        _ => (TokenKind::Star, 1),
-    }
-}
-
-// The longest that begins with `/`.
-fn slash(second: u8) -> (TokenKind, usize)
-    ensures { (third fourth : ℕ) → found_of (Some result) ≡ found_punctuator (codes "/" ++ second ∷ third ∷ fourth ∷ []) }
-{
-    match second {
-        b'=' => (TokenKind::SlashAssign, 2),
-        _ => (TokenKind::Slash, 1),
-    }
-}
-
-// The longest that begins with `^`.
-fn caret(second: u8) -> (TokenKind, usize)
-    ensures { (third fourth : ℕ) → found_of (Some result) ≡ found_punctuator (codes "^" ++ second ∷ third ∷ fourth ∷ []) }
-{
-    match second {
-        b'=' => (TokenKind::XorAssign, 2),
-        _ => (TokenKind::Caret, 1),
-    }
-}
-
-// The longest that begins with `!`.
-fn exclamation(second: u8) -> (TokenKind, usize)
-    ensures { (third fourth : ℕ) → found_of (Some result) ≡ found_punctuator (codes "!" ++ second ∷ third ∷ fourth ∷ []) }
-{
-    match second {
-        b'=' => (TokenKind::NotEqual, 2),
-        _ => (TokenKind::Exclamation, 1),
-    }
-}
-
-// The longest that begins with `=`.
-fn equal(second: u8) -> (TokenKind, usize)
-    ensures { (third fourth : ℕ) → found_of (Some result) ≡ found_punctuator (codes "=" ++ second ∷ third ∷ fourth ∷ []) }
-{
-    match second {
-        b'=' => (TokenKind::EqualEqual, 2),
-        _ => (TokenKind::Assign, 1),
-    }
-}
-
-// The longest that begins with `#`.
-fn hash(second: u8) -> (TokenKind, usize)
-    ensures { (third fourth : ℕ) → found_of (Some result) ≡ found_punctuator (codes "#" ++ second ∷ third ∷ fourth ∷ []) }
-{
-    match second {
-        b'#' => (TokenKind::HashHash, 2),
-        _ => (TokenKind::Hash, 1),
-    }
-}
-
-// The longest that begins with `:`.
-fn colon(second: u8) -> (TokenKind, usize)
-    ensures { (third fourth : ℕ) → found_of (Some result) ≡ found_punctuator (codes ":" ++ second ∷ third ∷ fourth ∷ []) }
-{
-    match second {
-        b'>' => (TokenKind::RightBracket, 2),
-        _ => (TokenKind::Colon, 1),
-    }
-}
-
-// The longest that begins with `.`.
-fn dot(second: u8, third: u8) -> (TokenKind, usize)
-    ensures { (fourth : ℕ) → found_of (Some result) ≡ found_punctuator (codes "." ++ second ∷ third ∷ fourth ∷ []) }
-{
-    match second {
-        b'.' if third == b'.' => (TokenKind::Ellipsis, 3),
-        _ => (TokenKind::Dot, 1),
-    }
-}
-
-// The longest that begins with `<`.
-fn less(second: u8, third: u8) -> (TokenKind, usize)
-    ensures { (fourth : ℕ) → found_of (Some result) ≡ found_punctuator (codes "<" ++ second ∷ third ∷ fourth ∷ []) }
-{
-    match second {
-        b'<' if third == b'=' => (TokenKind::ShiftLeftAssign, 3),
-        b'<' => (TokenKind::ShiftLeft, 2),
-        b'=' => (TokenKind::LessEqual, 2),
-        b':' => (TokenKind::LeftBracket, 2),
-        b'%' => (TokenKind::LeftBrace, 2),
-        _ => (TokenKind::Less, 1),
-    }
-}
-
-// The longest that begins with `>`.
-fn greater(second: u8, third: u8) -> (TokenKind, usize)
-    ensures { (fourth : ℕ) → found_of (Some result) ≡ found_punctuator (codes ">" ++ second ∷ third ∷ fourth ∷ []) }
-{
-    match second {
-        b'>' if third == b'=' => (TokenKind::ShiftRightAssign, 3),
-        b'>' => (TokenKind::ShiftRight, 2),
-        b'=' => (TokenKind::GreaterEqual, 2),
-        _ => (TokenKind::Greater, 1),
-    }
-}
-
-// The longest that begins with `%`.
-fn percent(second: u8, third: u8, fourth: u8) -> (TokenKind, usize)
-    ensures { found_of (Some result) ≡ found_punctuator (codes "%" ++ second ∷ third ∷ fourth ∷ []) }
-{
-    match second {
-        b'=' => (TokenKind::PercentAssign, 2),
-        b'>' => (TokenKind::RightBrace, 2),
-        b':' if third == b'%' && fourth == b':' => (TokenKind::HashHash, 4),
-        b':' => (TokenKind::Hash, 2),
-        _ => (TokenKind::Percent, 1),
-    }
+    let kind = match first {
+        b'[' => TokenKind::LeftBracket,         b']' => TokenKind::RightBracket,
+        b'(' => TokenKind::LeftParenthesis,     b')' => TokenKind::RightParenthesis,
+        b'{' => TokenKind::LeftBrace,           b'}' => TokenKind::RightBrace,
+        b'.' => TokenKind::Dot,                 b'&' => TokenKind::Ampersand,
+        b'*' => TokenKind::Star,                b'+' => TokenKind::Plus,
+        b'-' => TokenKind::Minus,               b'~' => TokenKind::Tilde,
+        b'!' => TokenKind::Exclamation,         b'/' => TokenKind::Slash,
+        b'%' => TokenKind::Percent,             b'<' => TokenKind::Less,
+        b'>' => TokenKind::Greater,             b'^' => TokenKind::Caret,
+        b'|' => TokenKind::Bar,                 b'?' => TokenKind::Question,
+        b':' => TokenKind::Colon,               b';' => TokenKind::Semicolon,
+        b'=' => TokenKind::Assign,              b',' => TokenKind::Comma,
+        b'#' => TokenKind::Hash,                _ => return None,
+    };
+    Some(kind)
 }

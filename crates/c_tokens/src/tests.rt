@@ -192,67 +192,10 @@ fn tokens_have_kinds_spellings_and_places(rt: HostRuntime) -> Result<(), Fail> {
     Ok(())
 }
 
-// The kind of a token, which is a punctuator that is spelled as its kind is.
-fn write_kind(rt: &impl Abort, kinds: &mut String, names: &Names, token: &Token) -> Result<(), Fail>
-    requires { IsKnown names.now token.now.name }
-{
-    let is_spelled_so = punctuator(token.kind) == Some(names.spelling(token.name));
-    assert!(rt; is_spelled_so);
-    write!(kinds, "{:?} ", token.kind)?;
-    Ok(())
-}
-
-fn kinds(rt: &impl Abort, alloc: Global, names: &Names, tokens: &[Token]) -> Result<String, Fail>
-    requires { All (λ token. IsKnown names.now token.name) tokens.now }
-{
-    let mut kinds = String::new(alloc);
-    for token in tokens {
-        write_kind(rt, &mut kinds, names, token)?;
-    }
-    Ok(kinds)
-}
-
-// Punctuators, and the kinds of their tokens.
-struct Spelled {
-    text: &'static [u8],
-    kinds: &'static str,
-}
-
-// Each by itself, in the order of C11 6.4.6.
-#[rattlefmt::skip]
-const PUNCTUATORS: [Spelled; 4] = [
-    Spelled {
-        text: b"[ ] ( ) { } . -> ++ -- & * + - ~ !",
-        kinds: "LeftBracket RightBracket LeftParenthesis RightParenthesis LeftBrace RightBrace Dot Arrow PlusPlus MinusMinus Ampersand Star Plus Minus Tilde Exclamation ",
-    },
-    Spelled {
-        text: b"/ % << >> < > <= >= == != ^ | && ||",
-        kinds: "Slash Percent ShiftLeft ShiftRight Less Greater LessEqual GreaterEqual EqualEqual NotEqual Caret Bar AndAnd OrOr ",
-    },
-    Spelled {
-        text: b"? : ; ... = *= /= %= += -= <<= >>= &= ^= |=",
-        kinds: "Question Colon Semicolon Ellipsis Assign StarAssign SlashAssign PercentAssign PlusAssign MinusAssign ShiftLeftAssign ShiftRightAssign AndAssign XorAssign OrAssign ",
-    },
-    Spelled { text: b", # ##", kinds: "Comma Hash HashHash " },
-];
-
-// The row's text has the row's kinds.
-fn assert_kinds(rt: &impl Abort, alloc: Global, row: &Spelled) -> Result<(), Fail> {
-    assert!(rt; row.text.len() < 1 << 30);
-    let mut names = Names::new(alloc)?;
-    let tokens = lex(alloc, &mut names, 1, row.text)?;
-    let found = kinds(rt, alloc, &names, &tokens)?;
-    assert_eq!(rt; found.as_str(), row.kinds);
-    Ok(())
-}
-
 #[test]
-fn punctuators_are_told_by_their_kinds(rt: HostRuntime) -> Result<(), Fail> {
-    for row in &PUNCTUATORS {
-        assert_kinds(&rt, rt.alloc(), row)?;
-    }
-    assert_eq!(rt; punctuator(TokenKind::Number), None);
-    Ok(())
+fn punctuators_have_spellings(rt: HostRuntime) {
+    assert!(rt; punctuator(TokenKind::ShiftLeftAssign) == Some(b"<<=".as_slice()));
+    assert!(rt; punctuator(TokenKind::Number).is_none());
 }
 
 // The spelling has this id.

@@ -9,6 +9,7 @@ use Rattle.meaning_syntax.specs.Items as syntax
 use Rattle.meaning_syntax.specs.Binding as binding
 use Rattle.meaning_rules.specs.Evaluation.{InAssignment}
 use Rattle.meaning_rules.specs.Failures as rules
+use Rattle.meaning_types.specs.Equality as equality
 use Rattle.meaning_rules.specs.Judging as judging
 use Rattle.meaning_rules.specs.Typing.{behind_stars, int_with}
 use Rattle.sparse_model.specs.declared.ids.NameId.{NameId}
@@ -42,7 +43,7 @@ is_space-space_of names (spaces.Named id) = refl
 -- spaces of the table are equal where they are seen as equal
 are_equal_spaces-space_of :
     (names : List (List ℕ)) (a b : Space) → AreApart names → IsKnownSpace names a → IsKnownSpace names b
-    → judging.are_equal_spaces (space_of names a) (space_of names b) ≡ found.are_equal_spaces a b
+    → equality.are_equal_spaces (space_of names a) (space_of names b) ≡ found.are_equal_spaces a b
 are_equal_spaces-space_of names spaces.None spaces.None apart known_a known_b = refl
 are_equal_spaces-space_of names spaces.None (spaces.Number n) apart known_a known_b = refl
 are_equal_spaces-space_of names spaces.None (spaces.Named y) apart known_a known_b = refl
@@ -56,9 +57,9 @@ are_equal_spaces-space_of names (spaces.Named x) (spaces.Named y) apart known_a 
 -- and so are flags
 are_equal_flags-flags_of :
     (names : List (List ℕ)) (a b : ObjectType) → AreApart names → IsKnownObject names a → IsKnownObject names b
-    → judging.are_equal_flags (flags_of names a) (flags_of names b) ≡ found.have_equal_flags a b
+    → equality.are_equal_flags (flags_of names a) (flags_of names b) ≡ found.have_equal_flags a b
 are_equal_flags-flags_of names a b apart known_a known_b =
-    ap (λ same. judging.are_equal_bools a.noderef b.noderef && same) (are_equal_spaces-space_of names a.space b.space apart known_a known_b)
+    ap (λ same. equality.are_equal_bools a.noderef b.noderef && same) (are_equal_spaces-space_of names a.space b.space apart known_a known_b)
 
 -- One statement
 
@@ -81,7 +82,7 @@ failures_of-access names token place declared so =
 -- what is judged of an assignment, by the parts of the objects' types
 abbrev assignment_judged : ℕ → ℕ → types.Flags → ℕ → types.Flags → List rules.Failure
 assignment_judged token target target_flags source source_flags =
-    if nat_lt 0 target && not (judging.are_equal_flags target_flags source_flags)
+    if nat_lt 0 target && not (equality.are_equal_flags target_flags source_flags)
     then record { token = token; part = 0; cause = rules.SpacesMixed InAssignment (behind_stars target (int_with target_flags)) (types.value_type (behind_stars source (int_with source_flags))) } ∷ []
     else []
 

@@ -1,6 +1,6 @@
 -- What is found in the statements of a scope, over the values of this crate.
 use Rattle.std.specs.Prelude.{ℕ, ◌+◌, Bool, true, false, ◌&&◌, ◌||◌, List, [], ◌∷◌, ◌++◌, Option, Some, None, not, nat_eq, nat_lt, if◌then◌else◌}
-use Rattle.meaning_rules.specs.Judging.{are_equal_bools}
+use Rattle.meaning_types.specs.Equality.{are_equal_bools}
 use Rattle.sparse_model.specs.declared.ids.NameId.{NameId}
 use Rattle.sparse_model.specs.declared.space.Space.{Space}
 use Rattle.sparse_model.specs.declared.space.Space.TheVariants as spaces

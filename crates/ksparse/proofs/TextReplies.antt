@@ -5,7 +5,7 @@ use Rattle.meaning_text.specs.Terminals.{terminals_of}
 use Rattle.meaning_syntax.specs.Items.{Item}
 use Rattle.meaning_syntax.specs.Binding.{are_bound}
 use Rattle.meaning_syntax.specs.Reading.{Texts, read_items, read_unit}
-use Rattle.meaning_rules.specs.Text.{main_file}
+use Rattle.meaning_text.specs.Places.{main_file}
 use Rattle.meaning_answer.specs.Reply.{Reply, Refused, line}
 use Rattle.meaning_answer.specs.Answer.{opening_text, IsTextReply}
 use Rattle.meaning_answer.specs.Answering.{unit_reply}

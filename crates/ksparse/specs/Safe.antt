@@ -5,7 +5,7 @@ use Rattle.meaning_text.specs.Tokens.{Tok, LexesFile}
 use Rattle.meaning_text.specs.Terminals.{terminals_of}
 use Rattle.meaning_tree.specs.Trees.{SyntaxTree}
 use Rattle.meaning_syntax.specs.Trees.{Derives}
-use Rattle.meaning_rules.specs.Text.{main_file}
+use Rattle.meaning_text.specs.Places.{main_file}
 use Rattle.meaning_answer.specs.Reply.{Ending, Clean}
 use Rattle.meaning_answer.specs.Command.{Request, BadWord, MissingFile, Check, request_of}
 use Rattle.meaning_answer.specs.Answer.{IsInForm}

@@ -18,7 +18,7 @@ use Rattle.meaning_syntax.proofs.Derivations.{read_units_derive, derived_trees_a
 use Rattle.meaning_rules.specs.Failures.{Failure, IsListing}
 use Rattle.meaning_rules.specs.Judging.{failures_of}
 use Rattle.meaning_rules.proofs.Units.{listings_exist, listings_are_unique}
-use Rattle.meaning_rules.specs.Text.{main_file}
+use Rattle.meaning_text.specs.Places.{main_file}
 use Rattle.meaning_answer.specs.Reply.{Reply, Refused, Limit, line}
 use Rattle.meaning_answer.specs.Command.{Request, BadWord, MissingFile, Check, request_of}
 use Rattle.meaning_answer.specs.Answer.{most_bytes, most_tokens, file_size_text, unit_tokens_text, not_built_text, opening_text, warned, IsChecked, IsInForm, IsTextReply, IsFileReply, IsRequestReply, TellsFailures, TellsTooManyTokens, TellsNotBuilt, TellsOpening}

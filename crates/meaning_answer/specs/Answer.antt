@@ -8,7 +8,8 @@ use Rattle.meaning_text.specs.Terminals.{terminals_of}
 use Rattle.meaning_tree.specs.Trees.{SyntaxTree}
 use Rattle.meaning_syntax.specs.Trees.{Derives}
 use Rattle.meaning_rules.specs.Failures.{Failure, IsListing}
-use Rattle.meaning_rules.specs.Text.{main_file, place_text, warnings_text}
+use Rattle.meaning_text.specs.Places.{main_file}
+use Rattle.meaning_rules.specs.Text.{place_text, warnings_text}
 use Rattle.meaning_answer.specs.Reply.{Reply, Warned, Refused, Usage, Limit, silence, line}
 use Rattle.meaning_answer.specs.Command.{Request, BadWord, MissingFile, Check, request_of}
 

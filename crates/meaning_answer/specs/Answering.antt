@@ -9,7 +9,7 @@ use Rattle.meaning_syntax.specs.Items.{Item}
 use Rattle.meaning_syntax.specs.Reading.{read_unit}
 use Rattle.meaning_rules.specs.Failures.{Failure}
 use Rattle.meaning_rules.specs.Judging.{failures_of}
-use Rattle.meaning_rules.specs.Text.{main_file}
+use Rattle.meaning_text.specs.Places.{main_file}
 use Rattle.meaning_answer.specs.Reply.{Reply, Refused, Usage, Limit, line}
 use Rattle.meaning_answer.specs.Command.{Request, BadWord, MissingFile, Check, request_of}
 use Rattle.meaning_answer.specs.Answer.{most_bytes, most_tokens, unit_tokens_text, opening_text, warned, bad_word_text, missing_file_text, no_such_file_text, file_size_text, not_built_text}

@@ -1,12 +1,13 @@
 -- The elements that are computed are those that the grammar spells.
 use Rattle.std.proofs.Common.{◌≡◌, ℕ, suc, zero, ◌+◌, ◌<◌, ◌≤◌, true, false, Some, None, nat_le, List, [], ◌∷◌, ◌++◌, length, drop, codes, if◌then◌else◌, refl, sym, ap, ◌∙◌, subst, arith, ◌⊎◌}
+use Rattle.std.specs.Str.{bytes_eq}
 use Rattle.std.specs.List.{list_all}
 use Rattle.std.proofs.Math.Seq.{drop-append_seam, drop-append-add}
 use Rattle.std.proofs.lemmas.Bool.Decides.{nat_tests}
 use Rattle.std.proofs.lemmas.Bool.{and_parts}
 use Rattle.std.proofs.lemmas.List.Folds.{length-prefix_len}
 use Rattle.meaning_literals.specs.Numbers.{Octal, Hexadecimal, is_digit_of, digits_of, number}
-use Rattle.meaning_literals.specs.Bytes.{is_one_of, is_empty}
+use Rattle.meaning_literals.specs.Bytes.{is_one_of}
 use Rattle.meaning_literals.specs.Elements.{Element, Plain, Escape, UniversalName, Piece, unknown_escape, simple_value, octal_escape, hexadecimal_escape, universal_name, escape_at, piece_at, elements_of, elements_behind}
 use Rattle.meaning_literals.specs.Grammar.{Spells, spells_plain, spells_simple, spells_octal, spells_hexadecimal, spells_short_name, spells_long_name, stops}
 use Rattle.meaning_literals.proofs.Runs.{IsRun-append, take-run, prefix_len-ge, IsShortRun-append}
@@ -59,7 +60,7 @@ pub hexadecimal_escape-some :
     → hexadecimal_escape text ≡ record { element = Escape (number Hexadecimal digits); further = 1 + length digits }
 hexadecimal_escape-some text [] front some = absurd (omega arith)
 hexadecimal_escape-some text (b ∷ digits) front some =
-    ap (λ ds. let p : Piece = if is_empty ds then unknown_escape else record { element = Escape (number Hexadecimal ds); further = 1 + length ds } in p) front
+    ap (λ ds. let p : Piece = if bytes_eq ds [] then unknown_escape else record { element = Escape (number Hexadecimal ds); further = 1 + length ds } in p) front
 
 Reads-hexadecimal :
     (digits rest : List ℕ) → list_all (is_digit_of Hexadecimal) digits ≡ true → 0 < length digits → stops (is_digit_of Hexadecimal) rest ≡ true

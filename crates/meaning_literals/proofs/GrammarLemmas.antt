@@ -1,5 +1,6 @@
 -- Each text is made of the elements that are computed, and of no others.
 use Rattle.std.proofs.Common.{◌≡◌, ℕ, ◌+◌, ◌<◌, ◌≤◌, true, false, Option, Some, None, nat_le, List, [], ◌∷◌, ◌++◌, length, take, drop, codes, if◌then◌else◌, refl, sym, ap, ◌∙◌, subst, arith, ◌⊎◌, inl, inr, ⊎_elim, take-append-drop, length-append}
+use Rattle.std.specs.Str.{bytes_eq}
 use Rattle.std.specs.List.{list_all}
 use Rattle.std.proofs.Math.Seq.{take-append_seam, take-append-add, drop-append_seam, drop-append-add}
 use Rattle.std.proofs.lemmas.Bool.Decides.{nat_tests}
@@ -7,7 +8,7 @@ use Rattle.std.proofs.lemmas.Bool.{cases_Bool}
 use Rattle.std.proofs.lemmas.List.{take-append-le, length-take-le}
 use Rattle.std.proofs.lemmas.List.Folds.{length-prefix_len}
 use Rattle.meaning_literals.specs.Numbers.{Octal, Hexadecimal, is_digit_of, digits_of, number}
-use Rattle.meaning_literals.specs.Bytes.{is_one_of, is_empty}
+use Rattle.meaning_literals.specs.Bytes.{is_one_of}
 use Rattle.meaning_literals.specs.Elements.{Element, Plain, Escape, UnknownEscape, UniversalName, Piece, unknown_escape, simple_value, hexadecimal_escape, universal_name, lettered_escape, escape_at, piece_at, elements_of}
 use Rattle.meaning_literals.specs.Grammar.{Spells, spells_plain, spells_simple, spells_octal, spells_hexadecimal, spells_short_name, spells_long_name, IsUnknown, HasBytes, IsMadeOf}
 use Rattle.meaning_literals.proofs.Runs.{IsRun, run_of, take-run, drop-run, prefix_len-passes, short_run_of, list_all-take}
@@ -77,7 +78,7 @@ HasFirst-octal b text digit =
 -- without a digit behind it the letter x begins no escape sequence
 hexadecimal_escape-none : (text : List ℕ) → digits_of Hexadecimal text ≡ [] → hexadecimal_escape text ≡ unknown_escape
 hexadecimal_escape-none text none =
-    ap (λ ds. let p : Piece = if is_empty ds then unknown_escape else record { element = Escape (number Hexadecimal ds); further = 1 + length ds } in p) none
+    ap (λ ds. let p : Piece = if bytes_eq ds [] then unknown_escape else record { element = Escape (number Hexadecimal ds); further = 1 + length ds } in p) none
 
 hexadecimal_from : (text run rest : List ℕ) → IsRun (is_digit_of Hexadecimal) text run rest → HasFirst mark (codes "x" ++ text)
 hexadecimal_from text [] rest is = HasFirst-unknown 120 text (hexadecimal_escape-none text (take-run (is_digit_of Hexadecimal) text [] rest is))

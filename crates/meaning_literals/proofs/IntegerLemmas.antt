@@ -1,17 +1,19 @@
 -- Decimal digits are read as the number that they write.
-use Rattle.std.proofs.Common.{◌≡◌, ℕ, suc, zero, ◌<◌, ◌≤◌, Bool, true, false, ◌||◌, nat_le, Some, Result, Ok, Err, List, [], ◌∷◌, get_or, drop, codes, decimal, if◌then◌else◌, rules, refl, ap, ◌∙◌, subst, arith}
+use Rattle.std.proofs.Common.{◌≡◌, ℕ, suc, zero, ◌<◌, Bool, true, false, ◌||◌, pos, ◌≤ℤ◌, int_le, Some, Result, Ok, Err, List, [], ◌∷◌, get_or, drop, codes, decimal, if◌then◌else◌, rules, refl, ap, ◌∙◌, subst, arith}
+use Rattle.std.specs.Str.{bytes_eq}
 use Rattle.std.specs.List.{list_all, list_any}
 use Rattle.std.proofs.lemmas.Bool.Decides.{nat_tests}
 use Rattle.std.proofs.lemmas.Bool.{and_parts}
 use Rattle.std.proofs.lemmas.List.{append-nil}
 use Rattle.std.proofs.lemmas.Fmt.{decimal_digit, digits_decimal, digits_value-decimal, first_decimal}
 use Rattle.std.proofs.lemmas.Str.Parse.{IsNumeralModel, numerals_by_weight}
-use Rattle.meaning_types.specs.Types.{IntKind, LongKind}
+use Rattle.vocabulary.specs.declared.int_kind.IntKind.TheVariants.{Int, Long}
+use Rattle.meaning_types.specs.Ranges.{greatest}
 use Rattle.meaning_literals.specs.Numbers.{Decimal, is_digit_of, behind_digits, number}
 use Rattle.meaning_literals.specs.Suffixes.{NoSuffix, suffix_of}
-use Rattle.meaning_literals.specs.Kinds.{greatest, decimal_kinds, first_that_holds}
+use Rattle.meaning_literals.specs.Kinds.{decimal_kinds, first_that_holds}
 use Rattle.meaning_literals.specs.Constants.{Constant, Fault, BadDigitFault}
-use Rattle.meaning_literals.specs.Bytes.{is_one_of, is_empty}
+use Rattle.meaning_literals.specs.Bytes.{is_one_of}
 use Rattle.meaning_literals.specs.Integers.{begins_with_digit, has_hexadecimal_prefix, base_of, behind_prefix, is_floating, floating_marks, constant_of_kind, constant_with, numeral_constant, integer_of}
 use Rattle.meaning_literals.proofs.Runs.{IsRun, IsRun-append, take-run, drop-run}
 
@@ -53,7 +55,7 @@ IsRun-digits digits all =
 -- the constant of digits and what follows them
 abbrev constant_from : List ℕ → List ℕ → Result Constant Fault
 constant_from digits behind =
-    if is_empty digits || begins_with_digit behind then Err BadDigitFault else constant_with Decimal digits (suffix_of behind)
+    if bytes_eq digits [] || begins_with_digit behind then Err BadDigitFault else constant_with Decimal digits (suffix_of behind)
 
 numeral_constant-digits :
     (b : ℕ) (digits : List ℕ) → list_all (is_digit_of Decimal) (b ∷ digits) ≡ true
@@ -77,21 +79,21 @@ integer_of-digits (b ∷ digits) all above =
     read ∙ ap (λ base. numeral_constant base (behind_prefix base text)) base ∙ numeral_constant-digits b digits all
 
 kind_from :
-    (n : ℕ) (small : Bool) → nat_le n (greatest IntKind) ≡ small → n ≤ greatest LongKind
-    → first_that_holds n (decimal_kinds NoSuffix) ≡ Some (if small then IntKind else LongKind)
+    (n : ℕ) (small : Bool) → int_le (pos n) (greatest Int) ≡ small → pos n ≤ℤ greatest Long
+    → first_that_holds n (decimal_kinds NoSuffix) ≡ Some (if small then Int else Long)
 kind_from n true same fits = rw same refl
 kind_from n false same fits =
-    let holds : nat_le n (greatest LongKind) ≡ true = grind (arith, nat_tests) in
+    let holds : int_le (pos n) (greatest Long) ≡ true = grind (arith, nat_tests) in
     rw (same, holds) refl
 
 -- the kind of a number that a long holds
-kind_of_number : (n : ℕ) → n ≤ greatest LongKind → first_that_holds n (decimal_kinds NoSuffix) ≡ Some (if nat_le n (greatest IntKind) then IntKind else LongKind)
-kind_of_number n fits = kind_from n (nat_le n (greatest IntKind)) refl fits
+kind_of_number : (n : ℕ) → pos n ≤ℤ greatest Long → first_that_holds n (decimal_kinds NoSuffix) ≡ Some (if int_le (pos n) (greatest Int) then Int else Long)
+kind_of_number n fits = kind_from n (int_le (pos n) (greatest Int)) refl fits
 
 pub integer_of-decimal :
-    (n : ℕ) → n ≤ greatest LongKind → integer_of (decimal n) ≡ Ok (record { kind = if nat_le n (greatest IntKind) then IntKind else LongKind; bits = n })
-integer_of-decimal zero fits = ap integer_of (decimal_digit 0 (omega arith))
+    (n : ℕ) → pos n ≤ℤ greatest Long → integer_of (decimal n) ≡ Ok (record { kind = if int_le (pos n) (greatest Int) then Int else Long; bits = n })
+integer_of-decimal zero fits = ap integer_of (decimal_digit 0 (grind arith))
 integer_of-decimal (suc n) fits =
-    let number_is = digits_value-decimal are_numerals (suc n) (omega arith) in
-    let read = integer_of-digits (decimal (suc n)) (digits_decimal are_numerals (suc n) (omega arith)) (first_decimal (suc n) (omega arith) (omega arith)) in
+    let number_is = digits_value-decimal are_numerals (suc n) (grind arith) in
+    let read = integer_of-digits (decimal (suc n)) (digits_decimal are_numerals (suc n) (grind arith)) (first_decimal (suc n) (grind arith) (grind arith)) in
     read ∙ ap (λ value. constant_of_kind value (first_that_holds value (decimal_kinds NoSuffix))) number_is ∙ ap (constant_of_kind (suc n)) (kind_of_number (suc n) fits)

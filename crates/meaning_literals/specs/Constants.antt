@@ -1,10 +1,10 @@
 -- What a literal is, or why it is none.
 use Rattle.std.specs.Prelude.{ℕ}
-use Rattle.meaning_types.specs.Types.{Kind}
+use Rattle.vocabulary.specs.declared.int_kind.IntKind.{IntKind}
 
 -- an integer constant: its kind, and its value modulo 2^64
 pub record Constant : Type 0 where
-  pub kind : Kind
+  pub kind : IntKind
   pub bits : ℕ
 
 -- the one reason for which a literal is refused

@@ -1,7 +1,8 @@
 -- What stands between the quotation marks of a literal (C11 6.4.4.4 p1, 6.4.5 p1).
 use Rattle.std.specs.Prelude.{ℕ, zero, suc, ◌+◌, ◌==◌, Option, Some, None, option_map, List, [], ◌∷◌, ◌++◌, take, length, find, zip, codes, nat_le, if◌then◌else◌}
+use Rattle.std.specs.Str.{bytes_eq}
 use Rattle.meaning_literals.specs.Numbers.{Octal, Hexadecimal, is_digit_of, digits_of, number}
-use Rattle.meaning_literals.specs.Bytes.{is_one_of, is_empty}
+use Rattle.meaning_literals.specs.Bytes.{is_one_of}
 
 pub data Element : Type 0 where
   -- a byte that stands for itself
@@ -42,7 +43,7 @@ octal_escape text =
 -- what follows `\x`: hexadecimal digits, at least one and as many as there can be
 abbrev pub hexadecimal_escape : List ℕ → Piece
 hexadecimal_escape text =
-    if is_empty (digits_of Hexadecimal text) then unknown_escape
+    if bytes_eq (digits_of Hexadecimal text) [] then unknown_escape
     else record { element = Escape (number Hexadecimal (digits_of Hexadecimal text)); further = 1 + length (digits_of Hexadecimal text) }
 
 -- what follows `\u` or `\U`: so many hexadecimal digits (6.4.3)

@@ -1,6 +1,7 @@
 -- Worked examples: short literals and their values, or why they are refused.
 use Rattle.std.specs.Prelude.{◌≡◌, ℕ, ◌-◌, ◌^◌, Option, Some, None, Result, Ok, Err, List, [], ◌∷◌, ◌++◌, map, replicate, codes}
-use Rattle.meaning_types.specs.Types.{Kind, IntKind, UnsignedIntKind, LongKind, UnsignedLongKind, LongLongKind, UnsignedLongLongKind}
+use Rattle.vocabulary.specs.declared.int_kind.IntKind.{IntKind}
+use Rattle.vocabulary.specs.declared.int_kind.IntKind.TheVariants.{Int, UInt, Long, ULong, LLong, ULLong}
 use Rattle.meaning_literals.specs.Numbers.{Base, Decimal, Octal, Hexadecimal}
 use Rattle.meaning_literals.specs.Suffixes.{Suffix, NoSuffix, U, L, UL, LL, ULL, suffixes, suffix_of}
 use Rattle.meaning_literals.specs.Kinds.{kinds_of, first_that_holds}
@@ -10,22 +11,22 @@ use Rattle.meaning_literals.specs.Elements.{Plain, Escape, UnknownEscape, Univer
 use Rattle.meaning_literals.specs.Quoted.{char_of, string_of}
 
 -- a constant of this kind and value
-abbrev pub is_constant : Kind → ℕ → Result Constant Fault
+abbrev pub is_constant : IntKind → ℕ → Result Constant Fault
 is_constant kind bits = Ok (record { kind = kind; bits = bits })
 
 pub record IntegerExamples : Type 0 where
-  pub zero_is_octal : integer_of (codes "0") ≡ is_constant IntKind 0
-  pub octal : integer_of (codes "0177") ≡ is_constant IntKind 127
-  pub decimal : integer_of (codes "90") ≡ is_constant IntKind 90
-  pub hexadecimal : integer_of (codes "0xaF") ≡ is_constant IntKind 175
-  pub e_is_a_hexadecimal_digit : integer_of (codes "0X1e5") ≡ is_constant IntKind 485
-  pub hexadecimal_goes_to_unsigned_int : integer_of (codes "0x80000000") ≡ is_constant UnsignedIntKind 2147483648
-  pub decimal_goes_to_long : integer_of (codes "2147483648") ≡ is_constant LongKind 2147483648
-  pub greatest_int : integer_of (codes "2147483647") ≡ is_constant IntKind 2147483647
-  pub greatest_unsigned_long : integer_of (codes "18446744073709551615u") ≡ is_constant UnsignedLongKind 18446744073709551615
-  pub greatest_long : integer_of (codes "9223372036854775807") ≡ is_constant LongKind 9223372036854775807
-  pub long_long : integer_of (codes "1ll") ≡ is_constant LongLongKind 1
-  pub unsigned_long_long : integer_of (codes "0xffffffffffffffffLL") ≡ is_constant UnsignedLongLongKind 18446744073709551615
+  pub zero_is_octal : integer_of (codes "0") ≡ is_constant Int 0
+  pub octal : integer_of (codes "0177") ≡ is_constant Int 127
+  pub decimal : integer_of (codes "90") ≡ is_constant Int 90
+  pub hexadecimal : integer_of (codes "0xaF") ≡ is_constant Int 175
+  pub e_is_a_hexadecimal_digit : integer_of (codes "0X1e5") ≡ is_constant Int 485
+  pub hexadecimal_goes_to_unsigned_int : integer_of (codes "0x80000000") ≡ is_constant UInt 2147483648
+  pub decimal_goes_to_long : integer_of (codes "2147483648") ≡ is_constant Long 2147483648
+  pub greatest_int : integer_of (codes "2147483647") ≡ is_constant Int 2147483647
+  pub greatest_unsigned_long : integer_of (codes "18446744073709551615u") ≡ is_constant ULong 18446744073709551615
+  pub greatest_long : integer_of (codes "9223372036854775807") ≡ is_constant Long 9223372036854775807
+  pub long_long : integer_of (codes "1ll") ≡ is_constant LLong 1
+  pub unsigned_long_long : integer_of (codes "0xffffffffffffffffLL") ≡ is_constant ULLong 18446744073709551615
   pub too_big_for_64_bits : integer_of (codes "18446744073709551616") ≡ Err TooBigFault
   pub too_big_for_a_signed_kind : integer_of (codes "9223372036854775808") ≡ Err TooBigFault
   pub too_big_in_hexadecimal : integer_of (codes "0x10000000000000000") ≡ Err TooBigFault
@@ -50,32 +51,32 @@ values_at_limits =
     1 ∷ 2147483647 ∷ 2147483648 ∷ 4294967295 ∷ 4294967296 ∷ 9223372036854775807 ∷ 9223372036854775808
     ∷ 18446744073709551615 ∷ 18446744073709551616 ∷ []
 
-abbrev pub kinds_at_limits : Base → Suffix → List (Option Kind)
+abbrev pub kinds_at_limits : Base → Suffix → List (Option IntKind)
 kinds_at_limits base suffix = map (λ value. first_that_holds value (kinds_of base suffix)) values_at_limits
 
 -- so many of the values in turn are of this kind
-abbrev pub values_of : ℕ → Kind → List (Option Kind)
+abbrev pub values_of : ℕ → IntKind → List (Option IntKind)
 values_of count kind = replicate count (Some kind)
 
 -- and so many of none
-abbrev pub refused_values : ℕ → List (Option Kind)
+abbrev pub refused_values : ℕ → List (Option IntKind)
 refused_values count = replicate count None
 
 pub record KindExamples : Type 0 where
-  pub decimal : kinds_at_limits Decimal NoSuffix ≡ values_of 2 IntKind ++ values_of 4 LongKind ++ refused_values 3
+  pub decimal : kinds_at_limits Decimal NoSuffix ≡ values_of 2 Int ++ values_of 4 Long ++ refused_values 3
   pub octal :
       kinds_at_limits Octal NoSuffix
-      ≡ values_of 2 IntKind ++ values_of 2 UnsignedIntKind ++ values_of 2 LongKind ++ values_of 2 UnsignedLongKind ++ refused_values 1
-  pub decimal_unsigned : kinds_at_limits Decimal U ≡ values_of 4 UnsignedIntKind ++ values_of 4 UnsignedLongKind ++ refused_values 1
-  pub octal_unsigned : kinds_at_limits Octal U ≡ values_of 4 UnsignedIntKind ++ values_of 4 UnsignedLongKind ++ refused_values 1
-  pub decimal_long : kinds_at_limits Decimal L ≡ values_of 6 LongKind ++ refused_values 3
-  pub octal_long : kinds_at_limits Octal L ≡ values_of 6 LongKind ++ values_of 2 UnsignedLongKind ++ refused_values 1
-  pub decimal_unsigned_long : kinds_at_limits Decimal UL ≡ values_of 8 UnsignedLongKind ++ refused_values 1
-  pub octal_unsigned_long : kinds_at_limits Octal UL ≡ values_of 8 UnsignedLongKind ++ refused_values 1
-  pub decimal_long_long : kinds_at_limits Decimal LL ≡ values_of 6 LongLongKind ++ refused_values 3
-  pub octal_long_long : kinds_at_limits Octal LL ≡ values_of 6 LongLongKind ++ values_of 2 UnsignedLongLongKind ++ refused_values 1
-  pub decimal_unsigned_long_long : kinds_at_limits Decimal ULL ≡ values_of 8 UnsignedLongLongKind ++ refused_values 1
-  pub octal_unsigned_long_long : kinds_at_limits Octal ULL ≡ values_of 8 UnsignedLongLongKind ++ refused_values 1
+      ≡ values_of 2 Int ++ values_of 2 UInt ++ values_of 2 Long ++ values_of 2 ULong ++ refused_values 1
+  pub decimal_unsigned : kinds_at_limits Decimal U ≡ values_of 4 UInt ++ values_of 4 ULong ++ refused_values 1
+  pub octal_unsigned : kinds_at_limits Octal U ≡ values_of 4 UInt ++ values_of 4 ULong ++ refused_values 1
+  pub decimal_long : kinds_at_limits Decimal L ≡ values_of 6 Long ++ refused_values 3
+  pub octal_long : kinds_at_limits Octal L ≡ values_of 6 Long ++ values_of 2 ULong ++ refused_values 1
+  pub decimal_unsigned_long : kinds_at_limits Decimal UL ≡ values_of 8 ULong ++ refused_values 1
+  pub octal_unsigned_long : kinds_at_limits Octal UL ≡ values_of 8 ULong ++ refused_values 1
+  pub decimal_long_long : kinds_at_limits Decimal LL ≡ values_of 6 LLong ++ refused_values 3
+  pub octal_long_long : kinds_at_limits Octal LL ≡ values_of 6 LLong ++ values_of 2 ULLong ++ refused_values 1
+  pub decimal_unsigned_long_long : kinds_at_limits Decimal ULL ≡ values_of 8 ULLong ++ refused_values 1
+  pub octal_unsigned_long_long : kinds_at_limits Octal ULL ≡ values_of 8 ULLong ++ refused_values 1
   -- hexadecimal constants stand in the column of octal ones
   pub hexadecimal : map (kinds_at_limits Hexadecimal) suffixes ≡ map (kinds_at_limits Octal) suffixes
 
@@ -95,16 +96,16 @@ pub record SuffixExamples : Type 0 where
       ≡ replicate 8 None
 
 pub record CharacterExamples : Type 0 where
-  pub letter : char_of (codes "'a'") ≡ is_constant IntKind 97
-  pub new_line : char_of (codes "'\\n'") ≡ is_constant IntKind 10
-  pub apostrophe : char_of (codes "'\\''") ≡ is_constant IntKind 39
-  pub zero_byte : char_of (codes "'\\0'") ≡ is_constant IntKind 0
-  pub greatest_char : char_of (codes "'\\177'") ≡ is_constant IntKind 127
-  pub least_char : char_of (codes "'\\200'") ≡ is_constant IntKind (2 ^ 64 - 128)
-  pub char_is_signed : char_of (codes "'\\377'") ≡ is_constant IntKind (2 ^ 64 - 1)
-  pub hexadecimal : char_of (codes "'\\xfF'") ≡ is_constant IntKind (2 ^ 64 - 1)
-  pub byte_is_a_character : char_of (codes "'" ++ 233 ∷ codes "'") ≡ is_constant IntKind (2 ^ 64 - 23)
-  pub leading_zeros : char_of (codes "'\\x00000000000000000041'") ≡ is_constant IntKind 65
+  pub letter : char_of (codes "'a'") ≡ is_constant Int 97
+  pub new_line : char_of (codes "'\\n'") ≡ is_constant Int 10
+  pub apostrophe : char_of (codes "'\\''") ≡ is_constant Int 39
+  pub zero_byte : char_of (codes "'\\0'") ≡ is_constant Int 0
+  pub greatest_char : char_of (codes "'\\177'") ≡ is_constant Int 127
+  pub least_char : char_of (codes "'\\200'") ≡ is_constant Int (2 ^ 64 - 128)
+  pub char_is_signed : char_of (codes "'\\377'") ≡ is_constant Int (2 ^ 64 - 1)
+  pub hexadecimal : char_of (codes "'\\xfF'") ≡ is_constant Int (2 ^ 64 - 1)
+  pub byte_is_a_character : char_of (codes "'" ++ 233 ∷ codes "'") ≡ is_constant Int (2 ^ 64 - 23)
+  pub leading_zeros : char_of (codes "'\\x00000000000000000041'") ≡ is_constant Int 65
   pub above_255 : char_of (codes "'\\400'") ≡ Err BadEscapeFault
   pub hexadecimal_above_255 : char_of (codes "'\\x100'") ≡ Err BadEscapeFault
   pub no_hexadecimal_digit : char_of (codes "'\\x'") ≡ Err BadEscapeFault

@@ -1,9 +1,10 @@
 -- The value of an integer constant (C11 6.4.4.1).
 use Rattle.std.specs.Prelude.{ℕ, Bool, false, ◌&&◌, ◌||◌, Option, Some, None, Result, Ok, Err, List, [], ◌∷◌, drop, codes, if◌then◌else◌}
+use Rattle.std.specs.Str.{bytes_eq}
 use Rattle.std.specs.List.{list_any}
 use Rattle.std.specs.Char.{is_ascii_digit}
-use Rattle.meaning_types.specs.Types.{Kind}
-use Rattle.meaning_literals.specs.Bytes.{is_one_of, is_empty}
+use Rattle.vocabulary.specs.declared.int_kind.IntKind.{IntKind}
+use Rattle.meaning_literals.specs.Bytes.{is_one_of}
 use Rattle.meaning_literals.specs.Numbers.{Base, Octal, Decimal, Hexadecimal, digits_of, behind_digits, number}
 use Rattle.meaning_literals.specs.Suffixes.{Suffix, suffix_of}
 use Rattle.meaning_literals.specs.Kinds.{kinds_of, first_that_holds}
@@ -45,10 +46,10 @@ begins_with_digit (b ∷ text) = is_ascii_digit b
 
 -- no digit of the base, or a decimal digit directly behind the longest run of them
 abbrev pub has_bad_digit : Base → List ℕ → Bool
-has_bad_digit base numeral = is_empty (digits_of base numeral) || begins_with_digit (behind_digits base numeral)
+has_bad_digit base numeral = bytes_eq (digits_of base numeral) [] || begins_with_digit (behind_digits base numeral)
 
 -- the constant of this value, unless no kind holds it
-abbrev pub constant_of_kind : ℕ → Option Kind → Result Constant Fault
+abbrev pub constant_of_kind : ℕ → Option IntKind → Result Constant Fault
 constant_of_kind value None = Err TooBigFault
 constant_of_kind value (Some kind) = Ok (record { kind = kind; bits = value })
 

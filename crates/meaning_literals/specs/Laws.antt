@@ -1,7 +1,7 @@
 -- What holds of the literals of C.
-use Rattle.std.specs.Prelude.{◌≡◌, ◌≤◌, ℕ, List, Ok, decimal, nat_le, if◌then◌else◌}
-use Rattle.meaning_types.specs.Types.{IntKind, LongKind}
-use Rattle.meaning_literals.specs.Kinds.{greatest}
+use Rattle.std.specs.Prelude.{◌≡◌, ℕ, pos, ◌≤ℤ◌, int_le, List, Ok, decimal, if◌then◌else◌}
+use Rattle.vocabulary.specs.declared.int_kind.IntKind.TheVariants.{Int, Long}
+use Rattle.meaning_types.specs.Ranges.{greatest}
 use Rattle.meaning_literals.specs.Integers.{integer_of}
 use Rattle.meaning_literals.specs.Elements.{Element, elements_of}
 use Rattle.meaning_literals.specs.Grammar.{IsMadeOf}
@@ -17,5 +17,5 @@ ElementsAreThose = (text : List ℕ) (elements : List Element) → IsMadeOf text
 -- the decimal digits of a number that a long holds are that number, an int where that holds it
 abbrev pub DecimalsAreRead : Type 0
 DecimalsAreRead =
-    (n : ℕ) → n ≤ greatest LongKind
-    → integer_of (decimal n) ≡ Ok (record { kind = if nat_le n (greatest IntKind) then IntKind else LongKind; bits = n })
+    (n : ℕ) → pos n ≤ℤ greatest Long
+    → integer_of (decimal n) ≡ Ok (record { kind = if int_le (pos n) (greatest Int) then Int else Long; bits = n })

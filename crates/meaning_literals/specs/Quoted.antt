@@ -1,6 +1,6 @@
 -- The values of character constants (C11 6.4.4.4) and string literals (6.4.5). A character is a byte.
 use Rattle.std.specs.Prelude.{ℕ, ◌+◌, ◌-◌, ◌^◌, Bool, false, Result, Ok, Err, List, [], ◌∷◌, length, slice_range, codes, nat_le, if◌then◌else◌}
-use Rattle.meaning_types.specs.Types.{IntKind}
+use Rattle.vocabulary.specs.declared.int_kind.IntKind.TheVariants.{Int}
 use Rattle.meaning_literals.specs.Constants.{Constant, Fault, BadEscapeFault, EmptyFault, WideFault, UniversalFault}
 use Rattle.meaning_literals.specs.Bytes.{is_one_of}
 use Rattle.meaning_literals.specs.Elements.{Element, Plain, Escape, UnknownEscape, UniversalName, elements_of}
@@ -23,7 +23,7 @@ byte_of UniversalName = Err UniversalFault
 
 -- an int with the value that the byte has as a char, which is signed (6.4.4.4 p10)
 abbrev pub char_constant : ℕ → Constant
-char_constant b = record { kind = IntKind; bits = if nat_le b 127 then b else b + (2 ^ 64 - 256) }
+char_constant b = record { kind = Int; bits = if nat_le b 127 then b else b + (2 ^ 64 - 256) }
 
 -- the fault of a constant of two bytes or more: that of the first, or else what is found at the second
 abbrev pub fault_of_two : Result ℕ Fault → Result ℕ Fault → Fault

@@ -2,16 +2,19 @@
 use Rattle.std.proofs.Common.{◌≡◌, ℕ, Bool, true, false, ℤ, pos, List, Option, Some, None, if◌then◌else◌, refl, sym, ◌∙◌, subst}
 use Rattle.std.specs.Ordering.{int_eq}
 use Rattle.std.specs.Int.Signed.{le_z_yes}
-use Rattle.meaning_types.specs.Types.{Kind, BoolKind, Qualifiers, Flags, TypeTree, Typed, BaseTree, IntegerTree, PointerTree, bare}
+use Rattle.vocabulary.specs.declared.int_kind.IntKind.{IntKind}
+use Rattle.vocabulary.specs.declared.int_kind.IntKind.TheVariants as kinds
+use Rattle.meaning_types.specs.Types.{Qualifiers, Flags, TypeTree, Typed, BaseTree, IntegerTree, PointerTree, bare}
+use Rattle.meaning_types.specs.Equality.{are_similar}
+use Rattle.meaning_types.proofs.Equality.{are_similar-Decides}
 use Rattle.meaning_machine.specs.Values.{Spot, Null, Foreign, In, Value, Integer, Pointer, Block, IsInRange, SpotFits, ValueFits}
 use Rattle.meaning_machine.specs.Conversion.{spot_truth}
 use Rattle.meaning_machine.specs.Outcomes.{SpaceFault, ShapeFault, Answer, Gives, IsFault, IsUndefined}
 use Rattle.meaning_machine.specs.Memory.{adopt, adopt_integer, adopt_pointer}
-use Rattle.meaning_machine.specs.Tests.{are_similar, differ_in_flags_alone}
+use Rattle.meaning_machine.specs.Tests.{differ_in_flags_alone}
 use Rattle.meaning_machine.specs.Laws.{AdoptedValuesFit}
 use Rattle.meaning_machine.proofs.Conversion.{converted_is_in_range}
 use Rattle.meaning_machine.proofs.Similar.{spot-agreeing}
-use Rattle.meaning_machine.proofs.Playing.{bare-from_similar}
 
 -- what an answer gives fits, if it gives something
 abbrev GivesFitting : List Block → BaseTree → Answer Value → Type 0
@@ -26,7 +29,7 @@ null-fits blocks wanted true = (refl, tt)
 null-fits blocks wanted false = tt
 
 -- of an integer
-integer-fits : (blocks : List Block) (kind : Kind) (restricted : Option ℕ) (fouled : Bool) (number : ℤ) (base : BaseTree) →
+integer-fits : (blocks : List Block) (kind : IntKind) (restricted : Option ℕ) (fouled : Bool) (number : ℤ) (base : BaseTree) →
     GivesFitting blocks base (adopt_integer kind restricted fouled number base)
 integer-fits blocks kind None false number (IntegerTree wanted) = (refl, refl, refl, converted_is_in_range wanted number)
 integer-fits blocks kind None false number (PointerTree wanted) = null-fits blocks wanted (int_eq number (pos 0))
@@ -40,7 +43,7 @@ similar-fits : (blocks : List Block) (target from wanted : TypeTree) (spot : Spo
     bare target ≡ bare from → SpotFits blocks spot from → GivesFitting blocks (PointerTree wanted) others →
     (test : Bool) → are_similar target wanted ≡ test → GivesFitting blocks (PointerTree wanted) (if test then Gives (Pointer target spot) else others)
 similar-fits blocks target from wanted spot others same fits rest true passed =
-    let equal = bare-from_similar target wanted passed in
+    let equal = (are_similar-Decides target wanted).0 passed in
     (equal, spot-agreeing blocks spot from wanted (sym same ∙ equal) fits)
 similar-fits blocks target from wanted spot others same fits rest false passed = rest
 
@@ -51,7 +54,7 @@ unlike-fits blocks base true = tt
 unlike-fits blocks base false = tt
 
 -- null is 0, and each other pointer 1
-truth-fits : (spot : Spot) → IsInRange BoolKind (spot_truth spot)
+truth-fits : (spot : Spot) → IsInRange kinds.Bool (spot_truth spot)
 truth-fits Null = (le_z_yes tt, le_z_yes tt)
 truth-fits Foreign = (le_z_yes tt, le_z_yes tt)
 truth-fits (In block path index length) = (le_z_yes tt, le_z_yes tt)
@@ -62,7 +65,7 @@ pointer-fits : (blocks : List Block) (target from : TypeTree) (spot : Spot) → 
 pointer-fits blocks target from spot same fits (PointerTree wanted) =
     similar-fits blocks target from wanted spot _ same fits (unlike-fits blocks (PointerTree wanted) (differ_in_flags_alone target wanted))
     (are_similar target wanted) refl
-pointer-fits blocks target from spot same fits (IntegerTree BoolKind) = (refl, refl, refl, truth-fits spot)
+pointer-fits blocks target from spot same fits (IntegerTree kinds.Bool) = (refl, refl, refl, truth-fits spot)
 pointer-fits blocks target from spot same fits (IntegerTree kind) = tt
 
 -- of any value

@@ -5,8 +5,10 @@ use Rattle.std.proofs.Math.Nat.{mod-lt, mod-eq_of_lt, suc-mul, mod-eq-sub-div-mu
 use Rattle.std.proofs.lemmas.Int.{ints}
 use Rattle.std.specs.Int.Signed.{le_z_yes}
 use Rattle.std.specs.Ordering.{int_eq}
-use Rattle.meaning_types.specs.Types.{Kind, BoolKind}
-use Rattle.meaning_machine.specs.Values.{IsInRange, least, greatest}
+use Rattle.vocabulary.specs.declared.int_kind.IntKind.{IntKind}
+use Rattle.vocabulary.specs.declared.int_kind.IntKind.TheVariants as kinds
+use Rattle.meaning_types.specs.Ranges.{least, greatest}
+use Rattle.meaning_machine.specs.Values.{IsInRange}
 use Rattle.meaning_machine.specs.Conversion.{number_count, wrapped, truth_of, converted}
 
 -- Remainders
@@ -61,30 +63,30 @@ apart low high number order =
 -- Kinds
 
 -- two numbers differ by a multiple of how many numbers the kind has
-abbrev IsApart : Kind → ℤ → ℤ → Type 0
+abbrev IsApart : IntKind → ℤ → ℤ → Type 0
 IsApart kind number other = (times : ℤ) × (number ≡ other +ℤ times *ℤ number_count kind)
 
 -- zero is a number of each kind
-pub zero-in_range : (kind : Kind) → IsInRange kind (pos 0)
-zero-in_range BoolKind = (le_z_yes tt, le_z_yes tt)
+pub zero-in_range : (kind : IntKind) → IsInRange kind (pos 0)
+zero-in_range kinds.Bool = (le_z_yes tt, le_z_yes tt)
 zero-in_range kind = (le_z_yes tt, le_z_yes tt)
 
 -- so no kind has its least number above its greatest
-least-below : (kind : Kind) → least kind ≤ℤ greatest kind
+least-below : (kind : IntKind) → least kind ≤ℤ greatest kind
 least-below kind = let (low, high) = zero-in_range kind in omega (arith, ints, low, high)
 
 -- numbers are wrapped in each kind but _Bool
-by_kind : (P : Kind → (ℤ → ℤ) → Type 0) → P BoolKind truth_of → ((kind : Kind) → P kind (wrapped kind)) → (kind : Kind) → P kind (converted kind)
-by_kind P truth wraps BoolKind = truth
+by_kind : (P : IntKind → (ℤ → ℤ) → Type 0) → P kinds.Bool truth_of → ((kind : IntKind) → P kind (wrapped kind)) → (kind : IntKind) → P kind (converted kind)
+by_kind P truth wraps kinds.Bool = truth
 by_kind P truth wraps kind = wraps kind
 
 -- true and false are the numbers of _Bool
-truth-in_range : (is_zero : Bool) → IsInRange BoolKind (if is_zero then pos 0 else pos 1)
+truth-in_range : (is_zero : Bool) → IsInRange kinds.Bool (if is_zero then pos 0 else pos 1)
 truth-in_range true = (le_z_yes tt, le_z_yes tt)
 truth-in_range false = (le_z_yes tt, le_z_yes tt)
 
 -- and they stay
-truth-kept : (number : ℤ) → IsInRange BoolKind number → truth_of number ≡ number
+truth-kept : (number : ℤ) → IsInRange kinds.Bool number → truth_of number ≡ number
 truth-kept (pos zero) within = refl
 truth-kept (pos (suc zero)) within = refl
 truth-kept (pos (suc (suc n))) within = let high : pos (suc (suc n)) ≤ℤ pos 1 = within.1 in omega (arith, ints, high)
@@ -93,19 +95,19 @@ truth-kept (negsuc n) within = absurd within.0.le
 -- Laws
 
 -- a converted number is one of its kind
-pub converted_is_in_range : (kind : Kind) (number : ℤ) → IsInRange kind (converted kind number)
+pub converted_is_in_range : (kind : IntKind) (number : ℤ) → IsInRange kind (converted kind number)
 converted_is_in_range =
     by_kind (λ kind convert. (number : ℤ) → IsInRange kind (convert number)) (λ number. truth-in_range (int_eq number (pos 0)))
     (λ kind number. between (least kind) (greatest kind) number (least-below kind))
 
 -- a number of the kind stays as it is
-pub converted_is_kept : (kind : Kind) (number : ℤ) → IsInRange kind number → converted kind number ≡ number
+pub converted_is_kept : (kind : IntKind) (number : ℤ) → IsInRange kind number → converted kind number ≡ number
 converted_is_kept =
     by_kind (λ kind convert. (number : ℤ) → IsInRange kind number → convert number ≡ number) truth-kept
     (λ kind number within. stays (least kind) (greatest kind) number within.0 within.1)
 
 -- a number differs from the one that it becomes, but in _Bool, by a multiple of how many numbers the kind has
-pub converted_is_apart : (kind : Kind) (number : ℤ) → kind ≢ BoolKind → IsApart kind number (converted kind number)
+pub converted_is_apart : (kind : IntKind) (number : ℤ) → kind ≢ kinds.Bool → IsApart kind number (converted kind number)
 converted_is_apart =
-    by_kind (λ kind convert. (number : ℤ) → kind ≢ BoolKind → IsApart kind number (convert number)) (λ number other. absurd (other refl))
+    by_kind (λ kind convert. (number : ℤ) → kind ≢ kinds.Bool → IsApart kind number (convert number)) (λ number other. absurd (other refl))
     (λ kind number other. apart (least kind) (greatest kind) number (least-below kind))

@@ -1,17 +1,16 @@
 -- What the plain program plays is a run.
-use Rattle.std.proofs.Common.{◌≡◌, ℕ, Bool, true, false, ℤ, ◌≤ℤ◌, List, [], ◌∷◌, Option, Some, None, refl, sym, ap, subst, ◌∙◌}
-use Rattle.std.specs.Prelude.{option_map, int_le, nat_eq, slice_get, slice_set, T, if◌then◌else◌}
+use Rattle.std.proofs.Common.{◌≡◌, ℕ, Bool, true, false, ℤ, ◌≤ℤ◌, List, [], ◌∷◌, Option, Some, None, refl, sym, subst}
+use Rattle.std.specs.Prelude.{option_map, int_le, slice_get, slice_set, T, if◌then◌else◌}
 use Rattle.std.specs.Option.{option_and_then}
 use Rattle.std.specs.Int.Signed.{le_z_yes}
 use Rattle.std.proofs.lemmas.Bool.{and_parts, false≢true, eqb-true, leb-true}
 use Rattle.std.proofs.lemmas.Option.{none-some, same_Some}
-use Rattle.meaning_types.specs.Types.{Kind, TypeTree, Typed, BaseTree, IntegerTree, PointerTree, no_qualifiers, bare, bare_base, BoolKind, CharKind, SignedCharKind, UnsignedCharKind, ShortKind, UnsignedShortKind, IntKind, UnsignedIntKind, LongKind, UnsignedLongKind, LongLongKind, UnsignedLongLongKind}
+use Rattle.meaning_types.specs.Types.{TypeTree, Typed, BaseTree, IntegerTree, PointerTree}
 use Rattle.meaning_tree.specs.Trees.{SyntaxTree}
 use Rattle.meaning_rules.specs.Evaluation.{external_parts}
-use Rattle.meaning_rules.proofs.MixedSpaces.{are_equal_flags-Decides}
+use Rattle.meaning_types.proofs.Equality.{are_equal_kinds-Decides, are_similar-Decides}
 use Rattle.meaning_machine.specs.Values.{Spot, Null, Foreign, In, Value, Integer, Pointer, Made, ForObject, ForFunction, Block, HasElements, SpotFits, ValueFits, Fits}
 use Rattle.meaning_machine.specs.Memory.{content_at, block_with}
-use Rattle.meaning_machine.specs.Tests.{are_equal_kinds, kind_number, are_similar, are_similar_bases}
 use Rattle.meaning_machine.specs.Code.{ValueCode}
 use Rattle.meaning_machine.specs.Machine.{Control, Outcome, Next, Done, Undefined, Fault, step}
 use Rattle.meaning_machine.specs.Outcomes.{FaultKind}
@@ -19,49 +18,6 @@ use Rattle.meaning_machine.specs.Runs.{World, opening, Move, Start, Step, Write,
 use Rattle.meaning_machine.specs.Played.{is_element, block_fits_now, spot_fits_now, value_fits_now, fits_now, made_fits_now, has_content, is_writable_now, started, taken, written_if, moved_to, played_from, onto, PlayedIsRun, FaultsAreUnsafe}
 
 -- Tests say what the relations say
-
--- the kind of each number
-kind_of : ℕ → Kind
-kind_of number =
-    if nat_eq number 0 then BoolKind else if nat_eq number 1 then CharKind else if nat_eq number 2 then SignedCharKind
-    else if nat_eq number 3 then UnsignedCharKind else if nat_eq number 4 then ShortKind else if nat_eq number 5 then UnsignedShortKind
-    else if nat_eq number 6 then IntKind else if nat_eq number 7 then UnsignedIntKind else if nat_eq number 8 then LongKind
-    else if nat_eq number 9 then UnsignedLongKind else if nat_eq number 10 then LongLongKind else UnsignedLongLongKind
-
--- a kind is told by its number
-kind_of-kind_number : (kind : Kind) → kind_of (kind_number kind) ≡ kind
-unfolding kind_of
-kind_of-kind_number BoolKind = refl
-kind_of-kind_number CharKind = refl
-kind_of-kind_number SignedCharKind = refl
-kind_of-kind_number UnsignedCharKind = refl
-kind_of-kind_number ShortKind = refl
-kind_of-kind_number UnsignedShortKind = refl
-kind_of-kind_number IntKind = refl
-kind_of-kind_number UnsignedIntKind = refl
-kind_of-kind_number LongKind = refl
-kind_of-kind_number UnsignedLongKind = refl
-kind_of-kind_number LongLongKind = refl
-kind_of-kind_number UnsignedLongLongKind = refl
-
--- kinds that pass the test are equal
-equal_kinds : (kind other : Kind) → are_equal_kinds kind other ≡ true → kind ≡ other
-equal_kinds kind other passed =
-    sym (kind_of-kind_number kind) ∙ ap kind_of (eqb-true _ _ passed) ∙ kind_of-kind_number other
-
--- similar types are equal but for const and volatile
-mutual
-  pub bare-from_similar : (type_ other : TypeTree) → are_similar type_ other ≡ true → bare type_ ≡ bare other
-  bare-from_similar (Typed base _ flags) (Typed other _ others) passed =
-      let parts = and_parts _ _ passed in
-      let equal = (are_equal_flags-Decides flags others).0 parts.0 in
-      λ i. Typed (bare_bases-from_similar base other parts.1 i) no_qualifiers (equal i)
-
-  bare_bases-from_similar : (base other : BaseTree) → are_similar_bases base other ≡ true → bare_base base ≡ bare_base other
-  bare_bases-from_similar (IntegerTree kind) (IntegerTree other) passed = ap IntegerTree (equal_kinds kind other passed)
-  bare_bases-from_similar (PointerTree target) (PointerTree other) passed = ap PointerTree (bare-from_similar target other passed)
-  bare_bases-from_similar (IntegerTree kind) (PointerTree other) passed = absurd (false≢true passed)
-  bare_bases-from_similar (PointerTree target) (IntegerTree other) passed = absurd (false≢true passed)
 
 -- numbers that pass the test are in order
 in_order : (a b : ℤ) → int_le a b ≡ true → a ≤ℤ b
@@ -72,7 +28,7 @@ element-fits : (block : Block) (made : Made) → block.made ≡ made → (path :
     → is_element made path count type_ ≡ true → HasElements block path count type_
 element-fits block (ForObject declared) is [] count type_ passed =
     let parts = and_parts _ _ passed in
-    (declared, is, refl, eqb-true _ _ parts.0, bare-from_similar declared type_ parts.1)
+    (declared, is, refl, eqb-true _ _ parts.0, (are_similar-Decides declared type_).0 parts.1)
 element-fits block (ForObject declared) is (_ ∷ _) count type_ passed = absurd (false≢true passed)
 element-fits block ForFunction is path count type_ passed = absurd (false≢true passed)
 
@@ -96,7 +52,7 @@ value-fits : (blocks : List Block) (value : Value) (base : BaseTree) → value_f
 value-fits blocks (Integer kind None false number) (IntegerTree wanted) passed =
     let parts = and_parts _ _ passed in
     let more = and_parts _ _ parts.0 in
-    (equal_kinds kind wanted more.0, refl, refl, (in_order _ _ more.1, in_order _ _ parts.1))
+    ((are_equal_kinds-Decides kind wanted).0 more.0, refl, refl, (in_order _ _ more.1, in_order _ _ parts.1))
 value-fits blocks (Integer kind None true number) (IntegerTree wanted) passed = absurd (false≢true passed)
 value-fits blocks (Integer kind (Some restricted) fouled number) (IntegerTree wanted) passed = absurd (false≢true passed)
 value-fits blocks (Integer kind None false number) (PointerTree wanted) passed = absurd (false≢true passed)
@@ -104,7 +60,7 @@ value-fits blocks (Integer kind None true number) (PointerTree wanted) passed = 
 value-fits blocks (Integer kind (Some restricted) fouled number) (PointerTree wanted) passed = absurd (false≢true passed)
 value-fits blocks (Pointer target spot) (PointerTree wanted) passed =
     let parts = and_parts _ _ passed in
-    (bare-from_similar target wanted parts.0, spot-fits blocks spot wanted parts.1)
+    ((are_similar-Decides target wanted).0 parts.0, spot-fits blocks spot wanted parts.1)
 value-fits blocks (Pointer target spot) (IntegerTree wanted) passed = absurd (false≢true passed)
 
 -- of a value, at a type

@@ -4,6 +4,7 @@ use Rattle.std.specs.Prelude.{int_le, T}
 use Rattle.std.specs.Option.{option_and_then}
 use Rattle.std.proofs.lemmas.Bool.{and_from, eq-eqb, le-leb}
 use Rattle.meaning_types.specs.Types.{TypeTree, Typed, BaseTree, IntegerTree, PointerTree}
+use Rattle.meaning_types.proofs.Equality.{are_equal_kinds-Decides, are_similar-Decides}
 use Rattle.meaning_tree.specs.Trees.{SyntaxTree}
 use Rattle.meaning_rules.specs.Evaluation.{external_parts}
 use Rattle.meaning_machine.specs.Values.{Spot, Null, Foreign, In, Value, Integer, Pointer, Block, HasElements, SpotFits, ValueFits, Fits}
@@ -11,7 +12,6 @@ use Rattle.meaning_machine.specs.Code.{ValueCode}
 use Rattle.meaning_machine.specs.Machine.{Outcome, Next, Done, Undefined, Fault, step}
 use Rattle.meaning_machine.specs.Runs.{World, Move, Start, Step, Write, Runs, Starts, Takes, IsWritable, body_at, bindings_in}
 use Rattle.meaning_machine.specs.Played.{is_element, spot_fits_now, value_fits_now, fits_now, is_writable_now, started, taken, played_from, onto, MovesArePlayed, RunIsPlayed}
-use Rattle.meaning_machine.proofs.Similar.{similar-kinds, similar-bare}
 
 -- Tests
 
@@ -29,7 +29,7 @@ passed-element :
     (block : Block) (path : List ℕ) (count : ℕ) (type_ : TypeTree) → HasElements block path count type_
     → is_element block.made path count type_ ≡ true
 passed-element block path count type_ (declared, made, at, is_one, equal) =
-    rw (made, at) (and_from _ _ (eq-eqb count 1 is_one) (similar-bare declared type_ equal))
+    rw (made, at) (and_from _ _ (eq-eqb count 1 is_one) ((are_similar-Decides declared type_).1 equal))
 
 -- of any pointer
 passed-spot : (blocks : List Block) (spot : Spot) (target : TypeTree) → SpotFits blocks spot target → spot_fits_now blocks spot target ≡ true
@@ -42,11 +42,11 @@ passed-spot blocks (In number path index count) target (block, there, element, w
 passed-value : (blocks : List Block) (value : Value) (base : BaseTree) → ValueFits blocks value base → value_fits_now blocks value base ≡ true
 passed-value blocks (Integer kind restricted fouled number) (IntegerTree wanted) (equal, plain, clean, within) =
     rw (plain, clean)
-    (and_from _ _ (and_from _ _ (similar-kinds kind wanted equal) (passed-order _ _ within.0)) (passed-order _ _ within.1))
+    (and_from _ _ (and_from _ _ ((are_equal_kinds-Decides kind wanted).1 equal) (passed-order _ _ within.0)) (passed-order _ _ within.1))
 passed-value blocks (Integer kind restricted fouled number) (PointerTree wanted) fits = absurd fits
 passed-value blocks (Pointer target spot) (IntegerTree wanted) fits = absurd fits
 passed-value blocks (Pointer target spot) (PointerTree wanted) (equal, spot_fits) =
-    and_from _ _ (similar-bare target wanted equal) (passed-spot blocks spot wanted spot_fits)
+    and_from _ _ ((are_similar-Decides target wanted).1 equal) (passed-spot blocks spot wanted spot_fits)
 
 -- of a value, at a type
 Fits-fits_now : (blocks : List Block) (value : Value) (type_ : TypeTree) → Fits blocks value type_ → fits_now blocks value type_ ≡ true

@@ -1,11 +1,7 @@
 -- Types that are equal but for const and volatile, and what fits them.
-use Rattle.std.proofs.Common.{◌≡◌, ℕ, zero, suc, true, List, [], ◌∷◌, Some, map, slice_get, refl, sym, ap, ◌∙◌}
-use Rattle.std.proofs.lemmas.Bool.{and_from}
-use Rattle.std.proofs.lemmas.Bool.Decides.{Decides-eqb}
-use Rattle.meaning_types.specs.Types.{Kind, TypeTree, Typed, BaseTree, IntegerTree, PointerTree, flags_of, bare, bare_base}
-use Rattle.meaning_rules.proofs.MixedSpaces.{are_equal_flags-Decides}
+use Rattle.std.proofs.Common.{◌≡◌, ℕ, zero, suc, List, [], ◌∷◌, Some, map, slice_get, refl, sym, ap, ◌∙◌}
+use Rattle.meaning_types.specs.Types.{TypeTree, Typed, BaseTree, IntegerTree, PointerTree, flags_of, bare, bare_base}
 use Rattle.meaning_machine.specs.Values.{Spot, Null, Foreign, In, Value, Integer, Pointer, Block, SpotFits, ValueFits, Fits}
-use Rattle.meaning_machine.specs.Tests.{kind_number, are_equal_kinds, are_similar, are_similar_bases}
 use Rattle.meaning_machine.specs.Soundness.{Agree}
 
 -- Similar types
@@ -21,22 +17,6 @@ flags-bare (Typed base qualifiers flags) (Typed other others_qualifiers others) 
 -- types that are equal without const and volatile agree
 pub agree-bare : (type_ other : TypeTree) → bare type_ ≡ bare other → Agree type_ other
 agree-bare (Typed base qualifiers flags) (Typed other others_qualifiers others) same = ap base_of same
-
--- equal kinds pass the test
-pub similar-kinds : (kind other : Kind) → kind ≡ other → are_equal_kinds kind other ≡ true
-similar-kinds kind other same = (Decides-eqb (kind_number kind) (kind_number other)).1 (ap kind_number same)
-
--- types that are equal without const and volatile pass the test
-mutual
-  pub similar-bare : (type_ other : TypeTree) → bare type_ ≡ bare other → are_similar type_ other ≡ true
-  similar-bare (Typed base qualifiers flags) (Typed other others_qualifiers others) same =
-      and_from _ _ ((are_equal_flags-Decides flags others).1 (ap flags_of same)) (similar-bases base other (ap base_of same))
-
-  pub similar-bases : (base other : BaseTree) → bare_base base ≡ bare_base other → are_similar_bases base other ≡ true
-  similar-bases (IntegerTree kind) (IntegerTree other) same = similar-kinds kind other (cc same)
-  similar-bases (PointerTree target) (PointerTree other) same = similar-bare target other (cc same)
-  similar-bases (IntegerTree kind) (PointerTree other) same = cc same
-  similar-bases (PointerTree target) (IntegerTree other) same = cc same
 
 -- What fits
 

@@ -1,7 +1,8 @@
 -- Worked examples: small units, with runs of them.
 use Rattle.std.specs.Prelude.{◌≡◌, ℕ, ◌+◌, suc, zero, true, false, pos, List, [], ◌∷◌, Some, None, codes, replicate}
 use Rattle.std.specs.List.{flat_map, list_all}
-use Rattle.meaning_types.specs.Types.{IntKind, no_flags, TypeTree, Typed, IntegerTree}
+use Rattle.vocabulary.specs.declared.int_kind.IntKind.TheVariants.{Int}
+use Rattle.meaning_types.specs.Types.{no_flags, TypeTree, Typed, IntegerTree}
 use Rattle.meaning_tree.specs.Kinds.{CompoundStatement, ExpressionStatement}
 use Rattle.meaning_tree.specs.Trees.{SyntaxTree}
 use Rattle.meaning_syntax.specs.Items.{Noderef, Statement, Assign, AssignThrough, AssignAddress, Item, Object, item_fits}
@@ -49,11 +50,11 @@ plain_int = int_with no_flags
 
 -- `const int`
 abbrev pub const_int : TypeTree
-const_int = Typed (IntegerTree IntKind) (record { is_const = true; is_volatile = false }) no_flags
+const_int = Typed (IntegerTree Int) (record { is_const = true; is_volatile = false }) no_flags
 
 -- an int with this number
 abbrev pub int_of : ℕ → Value
-int_of number = Integer IntKind None false (pos number)
+int_of number = Integer Int None false (pos number)
 
 -- the object of a block
 abbrev pub object_spot : ℕ → Spot

@@ -1,6 +1,8 @@
 -- What holds of the machine: silence is safe, and why.
 use Rattle.std.specs.Prelude.{◌≡◌, ◌≢◌, ℕ, true, ℤ, ◌+ℤ◌, ◌*ℤ◌, List, [], ◌∷◌, ◌++◌, Some, map, slice_get, slice_set}
-use Rattle.meaning_types.specs.Types.{Kind, BoolKind, TypeTree}
+use Rattle.vocabulary.specs.declared.int_kind.IntKind.{IntKind}
+use Rattle.vocabulary.specs.declared.int_kind.IntKind.TheVariants as kinds
+use Rattle.meaning_types.specs.Types.{TypeTree}
 use Rattle.meaning_tree.specs.Trees.{SyntaxTree}
 use Rattle.meaning_syntax.specs.Items.{Word, Statement, Object, Function}
 use Rattle.meaning_syntax.specs.Trees.{IsInFirstForm, statement_trees}
@@ -46,16 +48,16 @@ SilenceIsSafe = (unit : SyntaxTree) → IsInFirstForm unit → IsListing unit []
 
 -- what a number becomes is a number of the kind
 abbrev pub ConversionsAreInRange : Type 0
-ConversionsAreInRange = (kind : Kind) (number : ℤ) → IsInRange kind (converted kind number)
+ConversionsAreInRange = (kind : IntKind) (number : ℤ) → IsInRange kind (converted kind number)
 
 -- a number of the kind stays as it is (C11 6.3.1.3 p1)
 abbrev pub ConversionsKeepNumbers : Type 0
-ConversionsKeepNumbers = (kind : Kind) (number : ℤ) → IsInRange kind number → converted kind number ≡ number
+ConversionsKeepNumbers = (kind : IntKind) (number : ℤ) → IsInRange kind number → converted kind number ≡ number
 
 -- the numbers differ, but in _Bool, by a multiple of how many numbers the kind has (6.3.1.3 p2, p3)
 abbrev pub ConversionsWrap : Type 0
 ConversionsWrap =
-    (kind : Kind) (number : ℤ) → kind ≢ BoolKind → (times : ℤ) × (number ≡ converted kind number +ℤ times *ℤ number_count kind)
+    (kind : IntKind) (number : ℤ) → kind ≢ kinds.Bool → (times : ℤ) × (number ≡ converted kind number +ℤ times *ℤ number_count kind)
 
 -- a value that fits some type fits the type by which it is adopted, if it is
 abbrev pub AdoptedValuesFit : Type 0

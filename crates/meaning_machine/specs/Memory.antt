@@ -2,17 +2,20 @@
 use Rattle.std.specs.Prelude.{ℕ, Bool, false, ℤ, pos, List, [], ◌∷◌, Option, Some, None, nat_lt, slice_get, slice_set, if◌then◌else◌}
 use Rattle.std.specs.Ordering.{int_eq}
 use Rattle.std.specs.Str.{bytes_eq}
-use Rattle.meaning_types.specs.Types.{Kind, BoolKind, TypeTree, Typed, BaseTree, IntegerTree, PointerTree, flags_of, has_flag}
+use Rattle.vocabulary.specs.declared.int_kind.IntKind.{IntKind}
+use Rattle.vocabulary.specs.declared.int_kind.IntKind.TheVariants as kinds
+use Rattle.meaning_types.specs.Types.{TypeTree, Typed, BaseTree, IntegerTree, PointerTree, flags_of, has_flag}
+use Rattle.meaning_types.specs.Equality.{are_similar}
 use Rattle.meaning_machine.specs.Values.{Spot, Null, Foreign, In, Value, Integer, Pointer, Place, Made, ForObject, ForFunction, Cell, Block}
 use Rattle.meaning_machine.specs.Conversion.{spot_truth, converted}
 use Rattle.meaning_machine.specs.Outcomes.{NullPointer, DeadBlock, ForeignPointer, OutOfBounds, IndeterminateValue, ReadOnly, AccessFault, SpaceFault, RestrictedFault, ShapeFault, Answer, Gives, IsFault, IsUndefined}
-use Rattle.meaning_machine.specs.Tests.{are_similar, differ_in_flags_alone}
+use Rattle.meaning_machine.specs.Tests.{differ_in_flags_alone}
 
 -- The one conversion: what a value becomes when it is stored to a place of this type (6.3, 6.5.16.1)
 
 -- A plain integer becomes any integer type, and a plain 0 a null pointer (6.3.1.3, 6.3.2.3 p3). All integer types are
 -- plain, so a restricted number meets another identity in each.
-abbrev pub adopt_integer : Kind → Option ℕ → Bool → ℤ → BaseTree → Answer Value
+abbrev pub adopt_integer : IntKind → Option ℕ → Bool → ℤ → BaseTree → Answer Value
 adopt_integer kind None false number (IntegerTree wanted) = Gives (Integer wanted None false (converted wanted number))
 adopt_integer kind None false number (PointerTree wanted) =
     if int_eq number (pos 0) then Gives (Pointer wanted Null) else IsFault ShapeFault
@@ -25,7 +28,7 @@ adopt_pointer target spot (PointerTree wanted) =
     if are_similar target wanted then Gives (Pointer target spot)
     else (if differ_in_flags_alone target wanted then IsFault SpaceFault
     else IsFault ShapeFault)
-adopt_pointer target spot (IntegerTree BoolKind) = Gives (Integer BoolKind None false (spot_truth spot))
+adopt_pointer target spot (IntegerTree kinds.Bool) = Gives (Integer kinds.Bool None false (spot_truth spot))
 adopt_pointer target spot (IntegerTree kind) = IsFault ShapeFault
 
 abbrev pub adopt : Value → TypeTree → Answer Value

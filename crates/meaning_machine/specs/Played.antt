@@ -2,11 +2,12 @@
 use Rattle.std.specs.Prelude.{◌≡◌, ℕ, Bool, true, false, ◌&&◌, List, [], ◌∷◌, ◌++◌, Option, Some, None, option_map, int_le, nat_eq, nat_le, slice_get, slice_set, if◌then◌else◌}
 use Rattle.std.specs.Option.{option_and_then}
 use Rattle.meaning_types.specs.Types.{TypeTree, Typed, BaseTree, IntegerTree, PointerTree}
+use Rattle.meaning_types.specs.Ranges.{least, greatest}
+use Rattle.meaning_types.specs.Equality.{are_equal_kinds, are_similar}
 use Rattle.meaning_tree.specs.Trees.{SyntaxTree}
 use Rattle.meaning_rules.specs.Evaluation.{external_parts}
-use Rattle.meaning_machine.specs.Values.{Spot, Null, Foreign, In, Value, Integer, Pointer, Made, ForObject, ForFunction, Block, least, greatest}
+use Rattle.meaning_machine.specs.Values.{Spot, Null, Foreign, In, Value, Integer, Pointer, Made, ForObject, ForFunction, Block}
 use Rattle.meaning_machine.specs.Memory.{content_at, block_with}
-use Rattle.meaning_machine.specs.Tests.{are_equal_kinds, are_similar}
 use Rattle.meaning_machine.specs.Code.{ValueCode}
 use Rattle.meaning_machine.specs.Outcomes.{FaultKind}
 use Rattle.meaning_machine.specs.Machine.{EnterBody, Finished, Outcome, Next, Done, Undefined, Fault, step}

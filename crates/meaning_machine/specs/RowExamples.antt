@@ -1,40 +1,22 @@
--- Worked examples: the numbers of each kind, what fits, single loads and stores, and blocks that outlast others.
-use Rattle.std.specs.Prelude.{◌≡◌, ℕ, ◌-◌, ◌^◌, Bool, true, false, ℤ, pos, negsuc, List, [], ◌∷◌, Some, None, map, replicate, codes}
-use Rattle.meaning_types.specs.Types.{Kind, BoolKind, CharKind, SignedCharKind, UnsignedCharKind, ShortKind, UnsignedShortKind, IntKind, UnsignedIntKind, LongKind, UnsignedLongKind, LongLongKind, UnsignedLongLongKind, NumberedSpace, Flags, no_flags, no_qualifiers, TypeTree, Typed, IntegerTree}
+-- Worked examples: conversions, what fits, single loads and stores, and blocks that outlast others.
+use Rattle.std.specs.Prelude.{◌≡◌, ℕ, ◌^◌, Bool, true, false, ℤ, pos, negsuc, List, [], ◌∷◌, Some, None, map, replicate, codes}
+use Rattle.vocabulary.specs.declared.int_kind.IntKind.TheVariants as kinds
+use Rattle.meaning_types.specs.Types.{NumberedSpace, Flags, TypeTree}
+use Rattle.meaning_types.specs.Ranges.{greatest}
+use Rattle.meaning_types.specs.Examples.{plain, signed_kinds, unsigned_kinds}
 use Rattle.meaning_tree.specs.Trees.{SyntaxTree}
 use Rattle.meaning_syntax.specs.Items.{Object}
 use Rattle.meaning_syntax.specs.Trees.{unit_tree}
 use Rattle.meaning_rules.specs.Bindings.{pointer_to}
 use Rattle.meaning_rules.specs.Typing.{int_with}
 use Rattle.meaning_rules.specs.Examples.{noderef_flags, function_of}
-use Rattle.meaning_machine.specs.Values.{Spot, Null, Foreign, In, Value, Integer, Pointer, ForObject, ForFunction, Cell, Block, least, greatest, Fits}
+use Rattle.meaning_machine.specs.Values.{Spot, Null, Foreign, In, Value, Integer, Pointer, ForObject, ForFunction, Cell, Block, Fits}
 use Rattle.meaning_machine.specs.Conversion.{converted}
 use Rattle.meaning_machine.specs.Outcomes.{DeadBlock, ForeignPointer, OutOfBounds, ReadOnly, AccessFault, SpaceFault, RestrictedFault, ShapeFault, Gives, IsFault, IsUndefined}
 use Rattle.meaning_machine.specs.Memory.{adopt, content_at, with_content, block_with, load, store}
 use Rattle.meaning_machine.specs.Runs.{IsWritable, opening, Write, Moves}
 use Rattle.meaning_machine.specs.Soundness.{Last}
 use Rattle.meaning_machine.specs.Examples.{plain_int, const_int, int_of, object_spot, indeterminate_block}
-
--- Ranges (C11 6.2.6.2): two's complement, with the widths of LP64
-
-abbrev pub signed_kinds : List Kind
-signed_kinds = CharKind ∷ SignedCharKind ∷ ShortKind ∷ IntKind ∷ LongKind ∷ LongLongKind ∷ []
-
-abbrev pub signed_widths : List ℕ
-signed_widths = 8 ∷ 8 ∷ 16 ∷ 32 ∷ 64 ∷ 64 ∷ []
-
-abbrev pub unsigned_kinds : List Kind
-unsigned_kinds =
-    BoolKind ∷ UnsignedCharKind ∷ UnsignedShortKind ∷ UnsignedIntKind ∷ UnsignedLongKind ∷ UnsignedLongLongKind ∷ []
-
-abbrev pub unsigned_widths : List ℕ
-unsigned_widths = 1 ∷ 8 ∷ 16 ∷ 32 ∷ 64 ∷ 64 ∷ []
-
-pub record RangeExamples : Type 0 where
-  pub least_signed : map least signed_kinds ≡ map (λ width. negsuc (2 ^ (width - 1) - 1)) signed_widths
-  pub greatest_signed : map greatest signed_kinds ≡ map (λ width. pos (2 ^ (width - 1) - 1)) signed_widths
-  pub least_unsigned : map least unsigned_kinds ≡ replicate 6 (pos 0)
-  pub greatest_unsigned : map greatest unsigned_kinds ≡ map (λ width. pos (2 ^ width - 1)) unsigned_widths
 
 -- Conversions (6.3.1.2, 6.3.1.3)
 
@@ -56,8 +38,8 @@ pub record ConversionExamples : Type 0 where
   pub nine_bits : in_signed (pos 511) ≡ negsuc 0 ∷ negsuc 0 ∷ replicate 4 (pos 511)
   pub nine_bits_unsigned : in_unsigned (pos 511) ≡ pos 1 ∷ pos 255 ∷ replicate 4 (pos 511)
   -- one behind either end of an int comes in at the other
-  pub behind_int : map (λ kind. converted kind (pos 2147483648)) (IntKind ∷ UnsignedIntKind ∷ LongKind ∷ []) ≡ negsuc 2147483647 ∷ pos 2147483648 ∷ pos 2147483648 ∷ []
-  pub before_int : map (λ kind. converted kind (negsuc 2147483648)) (IntKind ∷ UnsignedIntKind ∷ LongKind ∷ []) ≡ pos 2147483647 ∷ pos 2147483647 ∷ negsuc 2147483648 ∷ []
+  pub behind_int : map (λ kind. converted kind (pos 2147483648)) (kinds.Int ∷ kinds.UInt ∷ kinds.Long ∷ []) ≡ negsuc 2147483647 ∷ pos 2147483648 ∷ pos 2147483648 ∷ []
+  pub before_int : map (λ kind. converted kind (negsuc 2147483648)) (kinds.Int ∷ kinds.UInt ∷ kinds.Long ∷ []) ≡ pos 2147483647 ∷ pos 2147483647 ∷ negsuc 2147483648 ∷ []
   pub two_to_64 : in_unsigned (pos (2 ^ 64)) ≡ pos 1 ∷ replicate 5 (pos 0)
 
 -- Storage of one int
@@ -90,11 +72,7 @@ behind_the_end = In 0 [] 1 1
 
 -- an int with this number
 abbrev pub integer : ℤ → Value
-integer number = Integer IntKind None false number
-
--- an integer type without qualifiers or flags
-abbrev pub plain_integer : Kind → TypeTree
-plain_integer kind = Typed (IntegerTree kind) no_qualifiers no_flags
+integer number = Integer kinds.Int None false number
 
 pub record RowExamples : Type 0 where
   -- `extern int x; extern int *p; void f(void) { }`: x is 0 and p null at the opening; a function has no cells
@@ -138,23 +116,23 @@ pub record RowExamples : Type 0 where
   pub negative_adopted : adopt (integer (negsuc 0)) (pointer_to plain_int) ≡ IsFault ShapeFault
   -- a pointer becomes no number but that of a _Bool, in which each but a null one is 1 (6.3.1.2)
   pub pointer_adopted_by_int : adopt (Pointer plain_int Null) plain_int ≡ IsFault ShapeFault
-  pub null_adopted_by_bool : adopt (Pointer plain_int Null) (plain_integer BoolKind) ≡ Gives (Integer BoolKind None false (pos 0))
+  pub null_adopted_by_bool : adopt (Pointer plain_int Null) (plain kinds.Bool) ≡ Gives (Integer kinds.Bool None false (pos 0))
   pub pointers_adopted_by_bool :
-      map (λ spot. adopt (Pointer (int_with noderef_flags) spot) (plain_integer BoolKind)) (Foreign ∷ object_spot 0 ∷ behind_the_end ∷ [])
-      ≡ replicate 3 (Gives (Integer BoolKind None false (pos 1)))
+      map (λ spot. adopt (Pointer (int_with noderef_flags) spot) (plain kinds.Bool)) (Foreign ∷ object_spot 0 ∷ behind_the_end ∷ [])
+      ≡ replicate 3 (Gives (Integer kinds.Bool None false (pos 1)))
   -- a plain integer becomes any integer type
-  pub other_kind_adopted : adopt (Integer CharKind None false (pos 1)) plain_int ≡ Gives (int_of 1)
+  pub other_kind_adopted : adopt (Integer kinds.Char None false (pos 1)) plain_int ≡ Gives (int_of 1)
   pub wider_adopted :
-      adopt (Integer UnsignedLongKind None false (pos 18446744073709551615)) plain_int ≡ Gives (integer (negsuc 0))
-  pub adopted_by_bool : adopt (int_of 256) (plain_integer BoolKind) ≡ Gives (Integer BoolKind None false (pos 1))
+      adopt (Integer kinds.ULong None false (pos 18446744073709551615)) plain_int ≡ Gives (integer (negsuc 0))
+  pub adopted_by_bool : adopt (int_of 256) (plain kinds.Bool) ≡ Gives (Integer kinds.Bool None false (pos 1))
   -- no integer type has an identity, so a restricted number meets another one, 0 and a fouled one too
-  pub restricted_adopted : adopt (Integer IntKind (Some 0) false (pos 1)) plain_int ≡ IsFault RestrictedFault
-  pub restricted_zero_adopted : adopt (Integer IntKind (Some 0) false (pos 0)) plain_int ≡ IsFault RestrictedFault
-  pub restricted_fouled_adopted : adopt (Integer IntKind (Some 7) true (pos 1)) (plain_integer LongKind) ≡ IsFault RestrictedFault
+  pub restricted_adopted : adopt (Integer kinds.Int (Some 0) false (pos 1)) plain_int ≡ IsFault RestrictedFault
+  pub restricted_zero_adopted : adopt (Integer kinds.Int (Some 0) false (pos 0)) plain_int ≡ IsFault RestrictedFault
+  pub restricted_fouled_adopted : adopt (Integer kinds.Int (Some 7) true (pos 1)) (plain kinds.Long) ≡ IsFault RestrictedFault
   -- a pointer's type has none to meet
-  pub restricted_adopted_by_pointer : adopt (Integer IntKind (Some 0) false (pos 0)) (pointer_to plain_int) ≡ IsFault ShapeFault
+  pub restricted_adopted_by_pointer : adopt (Integer kinds.Int (Some 0) false (pos 0)) (pointer_to plain_int) ≡ IsFault ShapeFault
   -- a plain number is never fouled
-  pub fouled_adopted : adopt (Integer IntKind None true (pos 1)) plain_int ≡ IsFault ShapeFault
+  pub fouled_adopted : adopt (Integer kinds.Int None true (pos 1)) plain_int ≡ IsFault ShapeFault
   -- targets that differ in flags alone, at any level, and targets that differ otherwise
   pub flags_lost : adopt (Pointer (int_with noderef_flags) Null) (pointer_to plain_int) ≡ IsFault SpaceFault
   pub deeper_flags_lost :
@@ -205,9 +183,9 @@ pub record FitExamples : Type 0 where
   pub other_flags : Fits [] (Pointer (int_with noderef_flags) Null) (pointer_to plain_int) → ⊥
   pub other_block : Fits living (Pointer (pointer_to plain_int) (object_spot 0)) (pointer_to (pointer_to plain_int)) → ⊥
   -- an int is plain
-  pub other_kind : Fits [] (Integer CharKind None false (pos 0)) plain_int → ⊥
-  pub restricted : Fits [] (Integer IntKind (Some 0) false (pos 0)) plain_int → ⊥
-  pub fouled : Fits [] (Integer IntKind None true (pos 0)) plain_int → ⊥
+  pub other_kind : Fits [] (Integer kinds.Char None false (pos 0)) plain_int → ⊥
+  pub restricted : Fits [] (Integer kinds.Int (Some 0) false (pos 0)) plain_int → ⊥
+  pub fouled : Fits [] (Integer kinds.Int None true (pos 0)) plain_int → ⊥
   -- the outside writes into living cells alone, into indeterminate ones too
   pub written : IsWritable living (int_block plain_int true 3) [] (int_of 5)
   pub const_written : IsWritable constant (int_block const_int true 3) [] (int_of 5)

@@ -1,6 +1,8 @@
 -- Values that carry their type, and when a value fits a type.
-use Rattle.std.specs.Prelude.{◌≡◌, ℕ, ◌≤◌, Bool, false, ℤ, pos, negsuc, ◌≤ℤ◌, List, [], Option, Some, None, slice_get}
-use Rattle.meaning_types.specs.Types.{Kind, BoolKind, CharKind, SignedCharKind, UnsignedCharKind, ShortKind, UnsignedShortKind, IntKind, UnsignedIntKind, LongKind, UnsignedLongKind, LongLongKind, UnsignedLongLongKind, TypeTree, Typed, BaseTree, IntegerTree, PointerTree, bare}
+use Rattle.std.specs.Prelude.{◌≡◌, ℕ, ◌≤◌, Bool, false, ℤ, ◌≤ℤ◌, List, [], Option, Some, None, slice_get}
+use Rattle.vocabulary.specs.declared.int_kind.IntKind.{IntKind}
+use Rattle.meaning_types.specs.Types.{TypeTree, Typed, BaseTree, IntegerTree, PointerTree, bare}
+use Rattle.meaning_types.specs.Ranges.{least, greatest}
 
 -- where a pointer points
 pub data Spot : Type 0 where
@@ -13,7 +15,7 @@ pub data Spot : Type 0 where
 
 pub data Value : Type 0 where
   -- with its kind, its restricted identity if it has one, whether it is fouled, and its number
-  Integer : (kind : Kind) (restricted : Option ℕ) (fouled : Bool) (number : ℤ) → Value
+  Integer : (kind : IntKind) (restricted : Option ℕ) (fouled : Bool) (number : ℤ) → Value
   -- with the whole type of its target
   Pointer : (target : TypeTree) (spot : Spot) → Value
 
@@ -38,36 +40,7 @@ pub record Block : Type 0 where
   pub is_alive : Bool
   pub cells : List Cell
 
--- the least value of a kind (6.2.6.2, with the widths of LP64)
-abbrev pub least : Kind → ℤ
-least BoolKind = pos 0
-least CharKind = negsuc 127
-least SignedCharKind = negsuc 127
-least UnsignedCharKind = pos 0
-least ShortKind = negsuc 32767
-least UnsignedShortKind = pos 0
-least IntKind = negsuc 2147483647
-least UnsignedIntKind = pos 0
-least LongKind = negsuc 9223372036854775807
-least UnsignedLongKind = pos 0
-least LongLongKind = negsuc 9223372036854775807
-least UnsignedLongLongKind = pos 0
-
-abbrev pub greatest : Kind → ℤ
-greatest BoolKind = pos 1
-greatest CharKind = pos 127
-greatest SignedCharKind = pos 127
-greatest UnsignedCharKind = pos 255
-greatest ShortKind = pos 32767
-greatest UnsignedShortKind = pos 65535
-greatest IntKind = pos 2147483647
-greatest UnsignedIntKind = pos 4294967295
-greatest LongKind = pos 9223372036854775807
-greatest UnsignedLongKind = pos 18446744073709551615
-greatest LongLongKind = pos 9223372036854775807
-greatest UnsignedLongLongKind = pos 18446744073709551615
-
-abbrev pub IsInRange : Kind → ℤ → Type 0
+abbrev pub IsInRange : IntKind → ℤ → Type 0
 IsInRange kind number = (least kind ≤ℤ number) × (number ≤ℤ greatest kind)
 
 -- the block has so many elements of this type at the path; an object of the first form is one element

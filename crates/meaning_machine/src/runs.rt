@@ -1,5 +1,5 @@
 ghost use Rattle.meaning_machine.specs.Played.{MovesArePlayed, PlayedIsRun, RunIsPlayed};
-ghost use Rattle.meaning_machine.specs.RowExamples.{CellExamples, ConversionExamples, FitExamples, LastExamples, RangeExamples, RowExamples};
+ghost use Rattle.meaning_machine.specs.RowExamples.{CellExamples, ConversionExamples, FitExamples, LastExamples, RowExamples};
 ghost use Rattle.meaning_machine.specs.StepExamples.{StepExamples};
 ghost use Rattle.meaning_machine.specs.ActivityExamples.{OthersGoOn, ThirdMeetsFault, ThreeByTurns, ThreeInOrder};
 ghost use Rattle.meaning_machine.specs.Examples.{SpaceIsLost, NoderefIsAccessed, FlaggedIntIsLoaded, SilentUnitLeaves, SilentUnitEnds, SilentUnitCopies, NullIsUndefined, ForeignIsUndefined, ConstIsCopied, IndeterminateIsUndefined, ConstIsAdopted, AddressIsNoPlace, StatementWithoutRowIsFault};
@@ -42,10 +42,9 @@ pub fn worked_activities()
     ensures others_go_on { OthersGoOn }
 {}
 
-/// The numbers of each kind, what a number becomes in another one, what fits a type, what single loads, stores and steps give, and which blocks
-/// outlast others.
+/// What a number becomes in another kind, what fits a type, what single loads, stores and steps give,
+/// and which blocks outlast others.
 pub fn worked_rows()
-    ensures ranges { RangeExamples }
     ensures conversions { ConversionExamples }
     ensures rows { RowExamples }
     ensures cells { CellExamples }

@@ -7,38 +7,9 @@ use Rattle.meaning_types.specs.Types.{Space, NoSpace, NumberedSpace, NamedSpace,
 use Rattle.meaning_types.specs.Spaces.{MixSpaces, TargetsMixSpaces}
 use Rattle.meaning_rules.specs.Typing.{behind_stars, int_with, declared_type}
 use Rattle.meaning_syntax.specs.Binding.{Declared}
-use Rattle.meaning_rules.specs.Judging.{are_equal_spaces, are_equal_bools, are_equal_flags, int_flags, is_flagged_int}
-
--- Equal flags
-
--- two tests are equal
-are_equal_bools-Decides : (a b : Bool) → Decides (are_equal_bools a b) (a ≡ b)
-are_equal_bools-Decides true true = (λ h. refl, λ h. refl)
-are_equal_bools-Decides true false = grind arith
-are_equal_bools-Decides false true = grind arith
-are_equal_bools-Decides false false = (λ h. refl, λ h. refl)
-
--- two spaces are equal
-are_equal_spaces-Decides : (a b : Space) → Decides (are_equal_spaces a b) (a ≡ b)
-are_equal_spaces-Decides NoSpace NoSpace = (λ h. refl, λ h. refl)
-are_equal_spaces-Decides NoSpace (NumberedSpace n) = grind arith
-are_equal_spaces-Decides NoSpace (NamedSpace y) = grind arith
-are_equal_spaces-Decides (NumberedSpace m) NoSpace = grind arith
-are_equal_spaces-Decides (NumberedSpace m) (NumberedSpace n) = (λ h. ap NumberedSpace ((Decides-eqb m n).0 h), λ e. (Decides-eqb m n).1 (cc e))
-are_equal_spaces-Decides (NumberedSpace m) (NamedSpace y) = grind arith
-are_equal_spaces-Decides (NamedSpace x) NoSpace = grind arith
-are_equal_spaces-Decides (NamedSpace x) (NumberedSpace n) = grind arith
-are_equal_spaces-Decides (NamedSpace x) (NamedSpace y) = (λ h. ap NamedSpace ((bytes_eq-Decides x y).0 h), λ e. (bytes_eq-Decides x y).1 (cc e))
-
--- flags pass the test exactly where they are equal
-pub are_equal_flags-Decides : (f g : Flags) → Decides (are_equal_flags f g) (f ≡ g)
-are_equal_flags-Decides f g = (
-  λ h. same (and_parts _ _ h).0 (and_parts _ _ h).1,
-  λ e. and_from _ _ ((are_equal_bools-Decides f.noderef g.noderef).1 (ap (λ x. x.noderef) e)) ((are_equal_spaces-Decides f.space g.space).1 (ap (λ x. x.space) e)),
-)
-  where
-    same : are_equal_bools f.noderef g.noderef ≡ true → are_equal_spaces f.space g.space ≡ true → f ≡ g
-    same h k = λ i. record { noderef = (are_equal_bools-Decides f.noderef g.noderef).0 h i; space = (are_equal_spaces-Decides f.space g.space).0 k i }
+use Rattle.meaning_types.specs.Equality.{are_equal_flags}
+use Rattle.meaning_types.proofs.Equality.{are_equal_flags-Decides}
+use Rattle.meaning_rules.specs.Judging.{int_flags, is_flagged_int}
 
 -- Pointers to ints
 

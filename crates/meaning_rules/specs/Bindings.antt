@@ -1,7 +1,8 @@
 -- What declarations bind names to (C11 6.2.1, 6.7.6): the types of objects, by the tree.
 use Rattle.std.specs.Prelude.{ℕ, true, List, [], ◌∷◌, ◌++◌, Option, Some, None, option_map, if◌then◌else◌}
 use Rattle.std.specs.Str.{bytes_eq}
-use Rattle.meaning_types.specs.Types.{Space, NumberedSpace, NamedSpace, IntKind, Flags, no_flags, no_qualifiers, TypeTree, Typed, BaseTree, IntegerTree, PointerTree}
+use Rattle.vocabulary.specs.declared.int_kind.IntKind.TheVariants.{Int}
+use Rattle.meaning_types.specs.Types.{Space, NumberedSpace, NamedSpace, Flags, no_flags, no_qualifiers, TypeTree, Typed, BaseTree, IntegerTree, PointerTree}
 use Rattle.meaning_tree.specs.Kinds.{NodeKind, Declaration, FunctionDefinition, Specifiers, IntSpecifier, AttributeList, NoderefAttribute, AddressSpaceAttribute, Declarator, PointerDeclarator}
 use Rattle.meaning_tree.specs.Trees.{SyntaxTree, Node, NoParts, Part}
 use Rattle.meaning_syntax.specs.Trees.{SyntaxParts}
@@ -43,7 +44,7 @@ specified_flags flags (Part role (Node kind token name number parts) specifiers)
 
 -- the type that a word of the specifiers names
 abbrev pub base_named : NodeKind → Option BaseTree
-base_named IntSpecifier = Some (IntegerTree IntKind)
+base_named IntSpecifier = Some (IntegerTree Int)
 base_named kind = None
 
 -- the first where there are two

@@ -12,7 +12,8 @@ use Rattle.meaning_rules.specs.Typing.{int_with, flagged}
 use Rattle.meaning_rules.specs.Evaluation.{InAssignment}
 use Rattle.meaning_rules.specs.Failures.{Failure, SpacesMixed, FlaggedAccess}
 use Rattle.meaning_rules.specs.Judging.{failures_of}
-use Rattle.meaning_rules.specs.Text.{main_file, warnings_text}
+use Rattle.meaning_text.specs.Places.{main_file}
+use Rattle.meaning_rules.specs.Text.{warnings_text}
 
 -- the tokens that were found, if no fault was
 abbrev pub tokens_found : Lexed → List Tok

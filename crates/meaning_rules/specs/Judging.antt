@@ -3,26 +3,14 @@
 use Rattle.std.specs.Prelude.{ℕ, suc, ◌-◌, Bool, true, false, ◌+◌, ◌&&◌, List, [], ◌∷◌, ◌++◌, Option, Some, None, not, nat_eq, nat_lt, if◌then◌else◌}
 use Rattle.std.specs.List.{flat_map}
 use Rattle.std.specs.Str.{bytes_eq}
-use Rattle.meaning_types.specs.Types.{Space, NoSpace, NumberedSpace, NamedSpace, Flags, no_flags, has_flag, value_type}
+use Rattle.meaning_types.specs.Types.{Flags, no_flags, has_flag, value_type}
+use Rattle.meaning_types.specs.Equality.{are_equal_flags}
 use Rattle.meaning_syntax.specs.Items.{Statement, Assign, AssignThrough, AssignAddress, Item}
 use Rattle.meaning_syntax.specs.Binding.{Declared, object_of}
 use Rattle.meaning_rules.specs.Typing.{flagged, declared_type}
 use Rattle.meaning_rules.specs.Evaluation.{InAssignment}
 use Rattle.meaning_rules.specs.Placed.{Placed, placed_in}
 use Rattle.meaning_rules.specs.Failures.{Failure, SpacesMixed, FlaggedAccess}
-
-abbrev pub are_equal_spaces : Space → Space → Bool
-are_equal_spaces NoSpace NoSpace = true
-are_equal_spaces (NumberedSpace m) (NumberedSpace n) = nat_eq m n
-are_equal_spaces (NamedSpace x) (NamedSpace y) = bytes_eq x y
-are_equal_spaces _ _ = false
-
-abbrev pub are_equal_bools : Bool → Bool → Bool
-are_equal_bools true b = b
-are_equal_bools false b = not b
-
-abbrev pub are_equal_flags : Flags → Flags → Bool
-are_equal_flags f g = are_equal_bools f.noderef g.noderef && are_equal_spaces f.space g.space
 
 -- the flags of the int that is declared, or behind the stars
 abbrev pub int_flags : Declared → Flags

@@ -2,7 +2,7 @@
 use Rattle.std.specs.Prelude.{ℕ, List, ◌++◌, codes, slice_get, unwrap_or, option_map, if◌then◌else◌}
 use Rattle.std.specs.List.{flat_map}
 use Rattle.std.specs.Fmt.{decimal}
-use Rattle.meaning_text.specs.Places.{At, start_of}
+use Rattle.meaning_text.specs.Places.{At, main_file, start_of}
 use Rattle.meaning_text.specs.Tokens.{Tok}
 use Rattle.meaning_types.specs.Types.{Flags, TypeTree, flags_of}
 use Rattle.meaning_types.specs.Spelling.{spelling, space_spelling}
@@ -35,10 +35,6 @@ cause_text path at (SpacesMixed position expected got) =
     ++ type_line path at (codes "expected") expected
     ++ type_line path at (codes "got") got
 cause_text path at (FlaggedAccess place) = warning_line path at (access_text (flags_of place))
-
--- the number of the checked file; number 0 is that of the file `<command>`
-abbrev pub main_file : ℕ
-main_file = 1
 
 -- where the token with this index begins
 abbrev pub place_of : List Tok → ℕ → At

@@ -2,7 +2,8 @@
 use Rattle.std.specs.Prelude.{ℕ, suc, zero, true, List, [], ◌∷◌, Option, option_map, if◌then◌else◌}
 use Rattle.std.specs.Option.{option_and_then}
 use Rattle.std.specs.Str.Parse.{digits_value}
-use Rattle.meaning_types.specs.Types.{Space, NumberedSpace, NamedSpace, IntKind, Flags, no_flags, no_qualifiers, TypeTree, Typed, IntegerTree, value_type}
+use Rattle.vocabulary.specs.declared.int_kind.IntKind.TheVariants.{Int}
+use Rattle.meaning_types.specs.Types.{Space, NumberedSpace, NamedSpace, Flags, no_flags, no_qualifiers, TypeTree, Typed, IntegerTree, value_type}
 use Rattle.meaning_text.specs.Words.{is_identifier}
 use Rattle.meaning_syntax.specs.Items.{Word, Noderef, AddressSpace, Item}
 use Rattle.meaning_syntax.specs.Binding.{Declared, object_of}
@@ -25,7 +26,7 @@ behind_stars zero type_ = type_
 behind_stars (suc stars) type_ = pointer_to (behind_stars stars type_)
 
 abbrev pub int_with : Flags → TypeTree
-int_with flags = Typed (IntegerTree IntKind) no_qualifiers flags
+int_with flags = Typed (IntegerTree Int) no_qualifiers flags
 
 -- attributes among the specifiers belong to the specified type, `int` here
 abbrev pub declared_type : Declared → TypeTree

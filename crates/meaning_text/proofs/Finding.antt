@@ -2,11 +2,11 @@
 use Rattle.std.proofs.Common.{◌≡◌, ℕ, ◌≤◌, Bool, true, false, List, length, Option, Some, None, refl, sym, subst, ◌⊎◌, inl, inr, arith}
 use Rattle.std.specs.Bool.{⊤}
 use Rattle.std.proofs.lemmas.Option.{none-some, same_Some}
-use Rattle.meaning_text.specs.Kinds.{Kind, Punctuator}
+use Rattle.vocabulary.specs.declared.token_kind.TokenKind.{TokenKind}
 use Rattle.meaning_text.specs.Fronts.{Found, or_else, found_where, found_of, found_spelling}
 
 -- what is found is found first, or where the first finds nothing
-pub or_else-Some : (first other : Found) (found : Kind × ℕ) → or_else first other ≡ Some found → (first ≡ Some found) ⊎ ((first ≡ None) × (other ≡ Some found))
+pub or_else-Some : (first other : Found) (found : TokenKind × ℕ) → or_else first other ≡ Some found → (first ≡ Some found) ⊎ ((first ≡ None) × (other ≡ Some found))
 or_else-Some None other found e = inr (refl, e)
 or_else-Some (Some one) other found e = inl e
 
@@ -16,37 +16,37 @@ or_else-None None other e = (refl, e)
 or_else-None (Some found) other e = absurd (none-some found (sym e))
 
 -- what is found where a test holds
-pub found_where-Some : (holds : Bool) (kind : Kind) (count : ℕ) (found : Kind × ℕ) → found_where holds kind count ≡ Some found → (holds ≡ true) × (found ≡ (kind, count))
+pub found_where-Some : (holds : Bool) (kind : TokenKind) (count : ℕ) (found : TokenKind × ℕ) → found_where holds kind count ≡ Some found → (holds ≡ true) × (found ≡ (kind, count))
 found_where-Some true kind count found e = (refl, sym (same_Some _ _ e))
 found_where-Some false kind count found e = absurd (none-some found e)
 
 -- nothing is found where it does not hold
-pub found_where-None : (holds : Bool) (kind : Kind) (count : ℕ) → found_where holds kind count ≡ None → holds ≡ false
+pub found_where-None : (holds : Bool) (kind : TokenKind) (count : ℕ) → found_where holds kind count ≡ None → holds ≡ false
 found_where-None true kind count e = absurd (none-some (kind, count) (sym e))
 found_where-None false kind count e = refl
 
 -- what is found has the length that was found
 pub found_of-Some :
-    (kind : Kind) (length : Option ℕ) (found : Kind × ℕ) → found_of kind length ≡ Some found → (count : ℕ) × (length ≡ Some count) × (found ≡ (kind, count))
+    (kind : TokenKind) (length : Option ℕ) (found : TokenKind × ℕ) → found_of kind length ≡ Some found → (count : ℕ) × (length ≡ Some count) × (found ≡ (kind, count))
 found_of-Some kind None found e = absurd (none-some found e)
 found_of-Some kind (Some count) found e = (count, refl, sym (same_Some _ _ e))
 
 -- nothing is found where no length is
-pub found_of-None : (kind : Kind) (length : Option ℕ) → found_of kind length ≡ None → length ≡ None
+pub found_of-None : (kind : TokenKind) (length : Option ℕ) → found_of kind length ≡ None → length ≡ None
 found_of-None kind None e = refl
 found_of-None kind (Some count) e = absurd (none-some (kind, count) (sym e))
 
 -- what is found of a spelling is the punctuator that it stands for
 pub found_spelling-Some :
-    (known : Option (List ℕ)) (spelling : List ℕ) (found : Kind × ℕ) → found_spelling known spelling ≡ Some found
-    → (stands_for : List ℕ) × (known ≡ Some stands_for) × (found ≡ (Punctuator stands_for, length spelling))
+    (known : Option TokenKind) (spelling : List ℕ) (found : TokenKind × ℕ) → found_spelling known spelling ≡ Some found
+    → (punctuator : TokenKind) × (known ≡ Some punctuator) × (found ≡ (punctuator, length spelling))
 found_spelling-Some None spelling found e = absurd (none-some found e)
-found_spelling-Some (Some stands_for) spelling found e = (stands_for, refl, sym (same_Some _ _ e))
+found_spelling-Some (Some punctuator) spelling found e = (punctuator, refl, sym (same_Some _ _ e))
 
 -- nothing is found of a spelling that is none
-pub found_spelling-None : (known : Option (List ℕ)) (spelling : List ℕ) → found_spelling known spelling ≡ None → known ≡ None
+pub found_spelling-None : (known : Option TokenKind) (spelling : List ℕ) → found_spelling known spelling ≡ None → known ≡ None
 found_spelling-None None spelling e = refl
-found_spelling-None (Some stands_for) spelling e = absurd (none-some (Punctuator stands_for, length spelling) (sym e))
+found_spelling-None (Some punctuator) spelling e = absurd (none-some (punctuator, length spelling) (sym e))
 
 -- Lengths
 
@@ -71,30 +71,30 @@ or_else-Reaches_first count None other one = absurd one
 or_else-Reaches_first count (Some found) other one = one
 
 -- what is found where a test holds is no shorter
-pub found_where-IsNoShorter : (count : ℕ) (holds : Bool) (kind : Kind) (length : ℕ) → (holds ≡ true → count ≤ length) → IsNoShorter count (found_where holds kind length)
+pub found_where-IsNoShorter : (count : ℕ) (holds : Bool) (kind : TokenKind) (length : ℕ) → (holds ≡ true → count ≤ length) → IsNoShorter count (found_where holds kind length)
 found_where-IsNoShorter count true kind length long = long refl
 found_where-IsNoShorter count false kind length long = tt
 
 -- it reaches so far if the test holds
-pub found_where-Reaches : (count : ℕ) (holds : Bool) (kind : Kind) (length : ℕ) → holds ≡ true → count ≤ length → Reaches count (found_where holds kind length)
+pub found_where-Reaches : (count : ℕ) (holds : Bool) (kind : TokenKind) (length : ℕ) → holds ≡ true → count ≤ length → Reaches count (found_where holds kind length)
 found_where-Reaches count holds kind length is long = subst (λ (b : Bool). Reaches count (found_where b kind length)) (sym is) long
 
 -- what is found is no shorter, if its length is not
-pub found_of-IsNoShorter : (count : ℕ) (kind : Kind) (found : Option ℕ) → ((length : ℕ) → found ≡ Some length → count ≤ length) → IsNoShorter count (found_of kind found)
+pub found_of-IsNoShorter : (count : ℕ) (kind : TokenKind) (found : Option ℕ) → ((length : ℕ) → found ≡ Some length → count ≤ length) → IsNoShorter count (found_of kind found)
 found_of-IsNoShorter count kind None long = tt
 found_of-IsNoShorter count kind (Some length) long = long length refl
 
 -- a length that is found is reached
-pub found_of-Reaches : (count : ℕ) (kind : Kind) (found : Option ℕ) → found ≡ Some count → Reaches count (found_of kind found)
+pub found_of-Reaches : (count : ℕ) (kind : TokenKind) (found : Option ℕ) → found ≡ Some count → Reaches count (found_of kind found)
 found_of-Reaches count kind found is = subst (λ (o : Option ℕ). Reaches count (found_of kind o)) (sym is) (omega arith)
 
 -- a punctuator is as long as its spelling
-pub found_spelling-IsNoShorter : (count : ℕ) (known : Option (List ℕ)) (spelling : List ℕ) → count ≤ length spelling → IsNoShorter count (found_spelling known spelling)
+pub found_spelling-IsNoShorter : (count : ℕ) (known : Option TokenKind) (spelling : List ℕ) → count ≤ length spelling → IsNoShorter count (found_spelling known spelling)
 found_spelling-IsNoShorter count None spelling long = tt
-found_spelling-IsNoShorter count (Some stands_for) spelling long = long
+found_spelling-IsNoShorter count (Some punctuator) spelling long = long
 
 -- and reaches so far if it is one
 pub found_spelling-Reaches :
-    (count : ℕ) (known : Option (List ℕ)) (spelling stands_for : List ℕ) → known ≡ Some stands_for → count ≤ length spelling
+    (count : ℕ) (known : Option TokenKind) (spelling : List ℕ) (punctuator : TokenKind) → known ≡ Some punctuator → count ≤ length spelling
     → Reaches count (found_spelling known spelling)
-found_spelling-Reaches count known spelling stands_for is long = subst (λ (o : Option (List ℕ)). Reaches count (found_spelling o spelling)) (sym is) long
+found_spelling-Reaches count known spelling punctuator is long = subst (λ (o : Option TokenKind). Reaches count (found_spelling o spelling)) (sym is) long

@@ -5,7 +5,9 @@ use Rattle.std.proofs.lemmas.Option.{none-some, same_Some}
 use Rattle.meaning_text.specs.Words.{begins_identifier, begins_number, is_identifier, is_number}
 use Rattle.meaning_text.specs.Quoted.{is_character, is_string, is_header_name}
 use Rattle.meaning_text.specs.Punctuators.{punctuator_of}
-use Rattle.meaning_text.specs.Kinds.{Kind, Identifier, Number, Character, String, HeaderName, Punctuator, Stray, is_stray_byte, kind_in}
+use Rattle.vocabulary.specs.declared.token_kind.TokenKind.{TokenKind}
+use Rattle.vocabulary.specs.declared.token_kind.TokenKind.TheVariants.{Identifier, Number, Character, String, HeaderName, Stray}
+use Rattle.meaning_text.specs.Kinds.{is_stray_byte, kind_in}
 use Rattle.meaning_text.specs.Fronts.{word_length, number_tail_length, character_length, string_length, header_name_length, found_where, found_of, header_name_over, found_header_name, found_punctuator_of, found_punctuator, found_number, found_stray, found_token}
 use Rattle.meaning_text.proofs.Scans.{Passes}
 use Rattle.meaning_text.proofs.Literals.{character_measures, string_measures}
@@ -19,14 +21,14 @@ use Rattle.meaning_text.proofs.KindsOfSpellings.{IsOther, kind_in-no_header_name
 use Rattle.meaning_text.proofs.Overlaps.{is_header_name-identifier, is_header_name-character, is_header_name-number, is_identifier-number, is_number-character, is_number-string, is_identifier-character, is_identifier-string, is_character-string}
 
 -- so many bytes at the front are a token of this kind
-pub record IsTokenFront (allowed : Bool) (text : List ℕ) (found : Kind × ℕ) : Type 0 where
+pub record IsTokenFront (allowed : Bool) (text : List ℕ) (found : TokenKind × ℕ) : Type 0 where
   pub some : 0 < found.1
   pub within : found.1 ≤ length text
   pub is_kind : kind_in allowed (take found.1 text) ≡ Some found.0
 
 -- a front that passes is of the kind that all that passes are of
 IsTokenFront-Passes :
-    (allowed : Bool) (text : List ℕ) (found : Kind × ℕ) (is : List ℕ → Bool) (kind : Kind) (count : ℕ) → found ≡ (kind, count) → Passes is text count
+    (allowed : Bool) (text : List ℕ) (found : TokenKind × ℕ) (is : List ℕ → Bool) (kind : TokenKind) (count : ℕ) → found ≡ (kind, count) → Passes is text count
     → (is (take count text) ≡ true → kind_in allowed (take count text) ≡ Some kind) → IsTokenFront allowed text found
 IsTokenFront-Passes allowed text found is kind count same passes of_kind =
     subst (IsTokenFront allowed text) (sym same) (record { some = passes.some; within = passes.within; is_kind = of_kind passes.is_one })
@@ -35,13 +37,13 @@ IsTokenFront-Passes allowed text found is kind count same passes of_kind =
 
 -- what is found is the header name
 header_name_over-Some :
-    (name other : Option ℕ) (found : Kind × ℕ) → header_name_over name other ≡ Some found → (count : ℕ) × (name ≡ Some count) × (found ≡ (HeaderName, count))
+    (name other : Option ℕ) (found : TokenKind × ℕ) → header_name_over name other ≡ Some found → (count : ℕ) × (name ≡ Some count) × (found ≡ (HeaderName, count))
 header_name_over-Some None other found e = absurd (none-some found e)
 header_name_over-Some (Some count) None found e = (count, refl, sym (same_Some _ _ e))
 header_name_over-Some (Some count) (Some longer) found e = (count, refl, (found_where-Some (nat_le longer count) HeaderName count found e).1)
 
 -- a header name that is found is one
-found_header_name-IsTokenFront : (allowed : Bool) (text : List ℕ) (found : Kind × ℕ) → found_header_name allowed text ≡ Some found → IsTokenFront allowed text found
+found_header_name-IsTokenFront : (allowed : Bool) (text : List ℕ) (found : TokenKind × ℕ) → found_header_name allowed text ≡ Some found → IsTokenFront allowed text found
 found_header_name-IsTokenFront false text found e = absurd (none-some found e)
 found_header_name-IsTokenFront true text found e =
     let over = header_name_over-Some (header_name_length text) (string_length text) found e in
@@ -95,18 +97,18 @@ number-kind allowed front is =
     ∙ kind_in-number front (is_identifier-number front is) is
 
 -- a punctuator is of its kind
-punctuator-kind : (allowed : Bool) (front stands_for : List ℕ) → punctuator_of front ≡ Some stands_for → kind_in allowed front ≡ Some (Punctuator stands_for)
-punctuator-kind allowed front stands_for is =
-    let none = punctuator-IsNoOther front stands_for is in
+punctuator-kind : (allowed : Bool) (front : List ℕ) (punctuator : TokenKind) → punctuator_of front ≡ Some punctuator → kind_in allowed front ≡ Some punctuator
+punctuator-kind allowed front punctuator is =
+    let none = punctuator-IsNoOther front punctuator is in
     kind_in-no_header_name allowed front (and_right allowed _ none.no_header_name)
-    ∙ kind_in-punctuator front stands_for
+    ∙ kind_in-punctuator front punctuator
     (record { no_identifier = none.no_identifier; no_number = none.no_number; no_character = none.no_character; no_string = none.no_string }) is
 
 -- What is found behind one another
 
 -- a string literal that is found behind header names is one
 found_string-IsTokenFront :
-    (allowed : Bool) (text : List ℕ) (found : Kind × ℕ) → found_header_name allowed text ≡ None → found_of String (string_length text) ≡ Some found
+    (allowed : Bool) (text : List ℕ) (found : TokenKind × ℕ) → found_header_name allowed text ≡ None → found_of String (string_length text) ≡ Some found
     → IsTokenFront allowed text found
 found_string-IsTokenFront allowed text found no_header_name e =
     let inner = found_of-Some String (string_length text) found e in
@@ -116,7 +118,7 @@ found_string-IsTokenFront allowed text found no_header_name e =
 
 -- a character constant that is found is one
 found_character-IsTokenFront :
-    (allowed : Bool) (text : List ℕ) (found : Kind × ℕ) → found_of Character (character_length text) ≡ Some found → IsTokenFront allowed text found
+    (allowed : Bool) (text : List ℕ) (found : TokenKind × ℕ) → found_of Character (character_length text) ≡ Some found → IsTokenFront allowed text found
 found_character-IsTokenFront allowed text found e =
     let inner = found_of-Some Character (character_length text) found e in
     IsTokenFront-Passes allowed text found is_character Character inner.0 inner.2 (character_measures.passes text inner.0 inner.1)
@@ -124,7 +126,7 @@ found_character-IsTokenFront allowed text found e =
 
 -- an identifier that is found is one
 found_identifier-IsTokenFront :
-    (allowed : Bool) (text : List ℕ) (found : Kind × ℕ) → found_where (begins_identifier text) Identifier (word_length text) ≡ Some found
+    (allowed : Bool) (text : List ℕ) (found : TokenKind × ℕ) → found_where (begins_identifier text) Identifier (word_length text) ≡ Some found
     → IsTokenFront allowed text found
 found_identifier-IsTokenFront allowed text found e =
     let inner = found_where-Some (begins_identifier text) Identifier (word_length text) found e in
@@ -132,7 +134,7 @@ found_identifier-IsTokenFront allowed text found e =
     (identifier-kind allowed (take (word_length text) text))
 
 -- a number that is found is one
-found_number-IsTokenFront : (allowed : Bool) (text : List ℕ) (found : Kind × ℕ) → found_number text ≡ Some found → IsTokenFront allowed text found
+found_number-IsTokenFront : (allowed : Bool) (text : List ℕ) (found : TokenKind × ℕ) → found_number text ≡ Some found → IsTokenFront allowed text found
 found_number-IsTokenFront allowed [] found e = absurd (none-some found e)
 found_number-IsTokenFront allowed (b ∷ text) found e =
     let inner = found_where-Some (begins_number (b ∷ text)) Number _ found e in
@@ -140,13 +142,13 @@ found_number-IsTokenFront allowed (b ∷ text) found e =
     (number-kind allowed (b ∷ take (number_tail_length false 0 text) text))
 
 -- a punctuator that is found is one
-found_punctuator-IsTokenFront : (allowed : Bool) (text : List ℕ) (found : Kind × ℕ) → found_punctuator text ≡ Some found → IsTokenFront allowed text found
+found_punctuator-IsTokenFront : (allowed : Bool) (text : List ℕ) (found : TokenKind × ℕ) → found_punctuator text ≡ Some found → IsTokenFront allowed text found
 found_punctuator-IsTokenFront allowed text found e =
     let front = found_punctuator-IsPunctuatorFront text found e in
     record {
       some = front.some;
       within = front.within;
-      is_kind = punctuator-kind allowed (take found.1 text) front.stands_for front.is_one ∙ ap Some (sym front.kind);
+      is_kind = punctuator-kind allowed (take found.1 text) found.0 front.is_one;
     }
 
 -- no other token begins here
@@ -178,7 +180,7 @@ NothingElse-punctuator b text nothing =
     found_spelling-None (punctuator_of (b ∷ [])) (b ∷ []) one
 
 -- a stray byte that is found last is one
-found_stray-IsTokenFront : (allowed : Bool) (text : List ℕ) (found : Kind × ℕ) → NothingElse text → found_stray text ≡ Some found → IsTokenFront allowed text found
+found_stray-IsTokenFront : (allowed : Bool) (text : List ℕ) (found : TokenKind × ℕ) → NothingElse text → found_stray text ≡ Some found → IsTokenFront allowed text found
 found_stray-IsTokenFront allowed [] found nothing e = absurd (none-some found e)
 found_stray-IsTokenFront allowed (b ∷ text) found nothing e =
     let inner = found_where-Some (is_stray_byte b) Stray 1 found e in
@@ -193,7 +195,7 @@ found_stray-IsTokenFront allowed (b ∷ text) found nothing e =
     })
 
 -- what is found is a token of its kind
-pub found_token-IsTokenFront : (allowed : Bool) (text : List ℕ) (found : Kind × ℕ) → found_token allowed text ≡ Some found → IsTokenFront allowed text found
+pub found_token-IsTokenFront : (allowed : Bool) (text : List ℕ) (found : TokenKind × ℕ) → found_token allowed text ≡ Some found → IsTokenFront allowed text found
 found_token-IsTokenFront allowed text found e =
     ⊎_elim (found_header_name-IsTokenFront allowed text found)
     (λ at_string. ⊎_elim (found_string-IsTokenFront allowed text found at_string.0)

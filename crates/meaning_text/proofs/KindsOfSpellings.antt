@@ -1,11 +1,13 @@
 -- The tests behind the kind of a spelling, one by one.
 use Rattle.std.proofs.Common.{◌≡◌, ℕ, Bool, true, false, ◌&&◌, List, [], ◌∷◌, Option, Some, None, refl, sym, ◌∙◌, ◌⊎◌, inl, inr, true≢false}
 use Rattle.std.proofs.lemmas.Bool.{cases_Bool, and_parts, and_right, not_from_true, or_left}
+use Rattle.vocabulary.specs.declared.token_kind.TokenKind.{TokenKind}
 use Rattle.meaning_text.specs.Bytes.{is_white, is_quotation_mark}
 use Rattle.meaning_text.specs.Words.{is_identifier, is_number}
 use Rattle.meaning_text.specs.Quoted.{is_character, is_string, is_header_name}
 use Rattle.meaning_text.specs.Punctuators.{punctuator_of, punctuators, plain_punctuators, digraphs}
-use Rattle.meaning_text.specs.Kinds.{Identifier, Number, Character, String, HeaderName, Punctuator, Stray, is_stray, kind_in}
+use Rattle.vocabulary.specs.declared.token_kind.TokenKind.TheVariants.{Identifier, Number, Character, String, HeaderName, Stray}
+use Rattle.meaning_text.specs.Kinds.{is_stray, kind_in}
 use Rattle.meaning_text.proofs.FirstBytes.{opens-white, is_header_name-none, is_identifier-none, is_number-none, is_character-none, is_string-none}
 use Rattle.meaning_text.proofs.Punctuation.{punctuator-StandsApart}
 
@@ -48,9 +50,9 @@ pub record IsOther (text : List ℕ) : Type 0 where
   pub no_string : is_string text ≡ false
 
 -- such a spelling that is a punctuator
-pub kind_in-punctuator : (text stands_for : List ℕ) → IsOther text → punctuator_of text ≡ Some stands_for → kind_in false text ≡ Some (Punctuator stands_for)
+pub kind_in-punctuator : (text : List ℕ) (punctuator : TokenKind) → IsOther text → punctuator_of text ≡ Some punctuator → kind_in false text ≡ Some punctuator
 unfolding kind_in
-kind_in-punctuator text stands_for other is = rw (other.no_identifier, other.no_number, other.no_character, other.no_string, is) refl
+kind_in-punctuator text punctuator other is = rw (other.no_identifier, other.no_number, other.no_character, other.no_string, is) refl
 
 -- one that is a stray byte
 pub kind_in-stray : (text : List ℕ) → IsOther text → punctuator_of text ≡ None → is_stray text ≡ true → kind_in false text ≡ Some Stray
@@ -69,12 +71,12 @@ pub data KindCases (allowed : Bool) (text : List ℕ) : Type 0 where
   OfNumber : is_number text ≡ true → KindCases allowed text
   OfCharacter : is_character text ≡ true → KindCases allowed text
   OfString : is_string text ≡ true → KindCases allowed text
-  OfPunctuator : (stands_for : List ℕ) → punctuator_of text ≡ Some stands_for → KindCases allowed text
+  OfPunctuator : (punctuator : TokenKind) → punctuator_of text ≡ Some punctuator → KindCases allowed text
   OfStray : is_stray text ≡ true → KindCases allowed text
   OfNone : kind_in allowed text ≡ None → KindCases allowed text
 
 -- a value is found, or none is
-option_cases : (found : Option (List ℕ)) → (found ≡ None) ⊎ ((value : List ℕ) × (found ≡ Some value))
+option_cases : (found : Option TokenKind) → (found ≡ None) ⊎ ((value : TokenKind) × (found ≡ Some value))
 option_cases None = inl refl
 option_cases (Some value) = inr (value, refl)
 

@@ -5,7 +5,8 @@ use Rattle.std.proofs.lemmas.List.{take-append-drop, take-map, drop-map, length-
 use Rattle.meaning_text.specs.Bytes.{new_line, is_blank}
 use Rattle.meaning_text.specs.Logical.{SourceByte, bytes_of}
 use Rattle.meaning_text.specs.Comments.{begins_comment, is_line_comment, is_line_end, is_block_comment}
-use Rattle.meaning_text.specs.Kinds.{Kind, kind_in}
+use Rattle.vocabulary.specs.declared.token_kind.TokenKind.{TokenKind}
+use Rattle.meaning_text.specs.Kinds.{kind_in}
 use Rattle.meaning_text.specs.Fronts.{Front, AtEnd, AtNewLine, AtBlank, AtComment, AtToken, AtOpenComment, AtOpenLiteral}
 use Rattle.meaning_text.specs.Tokens.{Tok, Piece, White, LineComment, BlockComment, piece_text, is_piece, Gap, gap_text, IsGap, is_some_gap, Context, AtLineStart, allows_header_name, behind_gap, behind_token, place_of, IsLongest, BeginsWith, Lexes, Opens}
 use Rattle.meaning_text.specs.Lexing.{Lexed, Tokens, Refused, with_token, lexed_front, lexed_behind, lexed}
@@ -81,7 +82,7 @@ place_of-take (suc count) first rest some = refl
 
 -- the longest token in front, cut from what follows
 IsLongest-take :
-    (allowed : Bool) (text : List SourceByte) (kind : Kind) (count : ℕ) → IsLongestFront allowed (bytes_of text) kind count →
+    (allowed : Bool) (text : List SourceByte) (kind : TokenKind) (count : ℕ) → IsLongestFront allowed (bytes_of text) kind count →
     (kind_in allowed (bytes_of (take count text)) ≡ Some kind) × IsLongest allowed (bytes_of (take count text)) (bytes_of (drop count text))
 IsLongest-take allowed text kind count front =
     let spelled : List SourceByte = take count text in
@@ -93,7 +94,7 @@ IsLongest-take allowed text kind count front =
 
 -- a token in front
 HasAnswer-token :
-    (context : Context) (gap : Gap) (first : SourceByte) (rest : List SourceByte) (kind : Kind) (count : ℕ) → HaveAnswers (length rest) → IsGap gap (first ∷ rest) →
+    (context : Context) (gap : Gap) (first : SourceByte) (rest : List SourceByte) (kind : TokenKind) (count : ℕ) → HaveAnswers (length rest) → IsGap gap (first ∷ rest) →
     begins_comment (bytes_of (first ∷ rest)) ≡ false → IsLongestFront (allows_header_name (behind_gap context gap)) (bytes_of (first ∷ rest)) kind count →
     HasAnswer context (gap_text gap ++ first ∷ rest)
     (lexed_front lexed_behind (behind_gap context gap) (is_some_gap gap) first rest (AtToken kind count))

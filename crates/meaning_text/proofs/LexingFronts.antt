@@ -6,7 +6,8 @@ use Rattle.std.proofs.lemmas.List.{take_at, length-append}
 use Rattle.std.proofs.Math.Seq.{take-append-add}
 use Rattle.meaning_text.specs.Bytes.{new_line, star, slash, is_blank, is_white, is_quotation_mark}
 use Rattle.meaning_text.specs.Comments.{begins_slash_and, begins_comment, begins_block_comment, begins_line_comment, is_block_comment, is_line_comment, is_line_end}
-use Rattle.meaning_text.specs.Kinds.{Kind, kind_in}
+use Rattle.vocabulary.specs.declared.token_kind.TokenKind.{TokenKind}
+use Rattle.meaning_text.specs.Kinds.{kind_in}
 use Rattle.meaning_text.specs.Fronts.{Front, AtEnd, AtNewLine, AtBlank, AtComment, AtToken, AtOpenComment, AtOpenLiteral, line_length, block_tail_length, block_front, Found, found_token, token_front, front_of}
 use Rattle.meaning_text.specs.Tokens.{IsLongest}
 use Rattle.meaning_text.proofs.FrontFacts.{IsLongestFront, found_token-IsLongestFront, found_token-none, kind_in-nil, kind_in-white, block_comment-found, block_comment-only, block_comment-none, line_comment-found, line_comment-only}
@@ -196,7 +197,7 @@ front_of-open_literal allowed b text quote none =
 
 -- a longest front, where it is cut from what follows
 pub IsLongestFront-IsLongest :
-    (allowed : Bool) (spelled rest : List ℕ) (kind : Kind) → IsLongestFront allowed (spelled ++ rest) kind (length spelled) →
+    (allowed : Bool) (spelled rest : List ℕ) (kind : TokenKind) → IsLongestFront allowed (spelled ++ rest) kind (length spelled) →
     (kind_in allowed spelled ≡ Some kind) × IsLongest allowed spelled rest
 IsLongestFront-IsLongest allowed spelled rest kind front = (
   ap (kind_in allowed) (sym (take_at spelled rest (length spelled) refl)) ∙ front.is_kind,
@@ -207,7 +208,7 @@ IsLongestFront-IsLongest allowed spelled rest kind front = (
 
 -- no front of another length is the longest
 only_count :
-    (allowed : Bool) (spelled rest : List ℕ) (kind other : Kind) (count : ℕ) → kind_in allowed spelled ≡ Some kind → IsLongest allowed spelled rest →
+    (allowed : Bool) (spelled rest : List ℕ) (kind other : TokenKind) (count : ℕ) → kind_in allowed spelled ≡ Some kind → IsLongest allowed spelled rest →
     IsLongestFront allowed (spelled ++ rest) other count → count ≡ length spelled
 only_count allowed spelled rest kind other count is longest front =
     ⊎_elim
@@ -227,7 +228,7 @@ only_count allowed spelled rest kind other count is longest front =
     (cases_order count (length spelled))
 
 only_token :
-    (allowed : Bool) (b : ℕ) (spelled rest : List ℕ) (kind : Kind) (found : Found) → is_white b ≡ false → kind_in allowed (b ∷ spelled) ≡ Some kind →
+    (allowed : Bool) (b : ℕ) (spelled rest : List ℕ) (kind : TokenKind) (found : Found) → is_white b ≡ false → kind_in allowed (b ∷ spelled) ≡ Some kind →
     IsLongest allowed (b ∷ spelled) rest → found_token allowed (b ∷ spelled ++ rest) ≡ found →
     token_front found ≡ AtToken kind (length (b ∷ spelled))
 only_token allowed b spelled rest kind None black is longest found =
@@ -242,7 +243,7 @@ only_token allowed b spelled rest kind (Some other) black is longest found =
     cc
 
 pub front_of-only_token :
-    (allowed : Bool) (spelled rest : List ℕ) (kind : Kind) → begins_comment (spelled ++ rest) ≡ false → kind_in allowed spelled ≡ Some kind →
+    (allowed : Bool) (spelled rest : List ℕ) (kind : TokenKind) → begins_comment (spelled ++ rest) ≡ false → kind_in allowed spelled ≡ Some kind →
     IsLongest allowed spelled rest → front_of allowed (spelled ++ rest) ≡ AtToken kind (length spelled)
 front_of-only_token allowed [] rest kind none is longest =
     let empty = kind_in-nil allowed in cc

@@ -4,7 +4,7 @@ use Rattle.std.proofs.lemmas.List.{take_at, drop_at}
 use Rattle.std.proofs.lemmas.Option.{same_Some}
 use Rattle.meaning_text.specs.Logical.{SourceByte, bytes_of}
 use Rattle.meaning_text.specs.Comments.{begins_comment}
-use Rattle.meaning_text.specs.Kinds.{Kind}
+use Rattle.vocabulary.specs.declared.token_kind.TokenKind.{TokenKind}
 use Rattle.meaning_text.specs.Fronts.{AtToken, AtOpenComment, AtOpenLiteral, front_of}
 use Rattle.meaning_text.specs.Tokens.{Tok, Gap, gap_text, is_some_gap, Context, allows_header_name, is_line_start, behind_gap, behind_token, BeginsWith, TokensUpTo, IsEnd, Lexes, LexFault, OpenComment, OpenLiteral, IsFaultAt, Opens}
 use Rattle.meaning_text.specs.Lexing.{Lexed, Tokens, Refused, with_token, lexed_behind, lexed}
@@ -13,13 +13,13 @@ use Rattle.meaning_text.proofs.LexingSteps.{lexed_behind-at}
 use Rattle.meaning_text.proofs.LexingGaps.{bytes_of-append, length-bytes_of, lexed_behind-gap}
 
 -- the token that the plain function makes of bytes
-abbrev pub token_of : Context → Bool → Kind → SourceByte → List ℕ → Tok
+abbrev pub token_of : Context → Bool → TokenKind → SourceByte → List ℕ → Tok
 token_of context space kind first text =
     record { kind = kind; text = text; at = first.at; space_before = space; line_start = is_line_start context }
 
 -- it stands before what is found behind it
 with_token_of :
-    (context : Context) (space : Bool) (kind : Kind) (first : SourceByte) (spelled rest : List SourceByte) →
+    (context : Context) (space : Bool) (kind : TokenKind) (first : SourceByte) (spelled rest : List SourceByte) →
     front_of (allows_header_name context) (bytes_of (first ∷ spelled) ++ bytes_of rest) ≡ AtToken kind (length (bytes_of (first ∷ spelled))) →
     lexed_behind context space ((first ∷ spelled) ++ rest)
     ≡ with_token (token_of context space kind first (bytes_of (first ∷ spelled))) (lexed_behind (behind_token context kind (bytes_of (first ∷ spelled))) false rest)

@@ -5,7 +5,9 @@ use Rattle.std.proofs.lemmas.Option.{none-some, same_Some}
 use Rattle.meaning_text.specs.Words.{begins_identifier, begins_number, is_word, is_identifier, is_number}
 use Rattle.meaning_text.specs.Quoted.{is_character, is_string, is_header_name}
 use Rattle.meaning_text.specs.Punctuators.{punctuator_of}
-use Rattle.meaning_text.specs.Kinds.{Kind, Identifier, Number, Character, String, HeaderName, Stray, is_stray, is_stray_byte, kind_in}
+use Rattle.vocabulary.specs.declared.token_kind.TokenKind.{TokenKind}
+use Rattle.vocabulary.specs.declared.token_kind.TokenKind.TheVariants.{Identifier, Number, Character, String, HeaderName, Stray}
+use Rattle.meaning_text.specs.Kinds.{is_stray, is_stray_byte, kind_in}
 use Rattle.meaning_text.specs.Fronts.{Found, word_length, character_length, string_length, header_name_length, or_else, found_where, found_of, header_name_over, found_header_name, found_punctuator, found_number, found_stray, found_token}
 use Rattle.meaning_text.proofs.Literals.{character_measures, string_measures}
 use Rattle.meaning_text.proofs.HeaderNames.{header_name_measures, length-header_name}
@@ -72,11 +74,11 @@ header_name_or_string count (Some length) (Some longer) others named =
 -- What is found before
 
 -- nothing is found where there is no length
-nothing_of : (count : ℕ) (kind : Kind) (found : Option ℕ) → found ≡ None → IsNoShorter count (found_of kind found)
+nothing_of : (count : ℕ) (kind : TokenKind) (found : Option ℕ) → found ≡ None → IsNoShorter count (found_of kind found)
 nothing_of count kind found none = found_of-IsNoShorter count kind found (λ length is. absurd (none-some length (sym none ∙ is)))
 
 -- nothing is found where the test does not hold
-nothing_where : (count : ℕ) (holds : Bool) (kind : Kind) (length : ℕ) → holds ≡ false → IsNoShorter count (found_where holds kind length)
+nothing_where : (count : ℕ) (holds : Bool) (kind : TokenKind) (length : ℕ) → holds ≡ false → IsNoShorter count (found_where holds kind length)
 nothing_where count holds kind length none = found_where-IsNoShorter count holds kind length (λ is. absurd (both_ways holds none is))
 
 -- so far as to identifiers nothing shorter is found, and what is found behind reaches so far
@@ -188,10 +190,10 @@ header_name_behind_punctuator b front rest count apart found =
 
 -- each punctuator
 punctuator-Reaches :
-    (allowed : Bool) (front rest stands_for : List ℕ) → punctuator_of front ≡ Some stands_for → Reaches (length front) (found_token allowed (front ++ rest))
-punctuator-Reaches allowed [] rest stands_for is = absurd (omega (arith, length-punctuator [] stands_for is))
-punctuator-Reaches allowed (b ∷ front) rest stands_for is =
-    let apart = punctuator-StandsApart b front stands_for is in
+    (allowed : Bool) (front rest : List ℕ) (punctuator : TokenKind) → punctuator_of front ≡ Some punctuator → Reaches (length front) (found_token allowed (front ++ rest))
+punctuator-Reaches allowed [] rest punctuator is = absurd (omega (arith, length-punctuator [] punctuator is))
+punctuator-Reaches allowed (b ∷ front) rest punctuator is =
+    let apart = punctuator-StandsApart b front punctuator is in
     let count : ℕ = length (b ∷ front) in
     let text : List ℕ = b ∷ front ++ rest in
     past_identifiers count allowed text
@@ -201,7 +203,7 @@ punctuator-Reaches allowed (b ∷ front) rest stands_for is =
     (nothing_where count (begins_identifier text) Identifier (word_length text) (begins_identifier-none b (front ++ rest) apart.no_identifier))
     (or_else-Reaches count (found_number text) _
     (found_where-IsNoShorter count (begins_number text) Number _ (λ begins. omega (arith, number_behind_punctuator b front rest apart.no_number begins)))
-    (or_else-Reaches_first count (found_punctuator text) (found_stray text) (found_punctuator-Reaches (b ∷ front) rest stands_for is)))
+    (or_else-Reaches_first count (found_punctuator text) (found_stray text) (found_punctuator-Reaches (b ∷ front) rest punctuator is)))
 
 -- where nothing is found no stray byte stands
 pub found_token-stray : (allowed : Bool) (b : ℕ) (text : List ℕ) → found_token allowed (b ∷ text) ≡ None → is_stray_byte b ≡ false
@@ -215,7 +217,7 @@ found_token-stray allowed b text none =
     found_where-None (is_stray_byte b) Stray 1 at_stray.1
 
 -- what is found reaches so far, if it is something and no shorter
-Reaches-from_some : (count : ℕ) (found : Found) → (found ≡ None → ⊥) → ((one : Kind × ℕ) → found ≡ Some one → count ≤ one.1) → Reaches count found
+Reaches-from_some : (count : ℕ) (found : Found) → (found ≡ None → ⊥) → ((one : TokenKind × ℕ) → found ≡ Some one → count ≤ one.1) → Reaches count found
 Reaches-from_some count None some long = some refl
 Reaches-from_some count (Some one) some long = long one refl
 
@@ -229,7 +231,7 @@ stray-Reaches allowed (b ∷ c ∷ front) rest is = absurd (true≢false (sym is
 
 -- What is found at the front of a text reaches as far as each front that is a token.
 pub kind_in-Reaches :
-    (allowed : Bool) (front rest : List ℕ) (kind : Kind) → kind_in allowed front ≡ Some kind → Reaches (length front) (found_token allowed (front ++ rest))
+    (allowed : Bool) (front rest : List ℕ) (kind : TokenKind) → kind_in allowed front ≡ Some kind → Reaches (length front) (found_token allowed (front ++ rest))
 kind_in-Reaches allowed front rest kind of_kind =
     elim (kind_cases allowed front) [
       | OfHeaderName allowing is ↦ header_name-Reaches allowed front rest allowing is
@@ -237,7 +239,7 @@ kind_in-Reaches allowed front rest kind of_kind =
       | OfNumber is ↦ number-Reaches allowed front rest is
       | OfCharacter is ↦ character-Reaches allowed front rest is
       | OfString is ↦ string-Reaches allowed front rest is
-      | OfPunctuator stands_for is ↦ punctuator-Reaches allowed front rest stands_for is
+      | OfPunctuator punctuator is ↦ punctuator-Reaches allowed front rest punctuator is
       | OfStray is ↦ stray-Reaches allowed front rest is
       | OfNone none ↦ absurd (none-some kind (sym none ∙ of_kind))
     ]

@@ -1,12 +1,14 @@
 -- Worked examples: short texts, and their tokens or their fault.
-use Rattle.std.specs.Prelude.{◌≡◌, ℕ, Bool, true, false, not, ◌&&◌, nat_le, List, [], ◌∷◌, ◌++◌, map, length, Option, Some, None, codes}
+use Rattle.std.specs.Prelude.{◌≡◌, ℕ, Bool, true, false, not, ◌&&◌, nat_le, List, [], ◌∷◌, ◌++◌, map, length, Option, Some, None, is_some, codes, ⊤}
 use Rattle.std.specs.List.{list_all, list_any}
 use Rattle.std.specs.Str.{bytes_eq}
 use Rattle.meaning_text.specs.Bytes.{space, new_line}
 use Rattle.meaning_text.specs.Places.{At}
 use Rattle.meaning_text.specs.Logical.{SourceByte, bytes_of, logical_text}
-use Rattle.meaning_text.specs.Punctuators.{PunctuatorRow, plain_punctuators, digraphs, punctuators}
-use Rattle.meaning_text.specs.Kinds.{Kind, Identifier, Number, Character, String, HeaderName, Punctuator, Stray, kind_in}
+use Rattle.meaning_text.specs.Punctuators.{PunctuatorRow, own_spelling, plain_punctuators, digraphs, punctuators, punctuator_of}
+use Rattle.vocabulary.specs.declared.token_kind.TokenKind.{TokenKind}
+use Rattle.vocabulary.specs.declared.token_kind.TokenKind.TheVariants.{Identifier, Number, Character, String, HeaderName, LeftBracket, RightBracket, LeftBrace, RightBrace, Dot, PlusPlus, Plus, Slash, Less, Greater, Semicolon, Ellipsis, Hash, HashHash, Stray}
+use Rattle.meaning_text.specs.Kinds.{kind_in}
 use Rattle.meaning_text.specs.Tokens.{Tok, LexFault, OpenComment, OpenLiteral}
 use Rattle.meaning_text.specs.Fronts.{AtToken, front_of}
 use Rattle.meaning_text.specs.Terminals.{terminals_of}
@@ -24,28 +26,24 @@ abbrev pub byte_at : ℕ → ℕ → ℕ → SourceByte
 byte_at byte line column = record { byte = byte; at = at_place line column }
 
 -- the first token of its line, behind white space or not
-abbrev pub first_token : Bool → Kind → List ℕ → ℕ → ℕ → Tok
+abbrev pub first_token : Bool → TokenKind → List ℕ → ℕ → ℕ → Tok
 first_token spaced kind text line column =
     record { kind = kind; text = text; at = at_place line column; space_before = spaced; line_start = true }
 
 -- a further token
-abbrev pub next_token : Bool → Kind → List ℕ → ℕ → ℕ → Tok
+abbrev pub next_token : Bool → TokenKind → List ℕ → ℕ → ℕ → Tok
 next_token spaced kind text line column =
     record { kind = kind; text = text; at = at_place line column; space_before = spaced; line_start = false }
 
 -- a spelling and its kind alone
 abbrev pub Spelled : Type 0
-Spelled = Kind × List ℕ
+Spelled = TokenKind × List ℕ
 
 abbrev pub name : List ℕ → Spelled
 name text = (Identifier, text)
 
 abbrev pub number : List ℕ → Spelled
 number text = (Number, text)
-
--- a punctuator that stands for itself
-abbrev pub mark : List ℕ → Spelled
-mark text = (Punctuator text, text)
 
 abbrev pub stray : ℕ → Spelled
 stray byte = (Stray, byte ∷ [])
@@ -95,7 +93,7 @@ pub record LogicalExamples : Type 0 where
 -- Single spellings
 
 -- outside of `#include` the spelling is of this kind
-abbrev pub IsOfKind : List ℕ → Kind → Type 0
+abbrev pub IsOfKind : List ℕ → TokenKind → Type 0
 IsOfKind text kind = kind_in false text ≡ Some kind
 
 abbrev pub IsNoToken : List ℕ → Type 0
@@ -162,25 +160,25 @@ pub record TextExamples : Type 0 where
   -- one token begins the line
   pub line_start :
       HasTokens (codes "#include <a>\n")
-      (first_token false (Punctuator (codes "#")) (codes "#") 1 1 ∷ next_token false Identifier (codes "include") 1 2
+      (first_token false Hash (codes "#") 1 1 ∷ next_token false Identifier (codes "include") 1 2
       ∷ next_token true HeaderName (codes "<a>") 1 10 ∷ [])
   -- a word goes on over a splice
   pub spliced :
       HasTokens (codes "in\\\nt x\\\n;")
       (first_token false Identifier (codes "int") 1 1 ∷ next_token true Identifier (codes "x") 2 3
-      ∷ next_token false (Punctuator (codes ";")) (codes ";") 3 1 ∷ [])
+      ∷ next_token false Semicolon (codes ";") 3 1 ∷ [])
   pub last_backslash : IsSpelled (codes "a\\") (name (codes "a") ∷ stray 92 ∷ [])
-  pub longest : IsSpelled (codes "a+++b") (name (codes "a") ∷ mark (codes "++") ∷ mark (codes "+") ∷ name (codes "b") ∷ [])
-  pub dots : IsSpelled (codes "..5....") (mark (codes ".") ∷ number (codes ".5....") ∷ [])
-      × IsSpelled (codes "....x") (mark (codes "...") ∷ mark (codes ".") ∷ name (codes "x") ∷ [])
-  pub one_number : IsSpelled (codes "1u\\u00e9;") (number (codes "1u\\u00e9") ∷ mark (codes ";") ∷ [])
+  pub longest : IsSpelled (codes "a+++b") (name (codes "a") ∷ (PlusPlus, codes "++") ∷ (Plus, codes "+") ∷ name (codes "b") ∷ [])
+  pub dots : IsSpelled (codes "..5....") ((Dot, codes ".") ∷ number (codes ".5....") ∷ [])
+      × IsSpelled (codes "....x") ((Ellipsis, codes "...") ∷ (Dot, codes ".") ∷ name (codes "x") ∷ [])
+  pub one_number : IsSpelled (codes "1u\\u00e9;") (number (codes "1u\\u00e9") ∷ (Semicolon, codes ";") ∷ [])
   pub sign_behind_universal :
-      IsSpelled (codes "1\\u000e+5") (number (codes "1\\u000e") ∷ mark (codes "+") ∷ number (codes "5") ∷ [])
+      IsSpelled (codes "1\\u000e+5") (number (codes "1\\u000e") ∷ (Plus, codes "+") ∷ number (codes "5") ∷ [])
   pub short_universal :
-      IsSpelled (codes "a\\u00e;") (name (codes "a") ∷ stray 92 ∷ name (codes "u00e") ∷ mark (codes ";") ∷ [])
+      IsSpelled (codes "a\\u00e;") (name (codes "a") ∷ stray 92 ∷ name (codes "u00e") ∷ (Semicolon, codes ";") ∷ [])
   pub carriage_return :
       HasTokens (codes "x;\r\n")
-      (first_token false Identifier (codes "x") 1 1 ∷ next_token false (Punctuator (codes ";")) (codes ";") 1 2
+      (first_token false Identifier (codes "x") 1 1 ∷ next_token false Semicolon (codes ";") 1 2
       ∷ next_token false Stray (codes "\r") 1 3 ∷ [])
   pub prefixes :
       IsSpelled (codes "L'a'u8\"b\"u8'c'L d")
@@ -189,38 +187,38 @@ pub record TextExamples : Type 0 where
   -- a digraph keeps its spelling
   pub digraph :
       HasTokens (codes "a<::><%%>%:%:%:")
-      (first_token false Identifier (codes "a") 1 1 ∷ next_token false (Punctuator (codes "[")) (codes "<:") 1 2
-      ∷ next_token false (Punctuator (codes "]")) (codes ":>") 1 4
-      ∷ next_token false (Punctuator (codes "{")) (codes "<%") 1 6
-      ∷ next_token false (Punctuator (codes "}")) (codes "%>") 1 8
-      ∷ next_token false (Punctuator (codes "##")) (codes "%:%:") 1 10
-      ∷ next_token false (Punctuator (codes "#")) (codes "%:") 1 14 ∷ [])
+      (first_token false Identifier (codes "a") 1 1 ∷ next_token false LeftBracket (codes "<:") 1 2
+      ∷ next_token false RightBracket (codes ":>") 1 4
+      ∷ next_token false LeftBrace (codes "<%") 1 6
+      ∷ next_token false RightBrace (codes "%>") 1 8
+      ∷ next_token false HashHash (codes "%:%:") 1 10
+      ∷ next_token false Hash (codes "%:") 1 14 ∷ [])
   -- but the grammar sees what it stands for
   pub terminals :
       HasTerminals (codes "#include <a>\na<:'b'%>1\"c\" $")
       (codes "#" ∷ codes "include" ∷ codes "<a>" ∷ codes "a" ∷ codes "[" ∷ codes "'b'" ∷ codes "}" ∷ codes "1" ∷ codes "\"c\"" ∷ codes "$" ∷ [])
   pub comments :
       IsSpelled (codes "a/**/b/***/c/*/*/d") (name (codes "a") ∷ name (codes "b") ∷ name (codes "c") ∷ name (codes "d") ∷ [])
-  pub no_comment : IsSpelled (codes "\"/*\"a/ /b") ((String, codes "\"/*\"") ∷ name (codes "a") ∷ mark (codes "/") ∷ mark (codes "/") ∷ name (codes "b") ∷ [])
+  pub no_comment : IsSpelled (codes "\"/*\"a/ /b") ((String, codes "\"/*\"") ∷ name (codes "a") ∷ (Slash, codes "/") ∷ (Slash, codes "/") ∷ name (codes "b") ∷ [])
   -- directly behind `#include`
   pub included :
-      IsSpelled (codes "#include <a//b>\n") (mark (codes "#") ∷ name (codes "include") ∷ (HeaderName, codes "<a//b>") ∷ [])
+      IsSpelled (codes "#include <a//b>\n") ((Hash, codes "#") ∷ name (codes "include") ∷ (HeaderName, codes "<a//b>") ∷ [])
       × IsSpelled (codes " %:/**/include/**/<it's>\n")
-      ((Punctuator (codes "#"), codes "%:") ∷ name (codes "include") ∷ (HeaderName, codes "<it's>") ∷ [])
+      ((Hash, codes "%:") ∷ name (codes "include") ∷ (HeaderName, codes "<it's>") ∷ [])
   -- the longer of a header name and a string literal
   pub included_string :
-      IsSpelled (codes "#include \"a\\\"b\"") (mark (codes "#") ∷ name (codes "include") ∷ (String, codes "\"a\\\"b\"") ∷ [])
-      × IsSpelled (codes "#include \"a\\\"\n") (mark (codes "#") ∷ name (codes "include") ∷ (HeaderName, codes "\"a\\\"") ∷ [])
-      × IsSpelled (codes "#include \"\"") (mark (codes "#") ∷ name (codes "include") ∷ (String, codes "\"\"") ∷ [])
+      IsSpelled (codes "#include \"a\\\"b\"") ((Hash, codes "#") ∷ name (codes "include") ∷ (String, codes "\"a\\\"b\"") ∷ [])
+      × IsSpelled (codes "#include \"a\\\"\n") ((Hash, codes "#") ∷ name (codes "include") ∷ (HeaderName, codes "\"a\\\"") ∷ [])
+      × IsSpelled (codes "#include \"\"") ((Hash, codes "#") ∷ name (codes "include") ∷ (String, codes "\"\"") ∷ [])
   -- and nowhere else
   pub not_included :
-      IsSpelled (codes "#include E <a>") (mark (codes "#") ∷ name (codes "include") ∷ name (codes "E") ∷ mark (codes "<") ∷ name (codes "a") ∷ mark (codes ">") ∷ [])
-      × IsSpelled (codes "a #include<b>") (name (codes "a") ∷ mark (codes "#") ∷ name (codes "include") ∷ mark (codes "<") ∷ name (codes "b") ∷ mark (codes ">") ∷ [])
-      × IsSpelled (codes "#\ninclude<b>") (mark (codes "#") ∷ name (codes "include") ∷ mark (codes "<") ∷ name (codes "b") ∷ mark (codes ">") ∷ [])
-      × IsSpelled (codes "#include\n<b>") (mark (codes "#") ∷ name (codes "include") ∷ mark (codes "<") ∷ name (codes "b") ∷ mark (codes ">") ∷ [])
-      × IsSpelled (codes "#x <b>") (mark (codes "#") ∷ name (codes "x") ∷ mark (codes "<") ∷ name (codes "b") ∷ mark (codes ">") ∷ [])
-      × IsSpelled (codes "##include<b>") (mark (codes "##") ∷ name (codes "include") ∷ mark (codes "<") ∷ name (codes "b") ∷ mark (codes ">") ∷ [])
-      × IsSpelled (codes "include<b>") (name (codes "include") ∷ mark (codes "<") ∷ name (codes "b") ∷ mark (codes ">") ∷ [])
+      IsSpelled (codes "#include E <a>") ((Hash, codes "#") ∷ name (codes "include") ∷ name (codes "E") ∷ (Less, codes "<") ∷ name (codes "a") ∷ (Greater, codes ">") ∷ [])
+      × IsSpelled (codes "a #include<b>") (name (codes "a") ∷ (Hash, codes "#") ∷ name (codes "include") ∷ (Less, codes "<") ∷ name (codes "b") ∷ (Greater, codes ">") ∷ [])
+      × IsSpelled (codes "#\ninclude<b>") ((Hash, codes "#") ∷ name (codes "include") ∷ (Less, codes "<") ∷ name (codes "b") ∷ (Greater, codes ">") ∷ [])
+      × IsSpelled (codes "#include\n<b>") ((Hash, codes "#") ∷ name (codes "include") ∷ (Less, codes "<") ∷ name (codes "b") ∷ (Greater, codes ">") ∷ [])
+      × IsSpelled (codes "#x <b>") ((Hash, codes "#") ∷ name (codes "x") ∷ (Less, codes "<") ∷ name (codes "b") ∷ (Greater, codes ">") ∷ [])
+      × IsSpelled (codes "##include<b>") ((HashHash, codes "##") ∷ name (codes "include") ∷ (Less, codes "<") ∷ name (codes "b") ∷ (Greater, codes ">") ∷ [])
+      × IsSpelled (codes "include<b>") (name (codes "include") ∷ (Less, codes "<") ∷ name (codes "b") ∷ (Greater, codes ">") ∷ [])
 
 pub record FaultExamples : Type 0 where
   pub comment : HasFault (codes "a /*b") (OpenComment (at_place 1 3)) × HasFault (codes "/*/") (OpenComment (at_place 1 1))
@@ -241,22 +239,29 @@ each_once (spelling ∷ others) = not (list_any (bytes_eq spelling) others) && e
 abbrev pub row_spellings : List (List ℕ)
 row_spellings = map (λ (row : PunctuatorRow). row.spelling) punctuators
 
+-- this spelling, if there is one, is that of the kind
+abbrev pub IsFoundAs : TokenKind → Option (List ℕ) → Type 0
+IsFoundAs kind None = ⊤
+IsFoundAs kind (Some spelling) = punctuator_of spelling ≡ Some kind
+
 pub record TableFacts : Type 0 where
   pub count : (length plain_punctuators ≡ 48) × (length digraphs ≡ 6) × (length punctuators ≡ 54)
   -- as 6.4.6 p1 lists them
   pub listed :
       IsSpelled
       (codes "[ ] ( ) { } . -> ++ -- & * + - ~ ! / % << >> < > <= >= == != ^ | && || ? : ; ... = *= /= %= += -= <<= >>= &= ^= |= , # ##")
-      (map mark plain_punctuators)
+      (map (λ (row : PunctuatorRow). (row.kind, row.spelling)) plain_punctuators)
   pub once : each_once row_spellings ≡ true
   pub short : list_all (λ spelling. nat_le (length spelling) 4) row_spellings ≡ true
-  -- what a row stands for is a punctuator that stands for itself
-  pub targets : list_all (λ (row : PunctuatorRow). list_any (bytes_eq row.stands_for) plain_punctuators) punctuators ≡ true
+  -- a kind has one spelling of its own or none, by which it stands in the table
+  pub own_spellings : (kind : TokenKind) → IsFoundAs kind (own_spelling kind)
+  -- what a digraph stands for is a punctuator with a spelling of its own
+  pub targets : list_all (λ (row : PunctuatorRow). is_some (own_spelling row.kind)) digraphs ≡ true
   -- each spelling is that punctuator, of no other kind, also where header names are allowed
   pub kinds :
-      (map (kind_in false) row_spellings ≡ map (λ (row : PunctuatorRow). Some (Punctuator row.stands_for)) punctuators)
-      × (map (kind_in true) row_spellings ≡ map (λ (row : PunctuatorRow). Some (Punctuator row.stands_for)) punctuators)
+      (map (kind_in false) row_spellings ≡ map (λ (row : PunctuatorRow). Some row.kind) punctuators)
+      × (map (kind_in true) row_spellings ≡ map (λ (row : PunctuatorRow). Some row.kind) punctuators)
   -- and the function finds it
   pub fronts :
       map (λ spelling. front_of false (spelling ++ space ∷ [])) row_spellings
-      ≡ map (λ (row : PunctuatorRow). AtToken (Punctuator row.stands_for) (length row.spelling)) punctuators
+      ≡ map (λ (row : PunctuatorRow). AtToken row.kind (length row.spelling)) punctuators

@@ -6,7 +6,9 @@ use Rattle.meaning_text.specs.Words.{word_goes_on, begins_identifier, begins_num
 use Rattle.meaning_text.specs.Quoted.{character_prefix, string_prefix}
 use Rattle.meaning_text.specs.Comments.{begins_block_comment, begins_line_comment}
 use Rattle.meaning_text.specs.Punctuators.{punctuator_of}
-use Rattle.meaning_text.specs.Kinds.{Kind, Identifier, Number, Character, String, HeaderName, Punctuator, Stray, is_stray_byte}
+use Rattle.vocabulary.specs.declared.token_kind.TokenKind.{TokenKind}
+use Rattle.vocabulary.specs.declared.token_kind.TokenKind.TheVariants.{Identifier, Number, Character, String, HeaderName, Stray}
+use Rattle.meaning_text.specs.Kinds.{is_stray_byte}
 
 pub data Front : Type 0 where
   AtEnd : Front
@@ -15,7 +17,7 @@ pub data Front : Type 0 where
   -- a comment of so many bytes
   AtComment : ℕ → Front
   -- a token of this kind and of so many bytes
-  AtToken : Kind → ℕ → Front
+  AtToken : TokenKind → ℕ → Front
   AtOpenComment : Front
   AtOpenLiteral : Front
 
@@ -96,17 +98,17 @@ block_front (Some count) = AtComment (2 + count)
 -- What token begins here, and how long it is
 
 abbrev pub Found : Type 0
-Found = Option (Kind × ℕ)
+Found = Option (TokenKind × ℕ)
 
 -- the second where the first finds nothing
 abbrev pub or_else : Found → Found → Found
 or_else None other = other
 or_else (Some found) other = Some found
 
-abbrev pub found_where : Bool → Kind → ℕ → Found
+abbrev pub found_where : Bool → TokenKind → ℕ → Found
 found_where holds kind count = if holds then Some (kind, count) else None
 
-abbrev pub found_of : Kind → Option ℕ → Found
+abbrev pub found_of : TokenKind → Option ℕ → Found
 found_of kind None = None
 found_of kind (Some count) = Some (kind, count)
 
@@ -120,9 +122,9 @@ abbrev pub found_header_name : Bool → List ℕ → Found
 found_header_name false text = None
 found_header_name true text = header_name_over (header_name_length text) (string_length text)
 
-abbrev pub found_spelling : Option (List ℕ) → List ℕ → Found
+abbrev pub found_spelling : Option TokenKind → List ℕ → Found
 found_spelling None spelling = None
-found_spelling (Some stands_for) spelling = Some (Punctuator stands_for, length spelling)
+found_spelling (Some kind) spelling = Some (kind, length spelling)
 
 -- the punctuator that is spelled by the first bytes, so many of them
 abbrev pub found_punctuator_of : ℕ → List ℕ → Found

@@ -1,25 +1,11 @@
 -- Which spellings are tokens, and of which kind (C11 6.4 p1).
 use Rattle.std.specs.Prelude.{ℕ, Bool, false, not, ◌&&◌, ◌||◌, List, [], ◌∷◌, Option, Some, None, if◌then◌else◌}
+use Rattle.vocabulary.specs.declared.token_kind.TokenKind.{TokenKind}
+use Rattle.vocabulary.specs.declared.token_kind.TokenKind.TheVariants.{Identifier, Number, Character, String, HeaderName, Stray}
 use Rattle.meaning_text.specs.Bytes.{is_white, is_quotation_mark}
 use Rattle.meaning_text.specs.Words.{is_identifier, is_number}
 use Rattle.meaning_text.specs.Quoted.{is_character, is_string, is_header_name}
 use Rattle.meaning_text.specs.Punctuators.{punctuator_of}
-
-pub data Kind : Type 0 where
-  -- a name or a keyword (6.4.2.1, 6.4.1)
-  Identifier : Kind
-  -- a preprocessing number (6.4.8)
-  Number : Kind
-  -- a character constant (6.4.4.4)
-  Character : Kind
-  -- a string literal (6.4.5)
-  String : Kind
-  -- a header name, which exists directly behind `#include` alone (6.4.7)
-  HeaderName : Kind
-  -- a punctuator, told by the spelling of the one that it stands for (6.4.6)
-  Punctuator : (stands_for : List ℕ) → Kind
-  -- any other byte by itself (6.4 p1, the last alternative)
-  Stray : Kind
 
 -- A byte that is a token where no other token has it. A quotation mark alone is none, since its behaviour would be
 -- undefined (6.4 p3).
@@ -31,13 +17,13 @@ is_stray [] = false
 is_stray (b ∷ []) = is_stray_byte b
 is_stray (b ∷ c ∷ text) = false
 
-abbrev pub punctuator_or_stray : Option (List ℕ) → List ℕ → Option Kind
-punctuator_or_stray (Some stands_for) text = Some (Punctuator stands_for)
+abbrev pub punctuator_or_stray : Option TokenKind → List ℕ → Option TokenKind
+punctuator_or_stray (Some kind) text = Some kind
 punctuator_or_stray None text = if is_stray text then Some Stray else None
 
 -- The kind of a token that is spelled so, or none where no token is. Where header names are allowed, one goes before
 -- a string literal of the same spelling; no other spelling is of two kinds.
-unfoldable pub kind_in : (header_names_allowed : Bool) → List ℕ → Option Kind
+unfoldable pub kind_in : (header_names_allowed : Bool) → List ℕ → Option TokenKind
 kind_in allowed text =
     if allowed && is_header_name text then Some HeaderName
     else (if is_identifier text then Some Identifier

@@ -7,6 +7,10 @@ pub record At : Type 0 where
   pub line : ℕ
   pub column : ℕ
 
+-- the number of the checked file; number 0 is that of the file `<command>`
+abbrev pub main_file : ℕ
+main_file = 1
+
 -- where the text of this file begins
 abbrev pub start_of : ℕ → At
 start_of file = record { file = file; line = 1; column = 1 }

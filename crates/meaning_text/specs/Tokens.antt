@@ -6,10 +6,12 @@ use Rattle.meaning_text.specs.Bytes.{new_line, is_white, is_quotation_mark}
 use Rattle.meaning_text.specs.Places.{At}
 use Rattle.meaning_text.specs.Logical.{SourceByte, bytes_of, logical_text}
 use Rattle.meaning_text.specs.Comments.{begins_comment, begins_block_comment, is_block_comment, is_line_comment, is_line_end}
-use Rattle.meaning_text.specs.Kinds.{Kind, Identifier, Number, Character, String, HeaderName, Punctuator, Stray, kind_in}
+use Rattle.vocabulary.specs.declared.token_kind.TokenKind.{TokenKind}
+use Rattle.vocabulary.specs.declared.token_kind.TokenKind.TheVariants.{Hash}
+use Rattle.meaning_text.specs.Kinds.{kind_in}
 
 pub record Tok : Type 0 where
-  pub kind : Kind
+  pub kind : TokenKind
   -- its spelling, without the pairs of backslash and new-line that were in it
   pub text : List ℕ
   -- where its first byte stands
@@ -83,16 +85,11 @@ abbrev pub behind_gap : Context → Gap → Context
 behind_gap context gap = if list_any ends_line gap then AtLineStart else context
 
 -- `#`, also where it is spelled as a digraph
-abbrev pub is_hash : Kind → Bool
-is_hash Identifier = false
-is_hash Number = false
-is_hash Character = false
-is_hash String = false
-is_hash HeaderName = false
-is_hash (Punctuator stands_for) = bytes_eq stands_for (codes "#")
-is_hash Stray = false
+abbrev pub is_hash : TokenKind → Bool
+is_hash Hash = true
+is_hash kind = false
 
-abbrev pub behind_token : Context → Kind → List ℕ → Context
+abbrev pub behind_token : Context → TokenKind → List ℕ → Context
 behind_token AtLineStart kind text = if is_hash kind then BehindHash else Elsewhere
 behind_token BehindHash kind text = if bytes_eq text (codes "include") then BehindInclude else Elsewhere
 behind_token BehindInclude kind text = Elsewhere

@@ -1,4 +1,7 @@
 pub mod Types
+pub mod Ranges
+pub mod Equality
 pub mod Spaces
 pub mod Spelling
+pub mod Laws
 pub mod Examples

@@ -1,21 +1,23 @@
 -- How a type is spelled in a warning: from the inside out, parts parted by one space.
 use Rattle.std.specs.Prelude.{ℕ, List, [], ◌++◌, codes, if◌then◌else◌}
 use Rattle.std.specs.Fmt.{decimal}
-use Rattle.meaning_types.specs.Types.{Kind, BoolKind, CharKind, SignedCharKind, UnsignedCharKind, ShortKind, UnsignedShortKind, IntKind, UnsignedIntKind, LongKind, UnsignedLongKind, LongLongKind, UnsignedLongLongKind, Space, NoSpace, NumberedSpace, NamedSpace, Qualifiers, Flags, TypeTree, Typed, BaseTree, IntegerTree, PointerTree}
+use Rattle.vocabulary.specs.declared.int_kind.IntKind.{IntKind}
+use Rattle.vocabulary.specs.declared.int_kind.IntKind.TheVariants.{Bool, Char, SChar, UChar, Short, UShort, Int, UInt, Long, ULong, LLong, ULLong}
+use Rattle.meaning_types.specs.Types.{Space, NoSpace, NumberedSpace, NamedSpace, Qualifiers, Flags, TypeTree, Typed, BaseTree, IntegerTree, PointerTree}
 
-abbrev pub kind_spelling : Kind → List ℕ
-kind_spelling BoolKind = codes "_Bool"
-kind_spelling CharKind = codes "char"
-kind_spelling SignedCharKind = codes "signed char"
-kind_spelling UnsignedCharKind = codes "unsigned char"
-kind_spelling ShortKind = codes "short"
-kind_spelling UnsignedShortKind = codes "unsigned short"
-kind_spelling IntKind = codes "int"
-kind_spelling UnsignedIntKind = codes "unsigned int"
-kind_spelling LongKind = codes "long"
-kind_spelling UnsignedLongKind = codes "unsigned long"
-kind_spelling LongLongKind = codes "long long"
-kind_spelling UnsignedLongLongKind = codes "unsigned long long"
+abbrev pub kind_spelling : IntKind → List ℕ
+kind_spelling Bool = codes "_Bool"
+kind_spelling Char = codes "char"
+kind_spelling SChar = codes "signed char"
+kind_spelling UChar = codes "unsigned char"
+kind_spelling Short = codes "short"
+kind_spelling UShort = codes "unsigned short"
+kind_spelling Int = codes "int"
+kind_spelling UInt = codes "unsigned int"
+kind_spelling Long = codes "long"
+kind_spelling ULong = codes "unsigned long"
+kind_spelling LLong = codes "long long"
+kind_spelling ULLong = codes "unsigned long long"
 
 -- a space between the parentheses of `address_space()`
 abbrev pub space_spelling : Space → List ℕ

@@ -1,20 +1,6 @@
 -- Types as trees (C11 6.2.5), each level with its qualifiers and flags.
 use Rattle.std.specs.Prelude.{ℕ, Bool, false, ◌||◌, true, List}
-
--- the integer types (6.2.5 p2 to p7), plain char apart from both others
-pub data Kind : Type 0 where
-  BoolKind : Kind
-  CharKind : Kind
-  SignedCharKind : Kind
-  UnsignedCharKind : Kind
-  ShortKind : Kind
-  UnsignedShortKind : Kind
-  IntKind : Kind
-  UnsignedIntKind : Kind
-  LongKind : Kind
-  UnsignedLongKind : Kind
-  LongLongKind : Kind
-  UnsignedLongLongKind : Kind
+use Rattle.vocabulary.specs.declared.int_kind.IntKind.{IntKind}
 
 -- an address space: none, or one with a number or a name; space 0 is one like another
 pub data Space : Type 0 where
@@ -37,7 +23,7 @@ mutual
     Typed : BaseTree → Qualifiers → Flags → TypeTree
 
   pub data BaseTree : Type 0 where
-    IntegerTree : Kind → BaseTree
+    IntegerTree : IntKind → BaseTree
     PointerTree : TypeTree → BaseTree
 
 abbrev pub no_qualifiers : Qualifiers

@@ -6,4 +6,4 @@
 
 mod types;
 
-pub use types::worked_examples;
+pub use types::{equality_is_decided, worked_examples};

@@ -1,9 +1,19 @@
-ghost use Rattle.meaning_types.specs.Examples.{SpellingExamples, LevelExamples, MixedExamples, UnmixedExamples};
+ghost use Rattle.meaning_types.specs.Laws.{EqualKindsPass, EqualFlagsPass, SimilarTypesPass};
+ghost use Rattle.meaning_types.specs.Examples.{RangeExamples, SpellingExamples, LevelExamples, MixedExamples, UnmixedExamples};
 
-/// Single types are spelled, lose their qualifiers and flags, and mix spaces as one can tell by eye.
+/// Kinds have the ranges of their widths, and single types are spelled, lose their qualifiers and
+/// flags, and mix spaces as one can tell by eye.
 pub fn worked_examples()
+    ensures ranges { RangeExamples }
     ensures spellings { SpellingExamples }
     ensures levels { LevelExamples }
     ensures mixed { MixedExamples }
     ensures unmixed { UnmixedExamples }
+{}
+
+/// The tests of equality pass for equal kinds, flags and types, and for no others.
+pub fn equality_is_decided()
+    ensures kinds { EqualKindsPass }
+    ensures flags { EqualFlagsPass }
+    ensures similar { SimilarTypesPass }
 {}

@@ -7,7 +7,7 @@ use Rattle.meaning_text.specs.Lexing.{lexed_behind}
 use Rattle.c_tokens.specs.declared.token.Token.{Token}
 use Rattle.c_tokens.specs.Context.{context_of}
 use Rattle.c_tokens.specs.Cursor.{remaining, ahead}
-use Rattle.c_tokens.specs.Seen.{IsKnown, at_of, kind_of, spellings_of, toks_of}
+use Rattle.c_tokens.specs.Seen.{IsKnown, at_of, spellings_of, toks_of}
 use Rattle.c_tokens.specs.Spellings.{with_spelling, with_spellings}
 use Rattle.c_tokens.proofs.TableLemmas.{with_spellings-push}
 use Rattle.c_tokens.proofs.SeenLemmas.{Extends-Extends, toks_of-push, AreKnown-push}
@@ -63,7 +63,7 @@ fronts-smaller-in-Comment c =
 
 pub fronts-smaller : goal.fronts-smaller
 fronts-smaller c =
-    front-shorter c.allows_header_name.result (remaining c.fronts.cursor) (remaining c.in_ok-behind.behind) (AtToken (kind_of c.in-Token.kind) c.in-Token.count) c.in-Token.ensures refl c.in_ok-behind.ensures.behind
+    front-shorter c.allows_header_name.result (remaining c.fronts.cursor) (remaining c.in_ok-behind.behind) (AtToken c.in-Token.kind c.in-Token.count) c.in-Token.ensures refl c.in_ok-behind.ensures.behind
 
 pub fronts-preserved-in-Comment : goal.fronts-preserved-in-Comment
 fronts-preserved-in-Comment c =
@@ -89,7 +89,7 @@ fronts-preserved c =
     let found = toks_of old c.fronts.tokens.items in
     let context = context_of c.fronts.context in
     let cursor = c.fronts.cursor in
-    let kind = kind_of c.in-Token.kind in
+    let kind = c.in-Token.kind in
     let count = c.in-Token.count in
     let named = c.in_ok-name.ensures in
     let pushed = c.in_ok-push.ensures.items in

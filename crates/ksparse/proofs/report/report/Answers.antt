@@ -2,7 +2,7 @@ use Rattle.std.proofs.Common.{IfSome, subst}
 use Rattle.std.proofs.lemmas.Result.{IfOk-weaker}
 use Rattle.meaning_text.specs.Tokens.{OpensFile}
 use Rattle.meaning_text.specs.Tokens as tokens
-use Rattle.meaning_rules.specs.Text.{main_file}
+use Rattle.meaning_text.specs.Places.{main_file}
 use Rattle.c_tokens.specs.Seen.{at_of, fault_of}
 use Rattle.ksparse.specs.Written.{reply_of}
 use Rattle.ksparse.specs.declared.reply.Written.{Written}

@@ -17,9 +17,6 @@ one_stays block later made dead zero one there =
     (later, refl, made ∙ ap (λ b. b.made) (same_Some _ _ there), λ is. dead (ap (λ b. b.is_alive) (same_Some _ _ there) ∙ is))
 one_stays block later made dead (suc number) one there = absurd (none-some _ there)
 
-pub returns-clause-ranges : goal.returns-clause-ranges
-returns-clause-ranges c = record { least_signed = refl; greatest_signed = refl; least_unsigned = refl; greatest_unsigned = refl }
-
 pub returns-clause-conversions : goal.returns-clause-conversions
 returns-clause-conversions c = record {
   zero_signed = refl;

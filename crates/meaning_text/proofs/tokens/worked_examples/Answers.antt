@@ -1,8 +1,11 @@
 -- Each example computes.
 use Rattle.std.proofs.Common.{ℕ, refl}
-use Rattle.meaning_text.specs.Punctuators.{plain_punctuators, digraphs, punctuators, punctuator_of}
+use Rattle.vocabulary.specs.declared.token_kind.TokenKind.{TokenKind}
+use Rattle.vocabulary.specs.declared.token_kind.TokenKind.TheVariants.{Identifier, Number, Character, String, HeaderName, Stray}
+use Rattle.meaning_text.specs.Punctuators.{own_spelling, plain_punctuators, digraphs, punctuators, punctuator_of}
 use Rattle.meaning_text.specs.Kinds.{kind_in}
 use Rattle.meaning_text.specs.Fronts.{front_of}
+use Rattle.meaning_text.specs.Examples.{IsFoundAs}
 use Rattle.meaning_text.proofs.tokens.worked_examples.Goals as goal
 
 -- names what an example opens
@@ -70,6 +73,16 @@ returns-clause-faults c = record {
   spliced = refl;
 }
 
+own_spelling-IsFoundAs : (kind : TokenKind) → IsFoundAs kind (own_spelling kind)
+unfolding opened
+own_spelling-IsFoundAs Identifier = tt
+own_spelling-IsFoundAs Number = tt
+own_spelling-IsFoundAs Character = tt
+own_spelling-IsFoundAs String = tt
+own_spelling-IsFoundAs HeaderName = tt
+own_spelling-IsFoundAs Stray = tt
+own_spelling-IsFoundAs punctuator = refl
+
 pub returns-clause-table : goal.returns-clause-table
 unfolding opened
 returns-clause-table c = record {
@@ -77,6 +90,7 @@ returns-clause-table c = record {
   listed = refl;
   once = refl;
   short = refl;
+  own_spellings = own_spelling-IsFoundAs;
   targets = refl;
   kinds = (refl, refl);
   fronts = refl;

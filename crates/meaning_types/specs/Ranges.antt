@@ -1,0 +1,36 @@
+-- Which numbers the integer types hold (C11 5.2.4.2.1, 6.2.6.2): our choice of LP64, with a signed char.
+use Rattle.std.specs.Prelude.{ℕ, ℤ, pos, negsuc}
+use Rattle.vocabulary.specs.declared.int_kind.IntKind.{IntKind}
+use Rattle.vocabulary.specs.declared.int_kind.IntKind.TheVariants.{Bool, Char, SChar, UChar, Short, UShort, Int, UInt, Long, ULong, LLong, ULLong}
+
+-- how many bits tell a number from others, a sign among them (6.2.6.2 p6), and the numbers at both ends
+pub record RangeRow : Type 0 where
+  pub width : ℕ
+  pub least : ℤ
+  pub greatest : ℤ
+
+abbrev pub range_row : (width : ℕ) → (least greatest : ℤ) → RangeRow
+range_row width least greatest = record { width = width; least = least; greatest = greatest }
+
+abbrev pub range_of : IntKind → RangeRow
+range_of Bool = range_row 1 (pos 0) (pos 1)
+range_of Char = range_row 8 (negsuc 127) (pos 127)
+range_of SChar = range_row 8 (negsuc 127) (pos 127)
+range_of UChar = range_row 8 (pos 0) (pos 255)
+range_of Short = range_row 16 (negsuc 32767) (pos 32767)
+range_of UShort = range_row 16 (pos 0) (pos 65535)
+range_of Int = range_row 32 (negsuc 2147483647) (pos 2147483647)
+range_of UInt = range_row 32 (pos 0) (pos 4294967295)
+range_of Long = range_row 64 (negsuc 9223372036854775807) (pos 9223372036854775807)
+range_of ULong = range_row 64 (pos 0) (pos 18446744073709551615)
+range_of LLong = range_row 64 (negsuc 9223372036854775807) (pos 9223372036854775807)
+range_of ULLong = range_row 64 (pos 0) (pos 18446744073709551615)
+
+abbrev pub width : IntKind → ℕ
+width kind = (range_of kind).width
+
+abbrev pub least : IntKind → ℤ
+least kind = (range_of kind).least
+
+abbrev pub greatest : IntKind → ℤ
+greatest kind = (range_of kind).greatest

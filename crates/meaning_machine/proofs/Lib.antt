@@ -1,3 +1,4 @@
+pub mod Conversion
 pub mod Similar
 pub mod Storage
 pub mod Places
@@ -5,5 +6,8 @@ pub mod WellTyped
 pub mod Steps
 pub mod Worlds
 pub mod Lasting
+pub mod Possible
 pub mod Playing
+pub mod Worked
 pub mod Replaying
+pub mod Adopting

@@ -1,5 +1,5 @@
--- An activity whose pending values and places have their types takes no step that is a fault, and they have them
--- behind each step.
+-- An activity whose values and places fit what the rest of its work takes meets no fault in its next step, and they
+-- fit behind it.
 use Rattle.std.proofs.Common.{◌≡◌, ℕ, List, [], ◌∷◌, All, Option, Some, ap, ◌∙◌, subst}
 use Rattle.std.proofs.lemmas.List.Elements.{All-head, All-tail}
 use Rattle.meaning_types.specs.Types.{TypeTree, Typed, IntegerTree, PointerTree, has_flag, value_type}

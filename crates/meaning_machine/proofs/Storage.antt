@@ -3,19 +3,22 @@ use Rattle.std.proofs.Common.{◌≡◌, ℕ, zero, suc, ◌⊎◌, inl, inr, �
 use Rattle.std.proofs.Math.Seq.{map-set_same}
 use Rattle.std.proofs.lemmas.Option.{get_or_from_slice_get}
 use Rattle.meaning_types.specs.Types.{TypeTree, Typed, IntegerTree, PointerTree, has_flag, bare}
-use Rattle.meaning_types.proofs.Equality.{are_equal_kinds-Decides, are_similar-Decides}
+use Rattle.meaning_types.proofs.Equality.{are_similar-Decides}
 use Rattle.meaning_rules.specs.Bindings.{Binding}
-use Rattle.meaning_machine.specs.Values.{Spot, Null, Foreign, In, Value, Integer, Pointer, Place, ForObject, Cell, Block, SpotFits, Fits}
+use Rattle.meaning_machine.specs.Values.{Spot, Null, Foreign, In, Value, Integer, Pointer, Place, ForObject, Cell, Block, IsInRange, SpotFits, Fits}
 use Rattle.meaning_machine.specs.Outcomes.{DeadBlock, OutOfBounds, ReadOnly, AccessFault, Answer, Gives, IsFault, IsUndefined}
 use Rattle.meaning_machine.specs.Memory.{adopt, content_at, with_content, block_with, is_made_for, is_read_only, value_of_content, load_block, load_spot, load, store_block, store}
 use Rattle.meaning_machine.specs.Soundness.{IsUnflagged, Agree, first_blocks, PlaceFits, ValueFitsIn, CellsFit, AreSoundBlocks}
+use Rattle.meaning_machine.proofs.Conversion.{converted_is_kept}
 use Rattle.meaning_machine.proofs.Similar.{flags-bare, agree-bare, fits-agreeing, slice_get-mapped}
 
 -- Adopting
 
 -- a value is adopted as it is to a type that it fits
 adopted-fitting : (blocks : List Block) (value : Value) (wanted : TypeTree) → Fits blocks value wanted → adopt value wanted ≡ Gives value
-adopted-fitting blocks (Integer kind None false number) (Typed (IntegerTree wanted) qualifiers flags) fits = rw ((are_equal_kinds-Decides kind wanted).1 fits.0) refl
+adopted-fitting blocks (Integer kind None false number) (Typed (IntegerTree wanted) qualifiers flags) (equal, plain, clean, within) =
+    ap (λ n. Gives (Integer wanted None false n)) (converted_is_kept wanted number (subst (λ k. IsInRange k number) equal within))
+    ∙ ap (λ k. Gives (Integer k None false number)) (sym equal)
 adopted-fitting blocks (Integer kind None true number) (Typed (IntegerTree wanted) qualifiers flags) (equal, plain, clean, within) = cc clean
 adopted-fitting blocks (Integer kind (Some identity) fouled number) (Typed (IntegerTree wanted) qualifiers flags) (equal, plain, clean, within) = cc plain
 adopted-fitting blocks (Integer kind restricted fouled number) (Typed (PointerTree wanted) qualifiers flags) fits = absurd fits

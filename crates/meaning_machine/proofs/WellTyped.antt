@@ -123,7 +123,7 @@ object_of-Extends before more name declared e =
     type_in-append (map item_binding before) more name (declared_type declared) (type_in-items before name ∙ ap (option_map declared_type) e)
 
 -- the names that items declare, by their trees
-bindings_among-items : (first : ℕ) (items : List Item) → bindings_among (parts_of Evaluated (item_trees first items)) ≡ map item_binding items
+pub bindings_among-items : (first : ℕ) (items : List Item) → bindings_among (parts_of Evaluated (item_trees first items)) ≡ map item_binding items
 bindings_among-items first [] = refl
 bindings_among-items first (item ∷ items) =
     rw (bindings_of-item_tree first item) (ap (λ others. item_binding item ∷ others) (bindings_among-items (first + length (item_spelled item)) items))

@@ -1,32 +1,26 @@
 -- Every world that a run of a unit without failures reaches is sound.
-use Rattle.std.proofs.Common.{◌≡◌, ◌≢◌, ℕ, zero, suc, Bool, true, false, pos, List, [], ◌∷◌, All, Option, Some, None, slice_get, if◌then◌else◌, refl, subst, arith}
+use Rattle.std.proofs.Common.{◌≡◌, ◌≢◌, ℕ, zero, suc, Bool, true, false, List, [], ◌∷◌, All, Option, Some, None, slice_get, if◌then◌else◌, refl, subst}
 use Rattle.std.specs.Str.{bytes_eq}
 use Rattle.std.proofs.lemmas.List.Elements.{All-append, All-cons, All-nil, All-get_or, All-set}
 use Rattle.std.proofs.lemmas.Option.{get_or_from_slice_get, slice_get_within}
-use Rattle.vocabulary.specs.declared.int_kind.IntKind.{IntKind}
-use Rattle.vocabulary.specs.declared.int_kind.IntKind.TheVariants as kinds
 use Rattle.meaning_types.specs.Types.{TypeTree, Typed, IntegerTree, PointerTree}
 use Rattle.meaning_tree.specs.Trees.{SyntaxTree, external_parts}
 use Rattle.meaning_syntax.specs.Trees.{IsInFirstForm}
 use Rattle.meaning_rules.specs.Bindings.{Binding}
 use Rattle.meaning_rules.specs.Failures.{IsListing}
-use Rattle.meaning_machine.specs.Values.{Value, Block, IsInRange}
+use Rattle.meaning_machine.specs.Values.{Value, Block}
 use Rattle.meaning_machine.specs.Outcomes.{FaultKind}
 use Rattle.meaning_machine.specs.Code.{ValueCode}
 use Rattle.meaning_machine.specs.Machine.{Control, EnterBody, Finished, Outcome, Next, Done, Undefined, Fault, step}
 use Rattle.meaning_machine.specs.Runs.{World, opening, opening_value, opening_block, Move, Start, Step, Write, body_at, bindings_in, Starts, Takes, Moves, Runs, IsSafe}
 use Rattle.meaning_machine.specs.Soundness.{ValueFitsIn, IsSoundControl, CellsFit, IsStatement, IsSoundOutcome, IsSoundWorld, first_blocks}
+use Rattle.meaning_machine.proofs.Conversion.{zero-in_range}
 use Rattle.meaning_machine.proofs.Similar.{fits-made}
 use Rattle.meaning_machine.proofs.Storage.{sound-write}
 use Rattle.meaning_machine.proofs.Steps.{step_is_sound}
 use Rattle.meaning_machine.proofs.WellTyped.{are_statements}
 
 -- The opening world
-
--- zero is a number of each kind
-zero-in_range : (kind : IntKind) → IsInRange kind (pos 0)
-zero-in_range kinds.Bool = grind arith
-zero-in_range other = grind arith
 
 -- zero and null fit
 opening_value-fits : (scope : List Binding) (type_ : TypeTree) → ValueFitsIn scope (opening_value type_) type_

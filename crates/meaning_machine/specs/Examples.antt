@@ -11,8 +11,7 @@ use Rattle.meaning_syntax.specs.Trees.{unit_tree, plain_node, leaf, one_part, na
 use Rattle.meaning_rules.specs.Bindings.{Binding, pointer_to}
 use Rattle.meaning_rules.specs.Typing.{int_with}
 use Rattle.meaning_rules.specs.Evaluation.{InAssignment}
-use Rattle.meaning_rules.specs.Failures.{Failure, SpacesMixed, FlaggedAccess}
-use Rattle.meaning_rules.specs.Judging.{failures_of}
+use Rattle.meaning_rules.specs.Failures.{Failure, SpacesMixed, FlaggedAccess, IsListing}
 use Rattle.meaning_rules.specs.Examples.{user_flags, user_words, noderef_flags, function_of}
 use Rattle.meaning_machine.specs.Values.{Spot, Null, Foreign, In, Value, Integer, Pointer, ForObject, Block}
 use Rattle.meaning_machine.specs.Outcomes.{NullPointer, ForeignPointer, IndeterminateValue, AccessFault, SpaceFault, ShapeFault, Gives, IsUndefined}
@@ -27,7 +26,7 @@ use Rattle.meaning_machine.specs.Played.{onto, outcome_of}
 pub record Meets (items : List Item) (failures : List Failure) (moves : List Move) (activity : ℕ) (outcome : Outcome) : Type 0 where
   pub fit : list_all item_fits items ≡ true
   pub bound : are_bound [] items ≡ true
-  pub listed : failures_of items ≡ failures
+  pub listed : IsListing (unit_tree items) failures
   pub world : World
   pub runs : Runs (unit_tree items) (onto moves []) world
   pub met : outcome_of (unit_tree items) world activity ≡ Some outcome
@@ -37,7 +36,7 @@ pub record Meets (items : List Item) (failures : List Failure) (moves : List Mov
 pub record Ends (items : List Item) (moves : List Move) (activities : List Control) (block : ℕ) (type_ : TypeTree) (value : Value) : Type 0 where
   pub fit : list_all item_fits items ≡ true
   pub bound : are_bound [] items ≡ true
-  pub silent : failures_of items ≡ []
+  pub silent : IsListing (unit_tree items) []
   pub world : World
   pub runs : Runs (unit_tree items) (onto moves []) world
   pub ended : world.activities ≡ activities
@@ -61,9 +60,13 @@ int_of number = Integer Int None false (pos number)
 abbrev pub object_spot : ℕ → Spot
 object_spot block = In block [] 0 1
 
--- so many steps of the first activity
+-- so many steps of one activity
+abbrev pub steps_of : ℕ → ℕ → List Move
+steps_of activity count = replicate count (Step activity)
+
+-- and of the first
 abbrev pub steps : ℕ → List Move
-steps count = replicate count (Step 0)
+steps count = steps_of 0 count
 
 -- so many steps of each of two activities, by turns
 abbrev pub turns : ℕ → List Move

@@ -1,5 +1,6 @@
 pub mod Values
 pub mod Outcomes
+pub mod Conversion
 pub mod Tests
 pub mod Memory
 pub mod Code
@@ -7,6 +8,7 @@ pub mod Machine
 pub mod Runs
 pub mod Played
 pub mod Examples
+pub mod ActivityExamples
 pub mod RowExamples
 pub mod StepExamples
 pub mod Laws

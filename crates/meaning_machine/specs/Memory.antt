@@ -3,28 +3,32 @@ use Rattle.std.specs.Prelude.{ℕ, Bool, false, ℤ, pos, List, [], ◌∷◌, O
 use Rattle.std.specs.Ordering.{int_eq}
 use Rattle.std.specs.Str.{bytes_eq}
 use Rattle.vocabulary.specs.declared.int_kind.IntKind.{IntKind}
+use Rattle.vocabulary.specs.declared.int_kind.IntKind.TheVariants as kinds
 use Rattle.meaning_types.specs.Types.{TypeTree, Typed, BaseTree, IntegerTree, PointerTree, flags_of, has_flag}
-use Rattle.meaning_types.specs.Equality.{are_equal_kinds, are_similar}
+use Rattle.meaning_types.specs.Equality.{are_similar}
 use Rattle.meaning_machine.specs.Values.{Spot, Null, Foreign, In, Value, Integer, Pointer, Place, Made, ForObject, ForFunction, Cell, Block}
-use Rattle.meaning_machine.specs.Outcomes.{NullPointer, DeadBlock, ForeignPointer, OutOfBounds, IndeterminateValue, ReadOnly, AccessFault, SpaceFault, ShapeFault, Answer, Gives, IsFault, IsUndefined}
+use Rattle.meaning_machine.specs.Conversion.{spot_truth, converted}
+use Rattle.meaning_machine.specs.Outcomes.{NullPointer, DeadBlock, ForeignPointer, OutOfBounds, IndeterminateValue, ReadOnly, AccessFault, SpaceFault, RestrictedFault, ShapeFault, Answer, Gives, IsFault, IsUndefined}
 use Rattle.meaning_machine.specs.Tests.{differ_in_flags_alone}
 
--- The one conversion: what a value becomes when it is stored to a place of this type (6.5.16.1, 6.3.2.3)
+-- The one conversion: what a value becomes when it is stored to a place of this type (6.3, 6.5.16.1)
 
--- a plain integer stays one of its kind; a plain 0 becomes a null pointer
+-- A plain integer becomes any integer type, and a plain 0 a null pointer (6.3.1.3, 6.3.2.3 p3). All integer types are
+-- plain, so a restricted number meets another identity in each.
 abbrev pub adopt_integer : IntKind → Option ℕ → Bool → ℤ → BaseTree → Answer Value
-adopt_integer kind None false number (IntegerTree wanted) =
-    if are_equal_kinds kind wanted then Gives (Integer kind None false number) else IsFault ShapeFault
+adopt_integer kind None false number (IntegerTree wanted) = Gives (Integer wanted None false (converted wanted number))
 adopt_integer kind None false number (PointerTree wanted) =
     if int_eq number (pos 0) then Gives (Pointer wanted Null) else IsFault ShapeFault
+adopt_integer kind (Some identity) fouled number (IntegerTree wanted) = IsFault RestrictedFault
 adopt_integer kind restricted fouled number base = IsFault ShapeFault
 
--- a pointer keeps its own target
+-- a pointer keeps its own target, and is 0 or 1 as a _Bool (6.3.1.2)
 abbrev pub adopt_pointer : TypeTree → Spot → BaseTree → Answer Value
 adopt_pointer target spot (PointerTree wanted) =
     if are_similar target wanted then Gives (Pointer target spot)
     else (if differ_in_flags_alone target wanted then IsFault SpaceFault
     else IsFault ShapeFault)
+adopt_pointer target spot (IntegerTree kinds.Bool) = Gives (Integer kinds.Bool None false (spot_truth spot))
 adopt_pointer target spot (IntegerTree kind) = IsFault ShapeFault
 
 abbrev pub adopt : Value → TypeTree → Answer Value

@@ -15,6 +15,8 @@ pub data FaultKind : Type 0 where
   AccessFault : FaultKind
   -- pointers whose targets differ in flags alone meet
   SpaceFault : FaultKind
+  -- a number with a restricted identity meets another identity, or a plain number
+  RestrictedFault : FaultKind
   -- a value of another type than the step needs, or a node that has no place or no row
   ShapeFault : FaultKind
 

@@ -1,18 +1,46 @@
--- Worked examples: what fits, single loads and stores, and blocks that outlast others.
-use Rattle.std.specs.Prelude.{◌≡◌, ℕ, Bool, true, false, ℤ, pos, negsuc, List, [], ◌∷◌, Some, None, codes}
-use Rattle.vocabulary.specs.declared.int_kind.IntKind.TheVariants.{Char, Int}
+-- Worked examples: conversions, what fits, single loads and stores, and blocks that outlast others.
+use Rattle.std.specs.Prelude.{◌≡◌, ℕ, ◌^◌, Bool, true, false, ℤ, pos, negsuc, List, [], ◌∷◌, Some, None, map, replicate, codes}
+use Rattle.vocabulary.specs.declared.int_kind.IntKind.TheVariants as kinds
 use Rattle.meaning_types.specs.Types.{NumberedSpace, Flags, TypeTree}
+use Rattle.meaning_types.specs.Ranges.{greatest}
+use Rattle.meaning_types.specs.Examples.{plain, signed_kinds, unsigned_kinds}
+use Rattle.meaning_tree.specs.Trees.{SyntaxTree}
 use Rattle.meaning_syntax.specs.Items.{Object}
 use Rattle.meaning_syntax.specs.Trees.{unit_tree}
 use Rattle.meaning_rules.specs.Bindings.{pointer_to}
 use Rattle.meaning_rules.specs.Typing.{int_with}
 use Rattle.meaning_rules.specs.Examples.{noderef_flags, function_of}
 use Rattle.meaning_machine.specs.Values.{Spot, Null, Foreign, In, Value, Integer, Pointer, ForObject, ForFunction, Cell, Block, Fits}
-use Rattle.meaning_machine.specs.Outcomes.{DeadBlock, ForeignPointer, OutOfBounds, ReadOnly, AccessFault, SpaceFault, ShapeFault, Gives, IsFault, IsUndefined}
+use Rattle.meaning_machine.specs.Conversion.{converted}
+use Rattle.meaning_machine.specs.Outcomes.{DeadBlock, ForeignPointer, OutOfBounds, ReadOnly, AccessFault, SpaceFault, RestrictedFault, ShapeFault, Gives, IsFault, IsUndefined}
 use Rattle.meaning_machine.specs.Memory.{adopt, content_at, with_content, block_with, load, store}
-use Rattle.meaning_machine.specs.Runs.{IsWritable, opening}
+use Rattle.meaning_machine.specs.Runs.{IsWritable, opening, Write, Moves}
 use Rattle.meaning_machine.specs.Soundness.{Last}
-use Rattle.meaning_machine.specs.Examples.{plain_int, const_int, int_of, object_spot}
+use Rattle.meaning_machine.specs.Examples.{plain_int, const_int, int_of, object_spot, indeterminate_block}
+
+-- Conversions (6.3.1.2, 6.3.1.3)
+
+-- what a number becomes in each signed type, and in each unsigned one
+abbrev pub in_signed : ℤ → List ℤ
+in_signed number = map (λ kind. converted kind number) signed_kinds
+
+abbrev pub in_unsigned : ℤ → List ℤ
+in_unsigned number = map (λ kind. converted kind number) unsigned_kinds
+
+pub record ConversionExamples : Type 0 where
+  pub zero_signed : in_signed (pos 0) ≡ replicate 6 (pos 0)
+  pub zero_unsigned : in_unsigned (pos 0) ≡ replicate 6 (pos 0)
+  -- -1 is the greatest number of an unsigned type, and 1 of _Bool
+  pub minus_one_signed : in_signed (negsuc 0) ≡ replicate 6 (negsuc 0)
+  pub minus_one_unsigned : in_unsigned (negsuc 0) ≡ map greatest unsigned_kinds
+  -- 200 is -56 in a signed char; 511 is -1 there, and 255 in an unsigned one
+  pub two_hundred : in_signed (pos 200) ≡ negsuc 55 ∷ negsuc 55 ∷ replicate 4 (pos 200)
+  pub nine_bits : in_signed (pos 511) ≡ negsuc 0 ∷ negsuc 0 ∷ replicate 4 (pos 511)
+  pub nine_bits_unsigned : in_unsigned (pos 511) ≡ pos 1 ∷ pos 255 ∷ replicate 4 (pos 511)
+  -- one behind either end of an int comes in at the other
+  pub behind_int : map (λ kind. converted kind (pos 2147483648)) (kinds.Int ∷ kinds.UInt ∷ kinds.Long ∷ []) ≡ negsuc 2147483647 ∷ pos 2147483648 ∷ pos 2147483648 ∷ []
+  pub before_int : map (λ kind. converted kind (negsuc 2147483648)) (kinds.Int ∷ kinds.UInt ∷ kinds.Long ∷ []) ≡ pos 2147483647 ∷ pos 2147483647 ∷ negsuc 2147483648 ∷ []
+  pub two_to_64 : in_unsigned (pos (2 ^ 64)) ≡ pos 1 ∷ replicate 5 (pos 0)
 
 -- Storage of one int
 
@@ -42,6 +70,10 @@ function_block = record { made = ForFunction; is_alive = true; cells = [] }
 abbrev pub behind_the_end : Spot
 behind_the_end = In 0 [] 1 1
 
+-- an int with this number
+abbrev pub integer : ℤ → Value
+integer number = Integer kinds.Int None false number
+
 pub record RowExamples : Type 0 where
   -- `extern int x; extern int *p; void f(void) { }`: x is 0 and p null at the opening; a function has no cells
   pub opening_blocks :
@@ -70,6 +102,7 @@ pub record RowExamples : Type 0 where
   pub function_loaded : load (function_block ∷ []) (record { type_ = plain_int; spot = object_spot 0 }) ≡ IsFault ShapeFault
   pub no_block_loaded : load [] (record { type_ = plain_int; spot = object_spot 0 }) ≡ IsFault ShapeFault
   pub stored : store living (object_spot 0) (int_of 5) ≡ Gives (int_block plain_int true 5 ∷ [])
+  pub indeterminate_stored : store (indeterminate_block ∷ []) (object_spot 0) (int_of 5) ≡ Gives (int_block plain_int true 5 ∷ [])
   pub dead_stored : store dead (object_spot 0) (int_of 5) ≡ IsUndefined DeadBlock
   pub stored_behind_the_end : store living behind_the_end (int_of 5) ≡ IsUndefined OutOfBounds
   pub const_stored : store constant (object_spot 0) (int_of 5) ≡ IsUndefined ReadOnly
@@ -80,11 +113,26 @@ pub record RowExamples : Type 0 where
   -- a plain 0 becomes a null pointer, and no other number does (6.3.2.3 p3)
   pub zero_adopted : adopt (int_of 0) (pointer_to plain_int) ≡ Gives (Pointer plain_int Null)
   pub one_adopted : adopt (int_of 1) (pointer_to plain_int) ≡ IsFault ShapeFault
+  pub negative_adopted : adopt (integer (negsuc 0)) (pointer_to plain_int) ≡ IsFault ShapeFault
+  -- a pointer becomes no number but that of a _Bool, in which each but a null one is 1 (6.3.1.2)
   pub pointer_adopted_by_int : adopt (Pointer plain_int Null) plain_int ≡ IsFault ShapeFault
-  -- an int takes plain ints alone
-  pub other_kind_adopted : adopt (Integer Char None false (pos 1)) plain_int ≡ IsFault ShapeFault
-  pub restricted_adopted : adopt (Integer Int (Some 0) false (pos 1)) plain_int ≡ IsFault ShapeFault
-  pub fouled_adopted : adopt (Integer Int None true (pos 1)) plain_int ≡ IsFault ShapeFault
+  pub null_adopted_by_bool : adopt (Pointer plain_int Null) (plain kinds.Bool) ≡ Gives (Integer kinds.Bool None false (pos 0))
+  pub pointers_adopted_by_bool :
+      map (λ spot. adopt (Pointer (int_with noderef_flags) spot) (plain kinds.Bool)) (Foreign ∷ object_spot 0 ∷ behind_the_end ∷ [])
+      ≡ replicate 3 (Gives (Integer kinds.Bool None false (pos 1)))
+  -- a plain integer becomes any integer type
+  pub other_kind_adopted : adopt (Integer kinds.Char None false (pos 1)) plain_int ≡ Gives (int_of 1)
+  pub wider_adopted :
+      adopt (Integer kinds.ULong None false (pos 18446744073709551615)) plain_int ≡ Gives (integer (negsuc 0))
+  pub adopted_by_bool : adopt (int_of 256) (plain kinds.Bool) ≡ Gives (Integer kinds.Bool None false (pos 1))
+  -- no integer type has an identity, so a restricted number meets another one, 0 and a fouled one too
+  pub restricted_adopted : adopt (Integer kinds.Int (Some 0) false (pos 1)) plain_int ≡ IsFault RestrictedFault
+  pub restricted_zero_adopted : adopt (Integer kinds.Int (Some 0) false (pos 0)) plain_int ≡ IsFault RestrictedFault
+  pub restricted_fouled_adopted : adopt (Integer kinds.Int (Some 7) true (pos 1)) (plain kinds.Long) ≡ IsFault RestrictedFault
+  -- a pointer's type has none to meet
+  pub restricted_adopted_by_pointer : adopt (Integer kinds.Int (Some 0) false (pos 0)) (pointer_to plain_int) ≡ IsFault ShapeFault
+  -- a plain number is never fouled
+  pub fouled_adopted : adopt (Integer kinds.Int None true (pos 1)) plain_int ≡ IsFault ShapeFault
   -- targets that differ in flags alone, at any level, and targets that differ otherwise
   pub flags_lost : adopt (Pointer (int_with noderef_flags) Null) (pointer_to plain_int) ≡ IsFault SpaceFault
   pub deeper_flags_lost :
@@ -114,10 +162,6 @@ pub record CellExamples : Type 0 where
 
 -- What fits
 
--- an int with this number
-abbrev pub integer : ℤ → Value
-integer number = Integer Int None false number
-
 pub record FitExamples : Type 0 where
   pub least_fits : Fits [] (integer (negsuc 2147483647)) plain_int
   pub greatest_fits : Fits [] (integer (pos 2147483647)) plain_int
@@ -139,12 +183,17 @@ pub record FitExamples : Type 0 where
   pub other_flags : Fits [] (Pointer (int_with noderef_flags) Null) (pointer_to plain_int) → ⊥
   pub other_block : Fits living (Pointer (pointer_to plain_int) (object_spot 0)) (pointer_to (pointer_to plain_int)) → ⊥
   -- an int is plain
-  pub other_kind : Fits [] (Integer Char None false (pos 0)) plain_int → ⊥
-  pub restricted : Fits [] (Integer Int (Some 0) false (pos 0)) plain_int → ⊥
-  pub fouled : Fits [] (Integer Int None true (pos 0)) plain_int → ⊥
-  -- the outside writes into living cells alone
+  pub other_kind : Fits [] (Integer kinds.Char None false (pos 0)) plain_int → ⊥
+  pub restricted : Fits [] (Integer kinds.Int (Some 0) false (pos 0)) plain_int → ⊥
+  pub fouled : Fits [] (Integer kinds.Int None true (pos 0)) plain_int → ⊥
+  -- the outside writes into living cells alone, into indeterminate ones too
   pub written : IsWritable living (int_block plain_int true 3) [] (int_of 5)
   pub const_written : IsWritable constant (int_block const_int true 3) [] (int_of 5)
+  pub indeterminate_written : IsWritable (indeterminate_block ∷ []) indeterminate_block [] (int_of 5)
+  pub indeterminate_moved :
+      (unit : SyntaxTree)
+      → Moves unit (record { blocks = indeterminate_block ∷ []; activities = [] }) (Write 0 [] (int_of 5))
+      (record { blocks = int_block plain_int true 5 ∷ []; activities = [] })
   pub dead_written : IsWritable dead (int_block plain_int false 3) [] (int_of 5) → ⊥
   pub no_cell : IsWritable living (int_block plain_int true 3) (0 ∷ []) (int_of 5) → ⊥
 

@@ -1,5 +1,6 @@
--- What stays true in every run of a scope without failures: each pending value and place has the type that the
--- typing rules give its node, but for const and volatile, and each cell fits its declared type.
+-- What stays true in every run of a scope without failures: each value and place that an activity holds fits some
+-- type that the rest of its work takes, each node that it has yet to enter has such a type by the typing rules, with
+-- no failure in it, and each cell fits its declared type.
 use Rattle.std.specs.Prelude.{◌≡◌, ℕ, false, List, Some, All, map, slice_get}
 use Rattle.meaning_types.specs.Types.{TypeTree, Typed, flags_of, has_flag, value_type, bare, bare_base}
 use Rattle.meaning_rules.specs.Bindings.{Binding, pointer_to, type_in}

@@ -1,6 +1,7 @@
 ghost use Rattle.meaning_machine.specs.Played.{MovesArePlayed, PlayedIsRun, RunIsPlayed};
-ghost use Rattle.meaning_machine.specs.RowExamples.{CellExamples, FitExamples, LastExamples, RowExamples};
+ghost use Rattle.meaning_machine.specs.RowExamples.{CellExamples, ConversionExamples, FitExamples, LastExamples, RowExamples};
 ghost use Rattle.meaning_machine.specs.StepExamples.{StepExamples};
+ghost use Rattle.meaning_machine.specs.ActivityExamples.{OthersGoOn, ThirdMeetsFault, ThreeByTurns, ThreeInOrder};
 ghost use Rattle.meaning_machine.specs.Examples.{SpaceIsLost, NoderefIsAccessed, FlaggedIntIsLoaded, SilentUnitLeaves, SilentUnitEnds, SilentUnitCopies, NullIsUndefined, ForeignIsUndefined, ConstIsCopied, IndeterminateIsUndefined, ConstIsAdopted, AddressIsNoPlace, StatementWithoutRowIsFault};
 
 /// What the plain program plays is a run.
@@ -32,8 +33,19 @@ pub fn worked_runs()
     ensures rowless_fault { StatementWithoutRowIsFault }
 {}
 
-/// What fits a type, what single loads, stores and steps give, and which blocks outlast others.
+/// Runs of three activities, one after another, by turns, and where the third meets a fault; and one that
+/// goes on where another stands still.
+pub fn worked_activities()
+    ensures in_order { ThreeInOrder }
+    ensures by_turns { ThreeByTurns }
+    ensures third_meets { ThirdMeetsFault }
+    ensures others_go_on { OthersGoOn }
+{}
+
+/// What a number becomes in another kind, what fits a type, what single loads, stores and steps give,
+/// and which blocks outlast others.
 pub fn worked_rows()
+    ensures conversions { ConversionExamples }
     ensures rows { RowExamples }
     ensures cells { CellExamples }
     ensures fits { FitExamples }

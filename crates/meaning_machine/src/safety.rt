@@ -7,8 +7,8 @@ pub fn blocks_last()
     ensures { BlocksLast }
 {}
 
-/// A step from sound blocks, by an activity whose pending values and places have their types, is no
-/// fault, and what it leads to is sound again.
+/// A step from sound blocks is no fault, and what it leads to is sound again, where each value and place
+/// that the activity holds fits some type that the rest of its work takes, and no rule fails in the rest.
 #[tactic(auto, using(crate::proofs::Steps::step_is_sound))]
 pub fn steps_are_sound()
     ensures { StepsAreSound }
@@ -20,8 +20,9 @@ pub fn moves_are_sound()
     ensures { MovesAreSound }
 {}
 
-/// In every world that a run of a unit without failures reaches, each cell fits its declared type, and
-/// each pending value and place has the type of its node.
+/// In every world that a run of a unit without failures reaches, each cell is indeterminate or fits its
+/// declared type, and each value and place that an activity holds fits some type that the rest of its work
+/// takes.
 #[tactic(auto, using(crate::proofs::Worlds::run_is_sound))]
 pub fn runs_are_sound()
     ensures { RunsAreSound }

@@ -7,7 +7,7 @@ use Rattle.meaning_machine.specs.Values.{Block}
 use Rattle.meaning_machine.specs.Memory.{is_read_only}
 use Rattle.meaning_machine.specs.Soundness.{Last}
 use Rattle.meaning_machine.specs.RowExamples.{int_block}
-use Rattle.meaning_machine.specs.Examples.{plain_int, const_int}
+use Rattle.meaning_machine.specs.Examples.{plain_int, const_int, indeterminate_block}
 use Rattle.meaning_machine.proofs.runs.worked_rows.Goals as goal
 
 -- of lists of one block, the second outlasts the first
@@ -16,6 +16,20 @@ one_stays :
 one_stays block later made dead zero one there =
     (later, refl, made ∙ ap (λ b. b.made) (same_Some _ _ there), λ is. dead (ap (λ b. b.is_alive) (same_Some _ _ there) ∙ is))
 one_stays block later made dead (suc number) one there = absurd (none-some _ there)
+
+pub returns-clause-conversions : goal.returns-clause-conversions
+returns-clause-conversions c = record {
+  zero_signed = refl;
+  zero_unsigned = refl;
+  minus_one_signed = refl;
+  minus_one_unsigned = refl;
+  two_hundred = refl;
+  nine_bits = refl;
+  nine_bits_unsigned = refl;
+  behind_int = refl;
+  before_int = refl;
+  two_to_64 = refl;
+}
 
 pub returns-clause-rows : goal.returns-clause-rows
 returns-clause-rows c = record {
@@ -32,6 +46,7 @@ returns-clause-rows c = record {
   function_loaded = refl;
   no_block_loaded = refl;
   stored = refl;
+  indeterminate_stored = refl;
   dead_stored = refl;
   stored_behind_the_end = refl;
   const_stored = refl;
@@ -40,9 +55,17 @@ returns-clause-rows c = record {
   no_block_stored = refl;
   zero_adopted = refl;
   one_adopted = refl;
+  negative_adopted = refl;
   pointer_adopted_by_int = refl;
+  null_adopted_by_bool = refl;
+  pointers_adopted_by_bool = refl;
   other_kind_adopted = refl;
+  wider_adopted = refl;
+  adopted_by_bool = refl;
   restricted_adopted = refl;
+  restricted_zero_adopted = refl;
+  restricted_fouled_adopted = refl;
+  restricted_adopted_by_pointer = refl;
   fouled_adopted = refl;
   flags_lost = refl;
   deeper_flags_lost = refl;
@@ -76,6 +99,9 @@ returns-clause-fits c = record {
   fouled = λ fits. cc (fits.2);
   written = (plain_int, _, refl, refl, refl, (refl, refl, refl, (le_z_yes tt, le_z_yes tt)));
   const_written = (const_int, _, refl, refl, refl, (refl, refl, refl, (le_z_yes tt, le_z_yes tt)));
+  indeterminate_written = (plain_int, _, refl, refl, refl, (refl, refl, refl, (le_z_yes tt, le_z_yes tt)));
+  indeterminate_moved = λ unit.
+      (indeterminate_block, refl, (plain_int, _, refl, refl, refl, (refl, refl, refl, (le_z_yes tt, le_z_yes tt))), refl);
   dead_written = λ is. false≢true is.3;
   no_cell = λ is. none-some _ is.4;
 }

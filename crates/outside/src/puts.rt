@@ -91,8 +91,10 @@ fn show_faults<R: System + AllocGlobal + Print>(rt: &R) -> io::Result<()> {
     println!(rt; "nothing taken: {answer:?}")?;
     let answer = RealSink::new(fs::create(rt, "/dev/full")?).put(b"int a;\n");
     println!(rt; "a full device: {answer:?}")?;
-    let answer = RealSink::new(fs::open(rt, "one")?).put(b"2");
-    println!(rt; "a file that was opened to be read: {answer:?}")
+    fs::write(rt, WRITTEN, "as it was\n")?;
+    let answer = RealSink::new(fs::open(rt, WRITTEN)?).put(b"2");
+    println!(rt; "opened to be read: {answer:?}")?;
+    show_written(rt, "opened to be read")
 }
 
 // Puts so many bytes, and compares what the file has.

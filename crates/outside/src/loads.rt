@@ -43,7 +43,9 @@ fn show_small<R: System + AllocGlobal + Print>(rt: &R) -> io::Result<()> {
     for (case, path) in rows {
         show_load(rt, &mut files, case, path)?;
     }
-    show_load(rt, &mut files, "a name too long", &LONG_NAME)
+    show_load(rt, &mut files, "a name too long", &LONG_NAME)?;
+    // The bytes of a pipe can be read once.
+    show_load(rt, &mut files, "a pipe", b"/dev/stdin")
 }
 
 // Loads a small file, and writes how that ended, with the text in the buffer.

@@ -5,12 +5,11 @@ use Rattle.std.proofs.lemmas.Bool.{false≢true}
 use Rattle.std.proofs.lemmas.Option.{slice_get-map}
 use Rattle.meaning_types.specs.Types.{TypeTree}
 use Rattle.meaning_tree.specs.Kinds.{Evaluated}
-use Rattle.meaning_tree.specs.Trees.{SyntaxTree, parts_of}
+use Rattle.meaning_tree.specs.Trees.{SyntaxTree, parts_of, external_parts}
 use Rattle.meaning_syntax.specs.Items.{Word, Statement, Item, Object, Function, item_spelled}
 use Rattle.meaning_syntax.specs.Trees.{statement_trees, item_trees, unit_tree}
 use Rattle.meaning_rules.specs.Typing.{declared_type}
 use Rattle.meaning_rules.specs.Placed.{item_binding}
-use Rattle.meaning_rules.specs.Evaluation.{external_parts}
 use Rattle.meaning_machine.specs.Values.{Value, ForObject, Cell, Block, Fits}
 use Rattle.meaning_machine.specs.Memory.{content_at, with_content, block_with}
 use Rattle.meaning_machine.specs.Code.{ValueCode, statement_code, statements_code}

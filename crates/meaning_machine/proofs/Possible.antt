@@ -4,7 +4,7 @@ use Rattle.std.specs.Str.{bytes_eq}
 use Rattle.std.proofs.lemmas.Bool.{false≢true}
 use Rattle.std.proofs.lemmas.Option.{slice_get-map}
 use Rattle.meaning_types.specs.Types.{TypeTree}
-use Rattle.meaning_tree.specs.Kinds.{Evaluated}
+use Rattle.vocabulary.specs.declared.role.Role.TheVariants.{Evaluated}
 use Rattle.meaning_tree.specs.Trees.{SyntaxTree, parts_of, external_parts}
 use Rattle.meaning_syntax.specs.Items.{Word, Statement, Item, Object, Function, item_spelled}
 use Rattle.meaning_syntax.specs.Trees.{statement_trees, item_trees, unit_tree}

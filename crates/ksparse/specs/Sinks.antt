@@ -1,8 +1,7 @@
 -- What the texts of a reply do to sinks that may fail.
 use Rattle.std.specs.Prelude.{◌≡◌, ◌⊎◌, ℕ, List, ◌++◌, Option, None, Some}
 use Rattle.meaning_answer.specs.Reply.{Reply}
-use Rattle.meaning_answer.specs.Delivery.{Sinks}
-use Rattle.meaning_answer.specs.Laws.{GrewAlike}
+use Rattle.meaning_answer.specs.Delivery.{Sinks, GrewAlike}
 
 -- a front of the text was taken
 abbrev pub TakesFront : (old new text : List ℕ) → Type 0

@@ -60,3 +60,7 @@ abbrev pub Completes : List (List ℕ) → List Loaded → (rose : Type 0) → E
 Completes words loads rose ending sinks =
     (files : FileMap) → AgreesWith files loads → (reply : Reply) → IsAnswer words files reply → ¬ rose
     → (ending ≡ NoMemory) ⊎ ((ending ≡ reply.ending) × Delivers reply sinks)
+
+-- what is told grew by the bytes that were taken
+abbrev pub GrewAlike : (old new old_taken new_taken : List ℕ) → Type 0
+GrewAlike old new old_taken new_taken = (text : List ℕ) × (new ≡ old ++ text) × (new_taken ≡ old_taken ++ text)

@@ -7,7 +7,7 @@ use Rattle.meaning_answer.specs.Refusal.{UnknownWord, MissingOperand, refusal_re
 use Rattle.meaning_answer.specs.Command.{Request, BadWord, MissingFile, Check, request_of}
 use Rattle.meaning_answer.specs.Answer.{IsAnswer}
 use Rattle.meaning_answer.specs.Answering.{reply_to}
-use Rattle.meaning_answer.specs.Delivery.{Sinks, Outcome, IsOutcome}
+use Rattle.meaning_answer.specs.Delivery.{Sinks, Outcome, IsOutcome, GrewAlike}
 
 -- there is an answer, the one that the plain program computes
 abbrev pub AnswersExist : Type 0
@@ -53,10 +53,6 @@ EndingsTellWhatIsWritten =
     → (sinks.new_out ≡ sinks.old_out) × (written : List ℕ) × (sinks.new_err ≡ sinks.old_err ++ written) × HasWritten ending written
 
 -- What files and sinks tell of themselves
-
--- what is told grew by the bytes that were taken
-abbrev pub GrewAlike : (old new old_taken new_taken : List ℕ) → Type 0
-GrewAlike old new old_taken new_taken = (text : List ℕ) × (new ≡ old ++ text) × (new_taken ≡ old_taken ++ text)
 
 -- Where the files tell a map, which agrees with the loads, and the sinks tell what they hold, which grew by what
 -- they took, the outcome is said of what they tell.

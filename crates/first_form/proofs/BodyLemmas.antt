@@ -12,7 +12,7 @@ use Rattle.meaning_syntax.specs.Binding.{statement_binds}
 use Rattle.meaning_syntax.specs.Trees.{statement_tree, statement_trees}
 use Rattle.meaning_rules.specs.Placed.{placed_body}
 use Rattle.meaning_rules.specs.Failures as rules
-use Rattle.meaning_rules.specs.Judging.{judged_placed}
+use Rattle.meaning_rules.specs.plain.Judging.{judged_placed}
 use Rattle.sparse_model.specs.declared.ids.NameId.{NameId}
 use Rattle.first_form.specs.declared.item.Statement.{Statement}
 use Rattle.first_form.specs.declared.failure.Failure.{Failure}

@@ -10,7 +10,7 @@ use Rattle.meaning_syntax.specs.Binding as binding
 use Rattle.meaning_rules.specs.Evaluation.{InAssignment}
 use Rattle.meaning_rules.specs.Failures as rules
 use Rattle.meaning_types.specs.Equality as equality
-use Rattle.meaning_rules.specs.Judging as judging
+use Rattle.meaning_rules.specs.plain.Judging as judging
 use Rattle.meaning_rules.specs.Typing.{behind_stars, int_with}
 use Rattle.sparse_model.specs.declared.ids.NameId.{NameId}
 use Rattle.sparse_model.specs.declared.space.Space.{Space}

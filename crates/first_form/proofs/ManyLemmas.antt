@@ -1,7 +1,7 @@
 -- Reading many, one after another: each step leads on to the same end.
 use Rattle.std.proofs.Common.{◌≡◌, List, [], ◌∷◌, ◌++◌, length, map, Option, Some, None, refl, sym, ap, append_assoc, append-nil, arith}
 use Rattle.std.proofs.lemmas.List.{map-append}
-use Rattle.meaning_syntax.specs.Reading.{Texts, if_whole, read_many}
+use Rattle.meaning_syntax.specs.plain.Reading.{Texts, if_whole, read_many}
 use Rattle.meaning_syntax.proofs.Readers.{Shrinks, read_many_some, read_many_none}
 
 -- what was read so far, in front of what is read from the rest, is the whole

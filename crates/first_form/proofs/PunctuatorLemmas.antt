@@ -7,7 +7,7 @@ use Rattle.meaning_text.specs.Punctuators.{own_spelling}
 use Rattle.c_tokens.specs.Seen.{text_of, tok_of}
 use Rattle.c_tokens.specs.declared.token.Token.{Token}
 use Rattle.meaning_text.specs.Terminals.{terminal_of}
-use Rattle.meaning_syntax.specs.Reading.{read_passing}
+use Rattle.meaning_syntax.specs.plain.Reading.{read_passing}
 use Rattle.first_form.specs.Seen.{spellings_of}
 use Rattle.meaning_syntax.specs.Words.{is_name, is_keyword, is_reserved, is_space_id, is_space_name, is_space_number}
 

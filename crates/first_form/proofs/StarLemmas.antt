@@ -2,7 +2,7 @@
 use Rattle.std.proofs.Common.{◌≡◌, ℕ, ◌+◌, [], ◌∷◌, codes, length, Some, None, bytes_eq, refl, sym, ap, ◌∙◌, add-zero, arith}
 use Rattle.std.proofs.lemmas.Bool.{cond_both, cond-true}
 use Rattle.std.proofs.lemmas.Option.{none-some}
-use Rattle.meaning_syntax.specs.Reading.{Texts, read_text, read_stars}
+use Rattle.meaning_syntax.specs.plain.Reading.{Texts, read_text, read_stars}
 use Rattle.meaning_syntax.proofs.Readers.{read_text_parts}
 
 -- the stars so far, and those of the rest, are the whole

@@ -4,7 +4,7 @@ use Rattle.std.specs.Borrow.{Bor}
 use Rattle.std.specs.List.{All}
 use Rattle.c_tokens.specs.Seen.{IsKnown}
 use Rattle.c_tokens.specs.declared.token.Token.{Token}
-use Rattle.meaning_syntax.specs.Reading.{Texts}
+use Rattle.meaning_syntax.specs.plain.Reading.{Texts}
 use Rattle.first_form.specs.Seen.{spellings_of}
 
 -- each token's name is one of the table

@@ -1,7 +1,7 @@
 ghost use Rattle.first_form.specs.Known.{IsKnownWord};
 ghost use Rattle.first_form.specs.Reader.{AreKnownTokens, IsKnownFound, found_of};
 ghost use Rattle.first_form.specs.Seen.{spellings_of, word_of};
-ghost use Rattle.meaning_syntax.specs.Reading.{
+ghost use Rattle.meaning_syntax.specs.plain.Reading.{
   read_attribute,
   read_further_word,
   read_many,
@@ -20,7 +20,7 @@ use c_tokens::{Names, Token};
 use std::alloc::{AllocError, Global};
 
 // The words of an attribute, or no words where there is none.
-#[tactic(auto, unfolding(meaning_syntax::specs::Reading::read_attribute))]
+#[tactic(auto, unfolding(meaning_syntax::specs::plain::Reading::read_attribute))]
 pub(crate) fn attribute<'t>(
     alloc: Global,
     names: &Names,
@@ -40,7 +40,7 @@ pub(crate) fn attribute<'t>(
 }
 
 // What stands in an attribute behind its keyword.
-#[tactic(auto, unfolding(meaning_syntax::specs::Reading::read_word_list))]
+#[tactic(auto, unfolding(meaning_syntax::specs::plain::Reading::read_word_list))]
 fn word_list<'t>(
     alloc: Global,
     names: &Names,
@@ -98,7 +98,7 @@ fn words_from<'t>(
     Ok((words, rest))
 }
 
-#[tactic(auto, unfolding(meaning_syntax::specs::Reading::read_further_word))]
+#[tactic(auto, unfolding(meaning_syntax::specs::plain::Reading::read_further_word))]
 fn further_word<'t>(names: &Names, tokens: &'t [Token]) -> Option<(Word, &'t [Token])>
     requires { AreKnownTokens names.now tokens.now }
     ensures seen { option_map (found_of names.now (word_of names.now)) result
@@ -109,7 +109,7 @@ fn further_word<'t>(names: &Names, tokens: &'t [Token]) -> Option<(Word, &'t [To
     word(names, rest)
 }
 
-#[tactic(auto, unfolding(meaning_syntax::specs::Reading::read_word))]
+#[tactic(auto, unfolding(meaning_syntax::specs::plain::Reading::read_word))]
 fn word<'t>(names: &Names, tokens: &'t [Token]) -> Option<(Word, &'t [Token])>
     requires { AreKnownTokens names.now tokens.now }
     ensures seen { option_map (found_of names.now (word_of names.now)) result
@@ -119,7 +119,7 @@ fn word<'t>(names: &Names, tokens: &'t [Token]) -> Option<(Word, &'t [Token])>
     noderef(names, tokens).or_else(|| space(names, tokens))
 }
 
-#[tactic(auto, unfolding(meaning_syntax::specs::Reading::read_noderef))]
+#[tactic(auto, unfolding(meaning_syntax::specs::plain::Reading::read_noderef))]
 fn noderef<'t>(names: &Names, tokens: &'t [Token]) -> Option<(Word, &'t [Token])>
     requires { AreKnownTokens names.now tokens.now }
     ensures seen { option_map (found_of names.now (word_of names.now)) result
@@ -130,7 +130,7 @@ fn noderef<'t>(names: &Names, tokens: &'t [Token]) -> Option<(Word, &'t [Token])
     Some((Word::Noderef, rest))
 }
 
-#[tactic(auto, unfolding(meaning_syntax::specs::Reading::read_space))]
+#[tactic(auto, unfolding(meaning_syntax::specs::plain::Reading::read_space))]
 fn space<'t>(names: &Names, tokens: &'t [Token]) -> Option<(Word, &'t [Token])>
     requires { AreKnownTokens names.now tokens.now }
     ensures seen { option_map (found_of names.now (word_of names.now)) result

@@ -2,7 +2,7 @@ ghost use Rattle.c_tokens.specs.Seen.{IsKnown, text_of, tok_of};
 ghost use Rattle.first_form.specs.Reader.{AreKnownTokens, IsKnownFound, found_of};
 ghost use Rattle.first_form.specs.Seen.{spellings_of};
 ghost use Rattle.meaning_text.specs.Terminals.{terminal_of};
-ghost use Rattle.meaning_syntax.specs.Reading.{read_passing, read_text};
+ghost use Rattle.meaning_syntax.specs.plain.Reading.{read_passing, read_text};
 ghost use Rattle.meaning_syntax.specs.Words.{is_name, is_space_id};
 ghost use Rattle.std.specs.Option.{option_map};
 ghost use Rattle.std.specs.Str.{bytes_eq};

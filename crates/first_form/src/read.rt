@@ -2,7 +2,7 @@ ghost use Rattle.c_tokens.specs.Seen.{IsKnown};
 ghost use Rattle.first_form.specs.Known.{AreKnown, IsKnownItem, IsKnownStatement};
 ghost use Rattle.first_form.specs.Reader.{AreKnownTokens, IsKnownFound, found_of};
 ghost use Rattle.first_form.specs.Seen.{item_of, items_of, spellings_of, statement_of};
-ghost use Rattle.meaning_syntax.specs.Reading.{
+ghost use Rattle.meaning_syntax.specs.plain.Reading.{
   read_address_assignment,
   read_assignment,
   read_assignment_through,
@@ -29,7 +29,7 @@ use std::alloc::{AllocError, Global};
 const MOST_STARS: usize = 3;
 
 /// The items that the tokens are, or None where they are no items of the first form.
-#[tactic(auto, unfolding(meaning_syntax::specs::Reading::read_items))]
+#[tactic(auto, unfolding(meaning_syntax::specs::plain::Reading::read_items))]
 pub fn read_items(
     alloc: Global,
     names: &Names,
@@ -54,7 +54,7 @@ pub fn read_items(
     }
 }
 
-#[tactic(auto, unfolding(meaning_syntax::specs::Reading::read_item))]
+#[tactic(auto, unfolding(meaning_syntax::specs::plain::Reading::read_item))]
 fn item<'t>(
     alloc: Global,
     names: &Names,
@@ -72,7 +72,7 @@ fn item<'t>(
     }
 }
 
-#[tactic(auto, unfolding(meaning_syntax::specs::Reading::read_object))]
+#[tactic(auto, unfolding(meaning_syntax::specs::plain::Reading::read_object))]
 fn object<'t>(
     alloc: Global,
     names: &Names,
@@ -135,7 +135,7 @@ fn stars<'t>(names: &Names, tokens: &'t [Token]) -> (usize, &'t [Token])
     (count, rest)
 }
 
-#[tactic(auto, unfolding(meaning_syntax::specs::Reading::read_function))]
+#[tactic(auto, unfolding(meaning_syntax::specs::plain::Reading::read_function))]
 fn function<'t>(
     alloc: Global,
     names: &Names,
@@ -164,7 +164,7 @@ fn function<'t>(
 }
 
 // What stands behind `( void ) {`.
-#[tactic(auto, unfolding(meaning_syntax::specs::Reading::read_opening))]
+#[tactic(auto, unfolding(meaning_syntax::specs::plain::Reading::read_opening))]
 fn opening<'t>(names: &Names, tokens: &'t [Token]) -> Option<&'t [Token]>
     requires { AreKnownTokens names.now tokens.now }
     ensures seen { option_map (λ rest. spellings_of names.now rest.now) result
@@ -199,7 +199,7 @@ fn statements<'t>(
 }
 
 // At most one of the three stands here.
-#[tactic(auto, unfolding(meaning_syntax::specs::Reading::read_statement))]
+#[tactic(auto, unfolding(meaning_syntax::specs::plain::Reading::read_statement))]
 fn statement<'t>(names: &Names, tokens: &'t [Token]) -> Option<(Statement, &'t [Token])>
     requires { AreKnownTokens names.now tokens.now }
     ensures seen { option_map (found_of names.now (statement_of names.now)) result
@@ -212,7 +212,7 @@ fn statement<'t>(names: &Names, tokens: &'t [Token]) -> Option<(Statement, &'t [
 }
 
 // `target = source;`
-#[tactic(auto, unfolding(meaning_syntax::specs::Reading::read_assignment))]
+#[tactic(auto, unfolding(meaning_syntax::specs::plain::Reading::read_assignment))]
 fn assignment<'t>(names: &Names, tokens: &'t [Token]) -> Option<(Statement, &'t [Token])>
     requires { AreKnownTokens names.now tokens.now }
     ensures seen { option_map (found_of names.now (statement_of names.now)) result
@@ -227,7 +227,7 @@ fn assignment<'t>(names: &Names, tokens: &'t [Token]) -> Option<(Statement, &'t 
 }
 
 // `*pointer = source;`
-#[tactic(auto, unfolding(meaning_syntax::specs::Reading::read_assignment_through))]
+#[tactic(auto, unfolding(meaning_syntax::specs::plain::Reading::read_assignment_through))]
 fn assignment_through<'t>(names: &Names, tokens: &'t [Token]) -> Option<(Statement, &'t [Token])>
     requires { AreKnownTokens names.now tokens.now }
     ensures seen { option_map (found_of names.now (statement_of names.now)) result
@@ -243,7 +243,7 @@ fn assignment_through<'t>(names: &Names, tokens: &'t [Token]) -> Option<(Stateme
 }
 
 // `target = &object;`
-#[tactic(auto, unfolding(meaning_syntax::specs::Reading::read_address_assignment))]
+#[tactic(auto, unfolding(meaning_syntax::specs::plain::Reading::read_address_assignment))]
 fn address_assignment<'t>(names: &Names, tokens: &'t [Token]) -> Option<(Statement, &'t [Token])>
     requires { AreKnownTokens names.now tokens.now }
     ensures seen { option_map (found_of names.now (statement_of names.now)) result

@@ -14,7 +14,7 @@ use Rattle.meaning_text.specs.Places.{main_file}
 use Rattle.meaning_answer.specs.Reply.{Reply, Clean}
 use Rattle.meaning_answer.specs.Command.{Request, BadWord, MissingFile, Check, request_of}
 use Rattle.meaning_answer.specs.Answer.{warned, IsChecked, IsTextReply, IsFileReply, IsRequestReply, IsAnswer}
-use Rattle.meaning_machine.specs.Laws.{SilenceIsSafe}
+use Rattle.meaning_machine.specs.laws.Runs.{SilenceIsSafe}
 use Rattle.ksparse.specs.Safe.{IsSafeText, NamesSafeFile, IsSafeIfClean}
 
 -- a text is at most one unit

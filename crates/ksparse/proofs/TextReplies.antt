@@ -5,14 +5,14 @@ use Rattle.meaning_text.specs.Tokens.{Tok, LexFault, LexesFile, OpensFile}
 use Rattle.meaning_text.specs.Terminals.{terminals_of}
 use Rattle.meaning_syntax.specs.Items.{Item}
 use Rattle.meaning_syntax.specs.Binding.{are_bound}
-use Rattle.meaning_syntax.specs.Reading.{Texts, read_items, read_unit}
+use Rattle.meaning_syntax.specs.plain.Reading.{Texts, read_items, read_unit}
 use Rattle.meaning_rules.specs.Failures.{Failure}
-use Rattle.meaning_rules.specs.Judging.{failures_of}
+use Rattle.meaning_rules.specs.plain.Judging.{failures_of}
 use Rattle.meaning_text.specs.Places.{main_file}
 use Rattle.meaning_answer.specs.Reply.{Reply}
 use Rattle.meaning_answer.specs.Refusal.{Opens, NotBuilt, ManyTokens, refusal_reply}
 use Rattle.meaning_answer.specs.Answer.{most_tokens, warned, IsTextReply}
-use Rattle.meaning_answer.specs.Answering.{bounded_reply, unit_reply}
+use Rattle.meaning_answer.specs.plain.Answering.{bounded_reply, unit_reply}
 use Rattle.meaning_answer.proofs.Texts.{answered, replied_tokens, replied_fault}
 
 -- The unit of tokens, by what was read of them

@@ -6,7 +6,7 @@ use Rattle.c_tokens.specs.Seen.{tok_of, toks_of}
 use Rattle.c_tokens.specs.declared.token.Token.{Token}
 use Rattle.meaning_text.specs.Terminals.{terminal_of}
 use Rattle.meaning_syntax.specs.Items.{Item, item_spelled, item_fits}
-use Rattle.meaning_syntax.specs.Reading.{read_items}
+use Rattle.meaning_syntax.specs.plain.Reading.{read_items}
 use Rattle.meaning_syntax.proofs.UnitReading.{IsSpelled-read_items}
 use Rattle.first_form.specs.Seen.{spellings_of}
 

@@ -11,7 +11,7 @@ use Rattle.meaning_answer.specs.Reply.{Reply, IsLine, IsShaped}
 use Rattle.meaning_answer.specs.Refusal.{Refusal, UnknownWord, MissingOperand, NoSuchFile, LargeFile, Opens, NotBuilt, ManyTokens, refusal_text, refusal_reply}
 use Rattle.meaning_answer.specs.Command.{Request, BadWord, MissingFile, Check, request_of}
 use Rattle.meaning_answer.specs.Answer.{warned, IsFileReply, IsTextReply, IsRequestReply}
-use Rattle.meaning_answer.specs.Laws.{AnswersAreShaped}
+use Rattle.meaning_answer.specs.laws.Answers.{AnswersAreShaped}
 
 -- a text before a line ends as the line does
 IsLine-append : (text line : List ℕ) → IsLine line → IsLine (text ++ line)

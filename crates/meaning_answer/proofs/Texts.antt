@@ -12,19 +12,19 @@ use Rattle.meaning_text.proofs.Lexing.{tokens_exist, tokens_are_unique, faults_e
 use Rattle.meaning_tree.specs.Trees.{SyntaxTree}
 use Rattle.meaning_syntax.specs.Items.{Item}
 use Rattle.meaning_syntax.specs.Trees.{unit_tree, Derives, IsInForm}
-use Rattle.meaning_syntax.specs.Reading.{read_unit}
+use Rattle.meaning_syntax.specs.plain.Reading.{read_unit}
 use Rattle.meaning_syntax.proofs.UnitReading.{IsUnit-read_unit}
 use Rattle.meaning_syntax.proofs.Derivations.{read_units_derive, derived_trees_are_those}
 use Rattle.meaning_rules.specs.Failures.{Failure, IsListing}
-use Rattle.meaning_rules.specs.Judging.{failures_of}
+use Rattle.meaning_rules.specs.plain.Judging.{failures_of}
 use Rattle.meaning_rules.proofs.Units.{listings_exist, listings_are_unique}
 use Rattle.meaning_text.specs.Places.{main_file}
 use Rattle.meaning_answer.specs.Reply.{Reply}
 use Rattle.meaning_answer.specs.Refusal.{LargeFile, Opens, NotBuilt, ManyTokens, refusal_reply}
 use Rattle.meaning_answer.specs.Command.{Request, BadWord, MissingFile, Check, request_of}
 use Rattle.meaning_answer.specs.Answer.{most_bytes, most_tokens, warned, IsChecked, IsTextReply, IsFileReply, IsRequestReply, TellsFailures, TellsManyTokens, TellsNotBuilt, TellsOpening}
-use Rattle.meaning_answer.specs.Answering.{bounded_reply, unit_reply, lexed_reply, text_reply, file_reply, request_reply}
-use Rattle.meaning_answer.specs.Laws.{AnswersExist, AnswersAreUnique}
+use Rattle.meaning_answer.specs.plain.Answering.{bounded_reply, unit_reply, lexed_reply, text_reply, file_reply, request_reply}
+use Rattle.meaning_answer.specs.laws.Answers.{AnswersExist, AnswersAreUnique}
 
 -- What the plain program replies to a text that has tokens, a unit, or a fault
 

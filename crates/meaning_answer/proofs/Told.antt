@@ -3,7 +3,7 @@ use Rattle.std.proofs.Common.{◌≡◌, ℕ, List, [], ◌++◌, sym, ◌∙◌
 use Rattle.std.proofs.lemmas.List.{append_cancel_left}
 use Rattle.meaning_answer.specs.Reply.{Ending, Clean, Warned, Refused, Usage, ReadFault, WriteFault, NoMemory, Limit, Reply}
 use Rattle.meaning_answer.specs.Delivery.{Sinks, Delivers, StaysSilent, Ends, Outcome, GrewAlike}
-use Rattle.meaning_answer.specs.Laws.{OutcomesAreTold}
+use Rattle.meaning_answer.specs.laws.Answers.{OutcomesAreTold}
 
 -- what is told grew by each text by which what was taken grew
 grew_told : (old new old_taken new_taken text : List ℕ) → GrewAlike old new old_taken new_taken → new_taken ≡ old_taken ++ text → new ≡ old ++ text

@@ -6,7 +6,7 @@ use Rattle.meaning_rules.specs.Failures.{Failure}
 use Rattle.meaning_answer.specs.Reply.{Reply, Usage}
 use Rattle.meaning_answer.specs.Command.{Request, BadWord, MissingFile, Check, request_of}
 use Rattle.meaning_answer.specs.Answer.{warned, IsFileReply, IsTextReply, IsRequestReply}
-use Rattle.meaning_answer.specs.Laws.{TellsUsage, AnswersTellUsage}
+use Rattle.meaning_answer.specs.laws.Answers.{TellsUsage, AnswersTellUsage}
 
 warned_no_usage : (path : List ℕ) (tokens : List Tok) (failures : List Failure) → (warned path tokens failures).ending ≢ Usage
 warned_no_usage path tokens [] is = cc

@@ -4,7 +4,7 @@ use Rattle.meaning_outside.specs.Files.{FileMap}
 use Rattle.meaning_answer.specs.Reply.{Ending, Clean, Warned, Refused, Usage, ReadFault, WriteFault, NoMemory, Limit, IsLine, HasShape}
 use Rattle.meaning_answer.specs.Answer.{IsAnswer}
 use Rattle.meaning_answer.specs.Delivery.{Sinks, Ends}
-use Rattle.meaning_answer.specs.Laws.{HasWritten, EndingsTellWhatIsWritten}
+use Rattle.meaning_answer.specs.laws.Answers.{HasWritten, EndingsTellWhatIsWritten}
 use Rattle.meaning_answer.proofs.Shapes.{answers_are_shaped}
 
 -- nothing goes to out in each shape

@@ -2,9 +2,9 @@ pub mod Reply
 pub mod Refusal
 pub mod Command
 pub mod Answer
-pub mod Answering
 pub mod Delivery
-pub mod Laws
-pub mod Examples
+pub mod plain
+pub mod laws
+pub mod examples
 pub use Rattle.meaning_outside.specs.Faults
 pub use Rattle.meaning_outside.specs.Files

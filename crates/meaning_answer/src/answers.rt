@@ -1,5 +1,5 @@
-ghost use Rattle.meaning_answer.specs.Examples.{AnswerExamples, LimitExamples, RequestExamples};
-ghost use Rattle.meaning_answer.specs.Laws.{AnswersAreShaped, AnswersAreUnique, AnswersExist, AnswersTellUsage, EndingsTellWhatIsWritten, OutcomesAreTold};
+ghost use Rattle.meaning_answer.specs.examples.Answers.{AnswerExamples, LimitExamples, RequestExamples};
+ghost use Rattle.meaning_answer.specs.laws.Answers.{AnswersAreShaped, AnswersAreUnique, AnswersExist, AnswersTellUsage, EndingsTellWhatIsWritten, OutcomesAreTold};
 
 /// Each command has exactly one answer over given files, with the shape of its ending. It is a usage line
 /// exactly where the words are at fault.

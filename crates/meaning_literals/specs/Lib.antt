@@ -7,5 +7,5 @@ pub mod Integers
 pub mod Elements
 pub mod Grammar
 pub mod Quoted
-pub mod Laws
-pub mod Examples
+pub mod laws
+pub mod examples

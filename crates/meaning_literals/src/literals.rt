@@ -1,5 +1,5 @@
-ghost use Rattle.meaning_literals.specs.Examples.{IntegerExamples, KindExamples, SuffixExamples, CharacterExamples, StringExamples};
-ghost use Rattle.meaning_literals.specs.Laws.{DecimalsAreRead, ElementsAreThose, TextsAreMadeOfElements};
+ghost use Rattle.meaning_literals.specs.examples.Literals.{IntegerExamples, KindExamples, SuffixExamples, CharacterExamples, StringExamples};
+ghost use Rattle.meaning_literals.specs.laws.Literals.{DecimalsAreRead, ElementsAreThose, TextsAreMadeOfElements};
 
 /// What stands between the quotation marks is made of one list of elements, as the grammar spells them.
 pub fn each_text_is_made_of_its_elements()

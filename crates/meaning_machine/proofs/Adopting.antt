@@ -12,7 +12,7 @@ use Rattle.meaning_machine.specs.Conversion.{spot_truth}
 use Rattle.meaning_machine.specs.Outcomes.{SpaceFault, ShapeFault, Answer, Gives, IsFault, IsUndefined}
 use Rattle.meaning_machine.specs.Memory.{adopt, adopt_integer, adopt_pointer}
 use Rattle.meaning_machine.specs.Tests.{differ_in_flags_alone}
-use Rattle.meaning_machine.specs.Laws.{AdoptedValuesFit}
+use Rattle.meaning_machine.specs.laws.Runs.{AdoptedValuesFit}
 use Rattle.meaning_machine.proofs.Conversion.{converted_is_in_range}
 use Rattle.meaning_machine.proofs.Similar.{spot-agreeing}
 

@@ -11,8 +11,8 @@ use Rattle.meaning_machine.specs.Code.{PlaceCode, Named, Behind, NoPlace, ValueC
 use Rattle.meaning_machine.specs.Machine.{AfterPlace, AfterValue, Control, EnterBody, EnterStatement, EnterPlace, EnterAddress, EnterAssignment, Load, Move, Store, Leave, Finished, Outcome, Next, Done, Undefined, Fault, place_of, entered_name, loaded, moved, written, adopted, step}
 use Rattle.meaning_machine.specs.Runs.{World, Moves, Start, Step, Write, Starts, Takes, body_at, bindings_in}
 use Rattle.meaning_machine.specs.Runs as runs
-use Rattle.meaning_machine.specs.Played.{has_content}
-use Rattle.meaning_machine.specs.Laws.{BlocksLast}
+use Rattle.meaning_machine.specs.plain.Playing.{has_content}
+use Rattle.meaning_machine.specs.laws.Runs.{BlocksLast}
 
 -- The blocks stay: those that there are keep what they are made for, their lives and their cells.
 abbrev pub Stay : List Block → List Block → Type 0

@@ -6,7 +6,7 @@ use Rattle.meaning_rules.specs.Bindings.{Binding, type_in}
 use Rattle.meaning_machine.specs.Values.{Place, Block, In, SpotFits}
 use Rattle.meaning_machine.specs.Machine.{object_place, place_from, place_of}
 use Rattle.meaning_machine.specs.Runs.{opening_block}
-use Rattle.meaning_machine.specs.Soundness.{first_blocks}
+use Rattle.meaning_machine.specs.laws.Soundness.{first_blocks}
 
 -- an optional place is there, and fits the type
 abbrev pub FitsType : List Block → Option Place → TypeTree → Type 0

@@ -15,8 +15,8 @@ use Rattle.meaning_machine.specs.Memory.{content_at, with_content, block_with}
 use Rattle.meaning_machine.specs.Code.{ValueCode, statement_code, statements_code}
 use Rattle.meaning_machine.specs.Machine.{EnterBody, Next, Done, Outcome}
 use Rattle.meaning_machine.specs.Runs.{World, opening, opening_block, Move, Write, Starts, Takes, Moves, Runs, body_at}
-use Rattle.meaning_machine.specs.Played.{has_content}
-use Rattle.meaning_machine.specs.Laws.{RunsBegin, FunctionsStart, ActivitiesGoOn, ActivitiesEnd, Holds, ObjectsAreWritten}
+use Rattle.meaning_machine.specs.plain.Playing.{has_content}
+use Rattle.meaning_machine.specs.laws.Runs.{RunsBegin, FunctionsStart, ActivitiesGoOn, ActivitiesEnd, Holds, ObjectsAreWritten}
 use Rattle.meaning_machine.proofs.Lasting.{Stay, stay-same, blocks_stay}
 use Rattle.meaning_machine.proofs.WellTyped.{bindings_among-items}
 

@@ -2,7 +2,7 @@
 use Rattle.std.proofs.Common.{◌≡◌, ℕ, zero, suc, List, [], ◌∷◌, Some, map, slice_get, refl, sym, ap, ◌∙◌}
 use Rattle.meaning_types.specs.Types.{TypeTree, Typed, BaseTree, IntegerTree, PointerTree, flags_of, bare, bare_base}
 use Rattle.meaning_machine.specs.Values.{Spot, Null, Foreign, In, Value, Integer, Pointer, Block, SpotFits, ValueFits, Fits}
-use Rattle.meaning_machine.specs.Soundness.{Agree}
+use Rattle.meaning_machine.specs.laws.Soundness.{Agree}
 
 -- Similar types
 

@@ -10,7 +10,7 @@ use Rattle.meaning_machine.specs.Outcomes.{Answer, Gives, IsFault, IsUndefined}
 use Rattle.meaning_machine.specs.Memory.{load, store}
 use Rattle.meaning_machine.specs.Code.{PlaceCode, Named, Behind, NoPlace, ValueCode, ValueOf, AddressOf, Assignment}
 use Rattle.meaning_machine.specs.Machine.{AfterPlace, ThenLoad, ThenPoint, ThenAssign, AfterValue, ThenMove, ThenStore, ThenGoOn, Control, EnterBody, EnterStatement, EnterPlace, EnterAddress, EnterAssignment, Load, Move, Store, Leave, Finished, place_of, taken_up, gone_on, behind_value, behind_place, entered_name, loaded, moved, written, stored, step}
-use Rattle.meaning_machine.specs.Soundness.{IsUnflagged, Agree, IsPlace, IsValue, IsStatement, PlaceFits, ValueFitsIn, TakesPlace, TakesValue, IsSoundControl, AreSoundBlocks, IsSoundOutcome, first_blocks}
+use Rattle.meaning_machine.specs.laws.Soundness.{IsUnflagged, Agree, IsPlace, IsValue, IsStatement, PlaceFits, ValueFitsIn, TakesPlace, TakesValue, IsSoundControl, AreSoundBlocks, IsSoundOutcome, first_blocks}
 use Rattle.meaning_machine.proofs.Places.{FitsType, place_of-fits}
 use Rattle.meaning_machine.proofs.Similar.{flags-bare, fits-agreeing}
 use Rattle.meaning_machine.proofs.Storage.{adopted-as-it-is, IsSoundLoad, sound-load, IsSoundStore, sound-store}

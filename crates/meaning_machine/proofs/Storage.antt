@@ -8,7 +8,7 @@ use Rattle.meaning_rules.specs.Bindings.{Binding}
 use Rattle.meaning_machine.specs.Values.{Spot, Null, Foreign, In, Value, Integer, Pointer, Place, ForObject, Cell, Block, IsInRange, SpotFits, Fits}
 use Rattle.meaning_machine.specs.Outcomes.{DeadBlock, OutOfBounds, ReadOnly, AccessFault, Answer, Gives, IsFault, IsUndefined}
 use Rattle.meaning_machine.specs.Memory.{adopt, content_at, with_content, block_with, is_made_for, is_read_only, value_of_content, load_block, load_spot, load, store_block, store}
-use Rattle.meaning_machine.specs.Soundness.{IsUnflagged, Agree, first_blocks, PlaceFits, ValueFitsIn, CellsFit, AreSoundBlocks}
+use Rattle.meaning_machine.specs.laws.Soundness.{IsUnflagged, Agree, first_blocks, PlaceFits, ValueFitsIn, CellsFit, AreSoundBlocks}
 use Rattle.meaning_machine.proofs.Conversion.{converted_is_kept}
 use Rattle.meaning_machine.proofs.Similar.{flags-bare, agree-bare, fits-agreeing, slice_get-mapped}
 

@@ -20,7 +20,7 @@ use Rattle.meaning_rules.specs.Evaluation.{Access, Conversion, InAssignment, acc
 use Rattle.meaning_rules.specs.Placed.{Placed, placed_body, placed_behind, placed_in, tokens_before_body, statement_accesses, statement_conversions, placed_accesses, placed_conversions, item_binding}
 use Rattle.meaning_rules.specs.Failures.{IsListing, access_failure, conversion_failure}
 use Rattle.meaning_types.specs.Equality.{are_equal_flags}
-use Rattle.meaning_rules.specs.Judging.{int_flags, behind_pointer, address_of}
+use Rattle.meaning_rules.specs.plain.Judging.{int_flags, behind_pointer, address_of}
 use Rattle.meaning_rules.proofs.Elements.{Contains-nil, Contains-cons_head}
 use Rattle.meaning_types.proofs.Equality.{are_equal_flags-Decides}
 use Rattle.meaning_rules.proofs.MixedSpaces.{stars_mix}
@@ -28,7 +28,7 @@ use Rattle.meaning_rules.proofs.Pointers.{target_of-pointer, behind_pointer-equa
 use Rattle.meaning_rules.proofs.Trees.{type_in-items, bindings_of-item_tree, accesses_in-unit_tree, conversions_in-unit_tree}
 use Rattle.meaning_machine.specs.Code.{ValueCode, statement_code, statements_code, body_code}
 use Rattle.meaning_machine.specs.Runs.{body_at, bindings_among, bindings_in}
-use Rattle.meaning_machine.specs.Soundness.{IsUnflagged, Agree, IsStatement}
+use Rattle.meaning_machine.specs.laws.Soundness.{IsUnflagged, Agree, IsStatement}
 
 -- Silence
 

@@ -7,15 +7,15 @@ use Rattle.meaning_syntax.specs.Binding.{are_bound}
 use Rattle.meaning_syntax.specs.Trees.{unit_tree}
 use Rattle.meaning_types.specs.Types.{TypeTree}
 use Rattle.meaning_rules.specs.Failures.{Failure, IsListing}
-use Rattle.meaning_rules.specs.Judging.{failures_of}
+use Rattle.meaning_rules.specs.plain.Judging.{failures_of}
 use Rattle.meaning_rules.proofs.Units.{listings_exist}
 use Rattle.meaning_machine.specs.Values.{In, Value}
 use Rattle.meaning_machine.specs.Outcomes.{Gives}
 use Rattle.meaning_machine.specs.Memory.{load}
 use Rattle.meaning_machine.specs.Machine.{Control, Outcome}
 use Rattle.meaning_machine.specs.Runs.{World, Move}
-use Rattle.meaning_machine.specs.Played.{played, outcome_of}
-use Rattle.meaning_machine.specs.Examples.{Meets, Ends}
+use Rattle.meaning_machine.specs.plain.Playing.{played, outcome_of}
+use Rattle.meaning_machine.specs.examples.Runs.{Meets, Ends}
 use Rattle.meaning_machine.proofs.Playing.{played_is_run}
 
 -- the tests of names compute

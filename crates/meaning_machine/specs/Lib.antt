@@ -6,10 +6,6 @@ pub mod Memory
 pub mod Code
 pub mod Machine
 pub mod Runs
-pub mod Played
-pub mod Examples
-pub mod ActivityExamples
-pub mod RowExamples
-pub mod StepExamples
-pub mod Laws
-pub mod Soundness
+pub mod plain
+pub mod laws
+pub mod examples

@@ -1,4 +1,4 @@
-ghost use Rattle.meaning_machine.specs.Laws.{AdoptedValuesFit, ConversionsAreInRange, ConversionsKeepNumbers, ConversionsWrap};
+ghost use Rattle.meaning_machine.specs.laws.Runs.{AdoptedValuesFit, ConversionsAreInRange, ConversionsKeepNumbers, ConversionsWrap};
 
 /// A number that is converted to an integer type becomes the one number of it that differs by a multiple
 /// of how many it has, so itself where the type has it; in `_Bool` it becomes 0 or 1 (C11 6.3.1.2, 6.3.1.3).

@@ -1,4 +1,4 @@
-ghost use Rattle.meaning_machine.specs.Laws.{ActivitiesEnd, ActivitiesGoOn, FunctionsStart, ObjectsAreWritten, RunsBegin};
+ghost use Rattle.meaning_machine.specs.laws.Runs.{ActivitiesEnd, ActivitiesGoOn, FunctionsStart, ObjectsAreWritten, RunsBegin};
 
 /// There are runs. Whatever world is reached, each function can be called again, each activity takes its
 /// next step unless this is undefined or a fault, and each fitting value can be written into each object,

@@ -1,8 +1,8 @@
-ghost use Rattle.meaning_machine.specs.Played.{MovesArePlayed, PlayedIsRun, RunIsPlayed};
-ghost use Rattle.meaning_machine.specs.RowExamples.{CellExamples, ConversionExamples, FitExamples, LastExamples, RowExamples};
-ghost use Rattle.meaning_machine.specs.StepExamples.{StepExamples};
-ghost use Rattle.meaning_machine.specs.ActivityExamples.{OthersGoOn, ThirdMeetsFault, ThreeByTurns, ThreeInOrder};
-ghost use Rattle.meaning_machine.specs.Examples.{SpaceIsLost, NoderefIsAccessed, FlaggedIntIsLoaded, SilentUnitLeaves, SilentUnitEnds, SilentUnitCopies, NullIsUndefined, ForeignIsUndefined, ConstIsCopied, IndeterminateIsUndefined, ConstIsAdopted, AddressIsNoPlace, StatementWithoutRowIsFault};
+ghost use Rattle.meaning_machine.specs.plain.Playing.{MovesArePlayed, PlayedIsRun, RunIsPlayed};
+ghost use Rattle.meaning_machine.specs.examples.Rows.{CellExamples, ConversionExamples, FitExamples, LastExamples, RowExamples};
+ghost use Rattle.meaning_machine.specs.examples.Steps.{StepExamples};
+ghost use Rattle.meaning_machine.specs.examples.Activities.{OthersGoOn, ThirdMeetsFault, ThreeByTurns, ThreeInOrder};
+ghost use Rattle.meaning_machine.specs.examples.Runs.{SpaceIsLost, NoderefIsAccessed, FlaggedIntIsLoaded, SilentUnitLeaves, SilentUnitEnds, SilentUnitCopies, NullIsUndefined, ForeignIsUndefined, ConstIsCopied, IndeterminateIsUndefined, ConstIsAdopted, AddressIsNoPlace, StatementWithoutRowIsFault};
 
 /// What the plain program plays is a run.
 pub fn played_is_run()

@@ -1,5 +1,5 @@
-ghost use Rattle.meaning_machine.specs.Played.{FaultsAreUnsafe};
-ghost use Rattle.meaning_machine.specs.Laws.{BlocksLast, MovesAreSound, RunsAreSound, SilenceIsSafe, StepsAreSound};
+ghost use Rattle.meaning_machine.specs.plain.Playing.{FaultsAreUnsafe};
+ghost use Rattle.meaning_machine.specs.laws.Runs.{BlocksLast, MovesAreSound, RunsAreSound, SilenceIsSafe, StepsAreSound};
 
 /// Each move keeps what the blocks are made for, and dead blocks stay dead.
 #[tactic(auto, using(crate::proofs::Lasting::blocks_last))]

@@ -9,7 +9,7 @@ use Rattle.std.proofs.lemmas.Map.Text.{is_eq-slice_cmp}
 use Rattle.std.proofs.lemmas.Slice.Eq.{bytes_eq-Decides}
 use Rattle.meaning_outside.specs.Files.{FileMap, file_at}
 use Rattle.meaning_outside.specs.Loads.{Given, Whole, Missing, TooLong, Failed, NoMemory, Loaded, MayGive, AgreesWithLoad, AgreesWith, NoneIsOf}
-use Rattle.meaning_outside.specs.Laws.{LoadsOfEachPathOnceAgree}
+use Rattle.meaning_outside.specs.laws.Loads.{LoadsOfEachPathOnceAgree}
 
 -- The order of paths tells them apart
 

@@ -1,5 +1,5 @@
 pub mod Faults
 pub mod Files
 pub mod Loads
-pub mod Laws
-pub mod Examples
+pub mod laws
+pub mod examples

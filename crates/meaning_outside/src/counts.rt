@@ -1,4 +1,4 @@
-ghost use Rattle.meaning_outside.specs.Examples.{AgreementExamples, FileExamples, RisenExamples, ToldExamples, TwoSinkExamples};
+ghost use Rattle.meaning_outside.specs.examples.Outside.{AgreementExamples, FileExamples, RisenExamples, ToldExamples, TwoSinkExamples};
 
 /// Counts rise, and calls tell of it, files are found, and agree with what was loaded, where one can tell so
 /// by eye.

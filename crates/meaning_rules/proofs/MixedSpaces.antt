@@ -9,7 +9,7 @@ use Rattle.meaning_rules.specs.Typing.{behind_stars, int_with, declared_type}
 use Rattle.meaning_syntax.specs.Binding.{Declared}
 use Rattle.meaning_types.specs.Equality.{are_equal_flags}
 use Rattle.meaning_types.proofs.Equality.{are_equal_flags-Decides}
-use Rattle.meaning_rules.specs.Judging.{int_flags, is_flagged_int}
+use Rattle.meaning_rules.specs.plain.Judging.{int_flags, is_flagged_int}
 
 -- Pointers to ints
 

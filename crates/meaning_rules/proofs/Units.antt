@@ -9,9 +9,9 @@ use Rattle.meaning_syntax.specs.Binding.{are_bound, item_statements, statement_b
 use Rattle.meaning_rules.specs.Evaluation.{accesses_in, conversions_in}
 use Rattle.meaning_rules.specs.Placed.{Placed, placed_body, placed_behind, placed_in, tokens_before_body, placed_accesses, placed_conversions}
 use Rattle.meaning_rules.specs.Failures.{Fails}
-use Rattle.meaning_rules.specs.Judging.{judged_statement, judged_placed, failures_of}
+use Rattle.meaning_rules.specs.plain.Judging.{judged_statement, judged_placed, failures_of}
 use Rattle.meaning_syntax.specs.Trees.{unit_tree}
-use Rattle.meaning_rules.specs.Laws.{ListingsExist, ListingsAreUnique}
+use Rattle.meaning_rules.specs.laws.Listings.{ListingsExist, ListingsAreUnique}
 use Rattle.meaning_rules.proofs.Order.{AreOrdered-unique, StandIn, StandIn-nil, StandIn-append_texts, StandIn-wider}
 use Rattle.meaning_rules.proofs.Failing.{AreThose, AreThose-nil, AreThose-append}
 use Rattle.meaning_rules.proofs.Trees.{accesses_in-unit_tree, conversions_in-unit_tree}

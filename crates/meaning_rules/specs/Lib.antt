@@ -5,8 +5,6 @@ pub mod Failures
 pub mod Text
 pub mod Typing
 pub mod Placed
-pub mod Judging
-pub mod Laws
-pub mod Examples
-pub mod TreeExamples
-pub mod OrderExamples
+pub mod plain
+pub mod laws
+pub mod examples

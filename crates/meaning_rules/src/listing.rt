@@ -1,7 +1,7 @@
-ghost use Rattle.meaning_rules.specs.Examples.{CheckedFileIsFirst, SpaceIsLost, SpaceBehindTwoStarsIsLost, TwoStarsMixSpaces, StarsAloneDoNotMix, NoderefIsAccessed, SpaceIsAccessed, NoderefIsToldBeforeSpace, LaterSpaceCounts, EqualFlagsPass, PlainIntsPass, NoderefIsStoredThrough, NoderefIsLostBehindPointer, LoadAloneWarns, AddressPasses};
-ghost use Rattle.meaning_rules.specs.TreeExamples.{DeclarationExamples, ExpressionExamples};
-ghost use Rattle.meaning_rules.specs.OrderExamples.{OrderExamples};
-ghost use Rattle.meaning_rules.specs.Laws.{ListingsExist, ListingsAreUnique};
+ghost use Rattle.meaning_rules.specs.examples.Failures.{CheckedFileIsFirst, SpaceIsLost, SpaceBehindTwoStarsIsLost, TwoStarsMixSpaces, StarsAloneDoNotMix, NoderefIsAccessed, SpaceIsAccessed, NoderefIsToldBeforeSpace, LaterSpaceCounts, EqualFlagsPass, PlainIntsPass, NoderefIsStoredThrough, NoderefIsLostBehindPointer, LoadAloneWarns, AddressPasses};
+ghost use Rattle.meaning_rules.specs.examples.Trees.{DeclarationExamples, ExpressionExamples};
+ghost use Rattle.meaning_rules.specs.examples.Order.{OrderExamples};
+ghost use Rattle.meaning_rules.specs.laws.Listings.{ListingsExist, ListingsAreUnique};
 
 /// The failures of a unit can be listed in order in exactly one way.
 pub fn each_unit_has_one_listing()

@@ -1,7 +1,7 @@
 -- One list of spellings derives one tree at most.
 use Rattle.std.proofs.Common.{◌≡◌, refl, sym, ◌∙◌, ap}
 use Rattle.meaning_syntax.specs.Trees.{unit_tree}
-use Rattle.meaning_syntax.specs.Laws.{ReadUnitsDerive, DerivedTreesAreThose, DerivedTreesAreUnique, DerivedTreesAreInFirstForm}
+use Rattle.meaning_syntax.specs.laws.Form.{ReadUnitsDerive, DerivedTreesAreThose, DerivedTreesAreUnique, DerivedTreesAreInFirstForm}
 use Rattle.meaning_syntax.proofs.UnitReading.{IsUnit-read_unit, read_unit-IsUnit}
 
 pub read_units_derive : ReadUnitsDerive

@@ -5,7 +5,7 @@ use Rattle.std.proofs.lemmas.Bool.{and_from, and_parts}
 use Rattle.std.proofs.lemmas.Option.{same_Some}
 use Rattle.meaning_syntax.specs.Words.{is_name, is_keyword, is_reserved}
 use Rattle.meaning_syntax.specs.Items.{Word, Statement, Item, Object, Function, word_spelled, further_word_spelled, word_fits, attribute_spelled, statement_spelled, statement_fits, item_spelled, item_fits}
-use Rattle.meaning_syntax.specs.Reading.{Texts, after, read_text, read_many, read_word, read_further_word, read_word_list, words_behind, read_attribute, read_stars, read_statement, read_object, read_opening, read_function, read_item}
+use Rattle.meaning_syntax.specs.plain.Reading.{Texts, after, read_text, read_many, read_word, read_further_word, read_word_list, words_behind, read_attribute, read_stars, read_statement, read_object, read_opening, read_function, read_item}
 use Rattle.meaning_syntax.proofs.Readers.{after_parts, or_else_cases, read_text_parts, read_text_then, read_text_elsewhere, read_passing_then, reads_then, test_then, bytes_eq-tests_differ, ReadsSpelled, FindsSpelled, Shrinks, Shrinks-from_spelled, read_many_spelled, read_many_here}
 use Rattle.meaning_syntax.proofs.WordReading.{IsSpelledAt, read_word_spelled, read_word_here, read_further_word_spelled, read_further_word_here, read_further_word-Shrinks, read_further_word_none, read_statement_spelled, read_statement_here, read_statement-Shrinks, read_statement_none, read_stars_spelled, read_stars_here}
 

@@ -4,7 +4,7 @@ use Rattle.std.specs.List.{list_all}
 use Rattle.std.proofs.lemmas.Bool.{and_from, and_parts, cond-false, false_from_ne_true, both_ways}
 use Rattle.std.proofs.lemmas.Option.{none-some, same_Some, cond_some}
 use Rattle.std.proofs.lemmas.Slice.Eq.{bytes_eq-Decides}
-use Rattle.meaning_syntax.specs.Reading.{Texts, after, or_else, read_text, read_passing, before_others, read_up_to, read_many, if_whole}
+use Rattle.meaning_syntax.specs.plain.Reading.{Texts, after, or_else, read_text, read_passing, before_others, read_up_to, read_many, if_whole}
 
 -- both readers found something
 pub after_parts : {A B : Type 0} (o : Option A) (next : A → Option B) (y : B) → after o next ≡ Some y → (x : A) × (o ≡ Some x) × (next x ≡ Some y)

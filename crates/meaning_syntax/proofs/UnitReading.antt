@@ -5,7 +5,7 @@ use Rattle.std.proofs.lemmas.Option.{cond_some}
 use Rattle.meaning_syntax.specs.Items.{Item, item_spelled, item_fits}
 use Rattle.meaning_syntax.specs.Binding.{are_bound}
 use Rattle.meaning_syntax.specs.Form.{IsSpelled, IsUnit}
-use Rattle.meaning_syntax.specs.Reading.{Texts, if_whole, read_many, read_object, read_function, read_item, read_items, read_unit}
+use Rattle.meaning_syntax.specs.plain.Reading.{Texts, if_whole, read_many, read_object, read_function, read_item, read_items, read_unit}
 use Rattle.meaning_syntax.proofs.Readers.{after_parts, if_whole_parts, read_many_spelled, read_many_here}
 use Rattle.meaning_syntax.proofs.ItemReading.{read_item_spelled, read_item_here, read_item-Shrinks}
 

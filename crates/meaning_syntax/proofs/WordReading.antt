@@ -5,7 +5,7 @@ use Rattle.std.proofs.lemmas.Option.{same_Some}
 use Rattle.std.proofs.lemmas.Slice.Eq.{bytes_eq-Decides}
 use Rattle.meaning_syntax.specs.Words.{is_name, is_space_id, is_keyword, is_reserved}
 use Rattle.meaning_syntax.specs.Items.{Noderef, AddressSpace, Statement, Assign, AssignThrough, AssignAddress, word_spelled, further_word_spelled, word_fits, statement_spelled, statement_fits}
-use Rattle.meaning_syntax.specs.Reading.{Texts, or_else, read_noderef, read_space, read_word, read_further_word, read_assignment, read_assignment_through, read_address_assignment, read_statement, read_stars}
+use Rattle.meaning_syntax.specs.plain.Reading.{Texts, or_else, read_noderef, read_space, read_word, read_further_word, read_assignment, read_assignment_through, read_address_assignment, read_statement, read_stars}
 use Rattle.meaning_syntax.proofs.Readers.{or_else_cases, read_text_then, read_text_elsewhere, read_passing_then, bytes_eq-tests_differ, ReadsSpelled, FindsSpelled, Shrinks, Shrinks-from_spelled}
 
 -- what a reader found, with what is left behind it, is spelled so, and fits

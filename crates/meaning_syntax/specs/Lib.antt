@@ -3,7 +3,6 @@ pub mod Items
 pub mod Binding
 pub mod Form
 pub mod Trees
-pub mod Reading
-pub mod Laws
-pub mod Examples
-pub mod TreeExamples
+pub mod plain
+pub mod laws
+pub mod examples

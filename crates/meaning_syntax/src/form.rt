@@ -1,6 +1,6 @@
-ghost use Rattle.meaning_syntax.specs.TreeExamples.{TreeExamples};
-ghost use Rattle.meaning_syntax.specs.Examples.{ReadExamples, MisspelledExamples, UnboundExamples, SpaceExamples};
-ghost use Rattle.meaning_syntax.specs.Laws.{
+ghost use Rattle.meaning_syntax.specs.examples.Trees.{TreeExamples};
+ghost use Rattle.meaning_syntax.specs.examples.Units.{ReadExamples, MisspelledExamples, UnboundExamples, SpaceExamples};
+ghost use Rattle.meaning_syntax.specs.laws.Form.{
   DerivedTreesAreInFirstForm,
   DerivedTreesAreThose,
   DerivedTreesAreUnique,

@@ -3,7 +3,7 @@ use Rattle.std.proofs.Common.{◌≡◌, List, ◌⊎◌, inl, inr, refl, subst}
 use Rattle.meaning_text.specs.Logical.{SourceByte}
 use Rattle.meaning_text.specs.Tokens.{Tok, Context, LexFault}
 use Rattle.meaning_text.specs.Lexing.{Lexed, Tokens, Refused, lexed}
-use Rattle.meaning_text.specs.Laws.{TokensExist, TokensAreUnique, FaultsExist, FaultsAreUnique, HasTokensAlone, HasFaultAlone, EachTextHasOneAnswer}
+use Rattle.meaning_text.specs.laws.Tokens.{TokensExist, TokensAreUnique, FaultsExist, FaultsAreUnique, HasTokensAlone, HasFaultAlone, EachTextHasOneAnswer}
 use Rattle.meaning_text.proofs.LexingTokens.{lexed-Lexes, lexed-Opens}
 use Rattle.meaning_text.proofs.LexingAnswers.{HasAnswer, HasAnswer-lexed}
 

@@ -5,7 +5,7 @@ use Rattle.std.proofs.lemmas.Bool.Decides.{nat_tests}
 use Rattle.meaning_text.specs.Bytes.{backslash, new_line}
 use Rattle.meaning_text.specs.Places.{At, behind_byte}
 use Rattle.meaning_text.specs.Logical.{SourceByte, closing_line, logical_from}
-use Rattle.meaning_text.specs.Laws.{EndsItsLine, LogicalTextsEndTheirLine}
+use Rattle.meaning_text.specs.laws.Tokens.{EndsItsLine, LogicalTextsEndTheirLine}
 
 -- what comes of a byte with others behind it
 abbrev logical_front : Bool → Bool → At → ℕ → ℕ → List ℕ → List SourceByte

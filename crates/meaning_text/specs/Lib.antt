@@ -10,5 +10,5 @@ pub mod Tokens
 pub mod Terminals
 pub mod Fronts
 pub mod Lexing
-pub mod Laws
-pub mod Examples
+pub mod laws
+pub mod examples

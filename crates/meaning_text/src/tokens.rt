@@ -1,5 +1,5 @@
-ghost use Rattle.meaning_text.specs.Examples.{LogicalExamples, SpellingExamples, TextExamples, FaultExamples, TableFacts};
-ghost use Rattle.meaning_text.specs.Laws.{TokensExist, TokensAreUnique, FaultsExist, FaultsAreUnique, EachTextHasOneAnswer, LogicalTextsEndTheirLine};
+ghost use Rattle.meaning_text.specs.examples.Tokens.{LogicalExamples, SpellingExamples, TextExamples, FaultExamples, TableFacts};
+ghost use Rattle.meaning_text.specs.laws.Tokens.{TokensExist, TokensAreUnique, FaultsExist, FaultsAreUnique, EachTextHasOneAnswer, LogicalTextsEndTheirLine};
 
 /// A text has one list of tokens, or else it has one fault, at the first opening that is never
 /// closed. The plain function computes which.

@@ -1,4 +1,4 @@
 pub mod Trees
 pub mod Nodes
-pub mod Laws
-pub mod Examples
+pub mod laws
+pub mod examples

@@ -1,5 +1,5 @@
-ghost use Rattle.meaning_tree.specs.Examples.{NodeExamples, PartExamples};
-ghost use Rattle.meaning_tree.specs.Laws.{AddedNodeGrows, AddedNodeStands, AddedNodeStandsBehind, FurtherChildStands, GrowthIsReflexive, GrowthIsTransitive, JoinedPartGrows, JoinedStandBefore, NoTreesCome, NothingStandsBefore, PartsAreUnique, PartsStay, TreesAreUnique, TreesExist, TreesStay, TreesStayBehind, TreesStayInFront};
+ghost use Rattle.meaning_tree.specs.examples.Trees.{NodeExamples, PartExamples};
+ghost use Rattle.meaning_tree.specs.laws.Trees.{AddedNodeGrows, AddedNodeStands, AddedNodeStandsBehind, FurtherChildStands, GrowthIsReflexive, GrowthIsTransitive, JoinedPartGrows, JoinedStandBefore, NoTreesCome, NothingStandsBefore, PartsAreUnique, PartsStay, TreesAreUnique, TreesExist, TreesStay, TreesStayBehind, TreesStayInFront};
 
 /// A node stands for at most one tree, and for one where children stand before their parents.
 pub fn each_node_stands_for_one_tree<Spelling>()

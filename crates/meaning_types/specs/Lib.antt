@@ -3,5 +3,5 @@ pub mod Ranges
 pub mod Equality
 pub mod Spaces
 pub mod Spelling
-pub mod Laws
-pub mod Examples
+pub mod laws
+pub mod examples

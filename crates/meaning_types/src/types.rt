@@ -1,5 +1,5 @@
-ghost use Rattle.meaning_types.specs.Laws.{EqualKindsPass, EqualFlagsPass, SimilarTypesPass};
-ghost use Rattle.meaning_types.specs.Examples.{RangeExamples, SpellingExamples, LevelExamples, MixedExamples, UnmixedExamples};
+ghost use Rattle.meaning_types.specs.laws.Types.{EqualKindsPass, EqualFlagsPass, SimilarTypesPass};
+ghost use Rattle.meaning_types.specs.examples.Types.{RangeExamples, SpellingExamples, LevelExamples, MixedExamples, UnmixedExamples};
 
 /// Kinds have the ranges of their widths, and single types are spelled, lose their qualifiers and
 /// flags, and mix spaces as one can tell by eye.

@@ -1,6 +1,6 @@
 -- Each further word joins those so far, and where there is none they are all.
 use Rattle.std.proofs.Common.{sym}
-use Rattle.meaning_syntax.specs.Reading.{read_further_word}
+use Rattle.meaning_syntax.specs.plain.Reading.{read_further_word}
 use Rattle.meaning_syntax.proofs.WordReading.{read_further_word-Shrinks}
 use Rattle.first_form.specs.Known.{IsKnownWord}
 use Rattle.first_form.specs.Seen.{word_of}

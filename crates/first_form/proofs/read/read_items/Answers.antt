@@ -3,7 +3,7 @@ use Rattle.std.proofs.Common.{IfSome, sym, ap, subst, ◌∙◌, arith}
 use Rattle.std.specs.Option.{option_map}
 use Rattle.std.proofs.lemmas.Bool.Decides.{nat_tests}
 use Rattle.std.proofs.lemmas.List.{length-map}
-use Rattle.meaning_syntax.specs.Reading.{read_item, read_items}
+use Rattle.meaning_syntax.specs.plain.Reading.{read_item, read_items}
 use Rattle.meaning_syntax.proofs.ItemReading.{read_item-Shrinks}
 use Rattle.first_form.specs.Reader.{IsKnownFound, found_of}
 use Rattle.first_form.specs.Known.{IsKnownItem}

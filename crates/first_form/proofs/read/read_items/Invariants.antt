@@ -1,6 +1,6 @@
 -- The items so far lead on to all of them.
 use Rattle.std.proofs.Common.{length}
-use Rattle.meaning_syntax.specs.Reading.{read_item, read_many}
+use Rattle.meaning_syntax.specs.plain.Reading.{read_item, read_many}
 use Rattle.first_form.specs.Known.{AreKnown}
 use Rattle.first_form.specs.Reader.{AreKnownTokens}
 use Rattle.first_form.specs.Seen.{items_of, spellings_of}

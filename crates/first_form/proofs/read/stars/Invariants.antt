@@ -1,6 +1,6 @@
 -- The stars so far, and those of the rest, are all of them.
 use Rattle.std.proofs.Common.{◌≡◌, ◌+◌, length}
-use Rattle.meaning_syntax.specs.Reading.{read_stars}
+use Rattle.meaning_syntax.specs.plain.Reading.{read_stars}
 use Rattle.first_form.specs.Reader.{AreKnownTokens}
 use Rattle.first_form.specs.Seen.{spellings_of}
 use Rattle.first_form.proofs.StarLemmas.{CountsOn}

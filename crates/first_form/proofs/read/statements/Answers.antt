@@ -1,6 +1,6 @@
 -- Each statement joins those so far, and where there is none they are all.
 use Rattle.std.proofs.Common.{sym}
-use Rattle.meaning_syntax.specs.Reading.{read_statement}
+use Rattle.meaning_syntax.specs.plain.Reading.{read_statement}
 use Rattle.meaning_syntax.proofs.WordReading.{read_statement-Shrinks}
 use Rattle.first_form.specs.Known.{IsKnownStatement}
 use Rattle.first_form.specs.Seen.{statement_of}

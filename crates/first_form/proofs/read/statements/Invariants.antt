@@ -1,7 +1,7 @@
 -- The statements so far lead on to all of them.
 use Rattle.std.proofs.Common.{length, map}
 use Rattle.std.specs.List.{All}
-use Rattle.meaning_syntax.specs.Reading.{read_many, read_statement}
+use Rattle.meaning_syntax.specs.plain.Reading.{read_many, read_statement}
 use Rattle.first_form.specs.Known.{IsKnownStatement}
 use Rattle.first_form.specs.Reader.{AreKnownTokens}
 use Rattle.first_form.specs.Seen.{spellings_of, statement_of}

@@ -5,9 +5,9 @@ use Rattle.std.specs.Int.Signed.{le_z_yes}
 use Rattle.std.proofs.lemmas.Option.{none-some, same_Some}
 use Rattle.meaning_machine.specs.Values.{Block}
 use Rattle.meaning_machine.specs.Memory.{is_read_only}
-use Rattle.meaning_machine.specs.Soundness.{Last}
-use Rattle.meaning_machine.specs.RowExamples.{int_block}
-use Rattle.meaning_machine.specs.Examples.{plain_int, const_int, indeterminate_block}
+use Rattle.meaning_machine.specs.laws.Soundness.{Last}
+use Rattle.meaning_machine.specs.examples.Rows.{int_block}
+use Rattle.meaning_machine.specs.examples.Runs.{plain_int, const_int, indeterminate_block}
 use Rattle.meaning_machine.proofs.runs.worked_rows.Goals as goal
 
 -- of lists of one block, the second outlasts the first

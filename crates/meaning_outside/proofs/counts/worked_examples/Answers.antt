@@ -6,7 +6,7 @@ use Rattle.std.specs.Cmp.Lexicographic.{nat_list_cmp_total}
 use Rattle.std.specs.FinMap.{get-from_entries}
 use Rattle.meaning_outside.specs.Faults.{Rose}
 use Rattle.meaning_outside.specs.Files.{file_at}
-use Rattle.meaning_outside.specs.Examples.{two_entries, two_files}
+use Rattle.meaning_outside.specs.examples.Outside.{two_entries, two_files}
 use Rattle.meaning_outside.proofs.counts.worked_examples.Goals as goal
 
 neither_rose : Rose 7 7 ⊎ Rose 3 3 → ⊥

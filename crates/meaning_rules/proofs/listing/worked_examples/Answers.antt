@@ -11,9 +11,9 @@ use Rattle.meaning_syntax.specs.Words.{is_name, is_keyword, is_reserved, is_spac
 use Rattle.meaning_syntax.specs.Items.{Item, item_spelled, item_fits}
 use Rattle.meaning_syntax.specs.Binding.{are_bound}
 use Rattle.meaning_rules.specs.Failures.{Failure}
-use Rattle.meaning_rules.specs.Judging.{failures_of}
+use Rattle.meaning_rules.specs.plain.Judging.{failures_of}
 use Rattle.meaning_rules.specs.Text.{warnings_text}
-use Rattle.meaning_rules.specs.Examples.{Warns, tokens_in, user_flags}
+use Rattle.meaning_rules.specs.examples.Failures.{Warns, tokens_in, user_flags}
 use Rattle.meaning_rules.proofs.MixedSpaces.{stars_mix}
 use Rattle.meaning_rules.proofs.listing.worked_examples.Goals as goal
 

@@ -1,7 +1,7 @@
 -- Each example computes.
 use Rattle.std.proofs.Common.{ℕ, refl}
 use Rattle.meaning_syntax.specs.Words.{is_keyword, is_reserved, is_predefined_macro, is_name, is_space_number, is_space_name, is_space_id}
-use Rattle.meaning_syntax.specs.Reading.{read_up_to, read_many, read_noderef, read_space, read_word, read_further_word, read_word_list, read_attribute, read_stars, read_object, read_assignment, read_assignment_through, read_address_assignment, read_statement, read_opening, read_function, read_item, read_items, read_unit}
+use Rattle.meaning_syntax.specs.plain.Reading.{read_up_to, read_many, read_noderef, read_space, read_word, read_further_word, read_word_list, read_attribute, read_stars, read_object, read_assignment, read_assignment_through, read_address_assignment, read_statement, read_opening, read_function, read_item, read_items, read_unit}
 use Rattle.meaning_syntax.proofs.form.worked_examples.Goals as goal
 
 -- names what an example opens, each reader and each test of a word

@@ -5,7 +5,7 @@ use Rattle.vocabulary.specs.declared.token_kind.TokenKind.TheVariants.{Identifie
 use Rattle.meaning_text.specs.Punctuators.{own_spelling, plain_punctuators, digraphs, punctuators, punctuator_of}
 use Rattle.meaning_text.specs.Kinds.{kind_in}
 use Rattle.meaning_text.specs.Fronts.{front_of}
-use Rattle.meaning_text.specs.Examples.{IsFoundAs}
+use Rattle.meaning_text.specs.examples.Tokens.{IsFoundAs}
 use Rattle.meaning_text.proofs.tokens.worked_examples.Goals as goal
 
 -- names what an example opens

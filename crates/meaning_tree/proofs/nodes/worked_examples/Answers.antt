@@ -3,7 +3,7 @@ use Rattle.std.proofs.Common.{ℕ, ◌<◌, ◌≤◌, [], ◌∷◌, codes, ref
 use Rattle.std.proofs.lemmas.List.Elements.{All-nil, All-cons}
 use Rattle.vocabulary.specs.declared.node_kind.NodeKind.TheVariants.{Name, Assignment, ExpressionStatement}
 use Rattle.meaning_tree.specs.Nodes.{ChildrenStandBefore}
-use Rattle.meaning_tree.specs.Examples.{node_at, assignment_nodes}
+use Rattle.meaning_tree.specs.examples.Trees.{node_at, assignment_nodes}
 use Rattle.meaning_tree.proofs.Finding.{stand_before-nil, stand_before-added}
 use Rattle.meaning_tree.proofs.nodes.worked_examples.Goals as goal
 

@@ -6,7 +6,7 @@ use Rattle.vocabulary.specs.declared.words.TheConstants.{KEYWORDS, PREDEFINED_MA
 use Rattle.meaning_text.specs.Bytes.{space}
 use Rattle.meaning_syntax.specs.Words.{is_name, is_space_id}
 use Rattle.meaning_syntax.specs.Items.{Item, Object, Function, Noderef, AddressSpace, Assign, AssignThrough, AssignAddress}
-use Rattle.meaning_syntax.specs.Reading.{Texts, read_items, read_unit}
+use Rattle.meaning_syntax.specs.plain.Reading.{Texts, read_items, read_unit}
 
 -- a byte more in front of the first text
 abbrev pub in_front : ℕ → Texts → Texts

@@ -6,7 +6,7 @@ use Rattle.meaning_text.specs.Tokens.{Tok}
 use Rattle.meaning_rules.specs.Failures.{Failure}
 use Rattle.meaning_answer.specs.Command.{BadWord, Check, request_of}
 use Rattle.meaning_answer.specs.Answer.{most_bytes, most_tokens, warned}
-use Rattle.meaning_answer.specs.Answering.{bounded_reply, text_reply, file_reply, reply_to}
+use Rattle.meaning_answer.specs.plain.Answering.{bounded_reply, text_reply, file_reply, reply_to}
 
 -- the reply to the check of `t.c` where it has this text
 abbrev pub checked : List ℕ → Reply

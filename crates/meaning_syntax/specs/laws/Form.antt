@@ -4,7 +4,7 @@ use Rattle.meaning_tree.specs.Trees.{SyntaxTree}
 use Rattle.meaning_syntax.specs.Items.{Item}
 use Rattle.meaning_syntax.specs.Form.{IsSpelled, IsUnit}
 use Rattle.meaning_syntax.specs.Trees.{unit_tree, IsInFirstForm, Derives}
-use Rattle.meaning_syntax.specs.Reading.{Texts, read_items, read_unit}
+use Rattle.meaning_syntax.specs.plain.Reading.{Texts, read_items, read_unit}
 
 -- what the plain program reads is spelled so
 abbrev pub ReadItemsAreSpelled : Type 0

@@ -3,13 +3,13 @@ use Rattle.std.specs.Prelude.{◌≡◌, true, List, [], ◌∷◌, ◌++◌, So
 use Rattle.meaning_types.specs.Types.{Flags}
 use Rattle.meaning_rules.specs.Bindings.{Binding, pointer_to}
 use Rattle.meaning_rules.specs.Typing.{int_with}
-use Rattle.meaning_rules.specs.Examples.{noderef_flags}
+use Rattle.meaning_rules.specs.examples.Failures.{noderef_flags}
 use Rattle.meaning_machine.specs.Values.{Null, Foreign, Value, Pointer, Place, ForObject, Block}
 use Rattle.meaning_machine.specs.Outcomes.{NullPointer, AccessFault, ShapeFault}
 use Rattle.meaning_machine.specs.Code.{Named}
 use Rattle.meaning_machine.specs.Machine.{ThenLoad, AfterValue, ThenStore, ThenGoOn, EnterBody, EnterPlace, Load, Move, Store, Leave, Finished, Next, Done, Undefined, Fault, step}
-use Rattle.meaning_machine.specs.Examples.{plain_int, int_of, object_spot}
-use Rattle.meaning_machine.specs.RowExamples.{living, space_flags}
+use Rattle.meaning_machine.specs.examples.Runs.{plain_int, int_of, object_spot}
+use Rattle.meaning_machine.specs.examples.Rows.{living, space_flags}
 
 -- `extern int *p; extern int *q; void f(void) { .. }`
 abbrev pub two_pointers : List Binding

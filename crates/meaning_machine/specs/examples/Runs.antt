@@ -12,14 +12,14 @@ use Rattle.meaning_rules.specs.Bindings.{Binding, pointer_to}
 use Rattle.meaning_rules.specs.Typing.{int_with}
 use Rattle.meaning_rules.specs.Evaluation.{InAssignment}
 use Rattle.meaning_rules.specs.Failures.{Failure, SpacesMixed, FlaggedAccess, IsListing}
-use Rattle.meaning_rules.specs.Examples.{user_flags, user_words, noderef_flags, function_of}
+use Rattle.meaning_rules.specs.examples.Failures.{user_flags, user_words, noderef_flags, function_of}
 use Rattle.meaning_machine.specs.Values.{Spot, Null, Foreign, In, Value, Integer, Pointer, ForObject, Block}
 use Rattle.meaning_machine.specs.Outcomes.{NullPointer, ForeignPointer, IndeterminateValue, AccessFault, SpaceFault, ShapeFault, Gives, IsUndefined}
 use Rattle.meaning_machine.specs.Memory.{adopt, load}
 use Rattle.meaning_machine.specs.Code.{ValueCode, statement_code}
 use Rattle.meaning_machine.specs.Machine.{Control, EnterStatement, Leave, Finished, Outcome, Next, Done, Undefined, Fault, step}
 use Rattle.meaning_machine.specs.Runs.{World, Move, Start, Step, Write, Runs}
-use Rattle.meaning_machine.specs.Played.{onto, outcome_of}
+use Rattle.meaning_machine.specs.plain.Playing.{onto, outcome_of}
 
 -- The items are a unit of the first form with these failures, and the moves, the first one first, are a run of its
 -- tree behind which the activity's next step has this outcome.

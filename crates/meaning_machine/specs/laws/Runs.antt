@@ -16,7 +16,7 @@ use Rattle.meaning_machine.specs.Memory.{adopt, content_at}
 use Rattle.meaning_machine.specs.Code.{statement_code}
 use Rattle.meaning_machine.specs.Machine.{Control, EnterBody, Finished, Next, Done, step}
 use Rattle.meaning_machine.specs.Runs.{World, opening, Move, Start, Step, Write, Moves, Runs, IsSafe, bindings_in}
-use Rattle.meaning_machine.specs.Soundness.{Last, AreSoundBlocks, IsSoundControl, IsSoundOutcome, IsSoundWorld}
+use Rattle.meaning_machine.specs.laws.Soundness.{Last, AreSoundBlocks, IsSoundControl, IsSoundOutcome, IsSoundWorld}
 
 -- blocks outlast each move, of units with failures too
 abbrev pub BlocksLast : Type 0

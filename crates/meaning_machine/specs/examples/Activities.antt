@@ -6,12 +6,12 @@ use Rattle.meaning_rules.specs.Bindings.{pointer_to}
 use Rattle.meaning_rules.specs.Typing.{int_with}
 use Rattle.meaning_rules.specs.Evaluation.{InAssignment}
 use Rattle.meaning_rules.specs.Failures.{SpacesMixed}
-use Rattle.meaning_rules.specs.Examples.{user_flags, user_words, function_of}
+use Rattle.meaning_rules.specs.examples.Failures.{user_flags, user_words, function_of}
 use Rattle.meaning_machine.specs.Values.{Pointer}
 use Rattle.meaning_machine.specs.Outcomes.{NullPointer, SpaceFault}
 use Rattle.meaning_machine.specs.Machine.{Finished, Undefined, Fault}
 use Rattle.meaning_machine.specs.Runs.{Move, Start, Step, Write}
-use Rattle.meaning_machine.specs.Examples.{Meets, Ends, plain_int, int_of, object_spot, steps, steps_of, through_unit}
+use Rattle.meaning_machine.specs.examples.Runs.{Meets, Ends, plain_int, int_of, object_spot, steps, steps_of, through_unit}
 
 -- `extern int a; extern int b; extern int c; extern int d;` and functions with `b = a;`, `c = b;` and `d = c;`
 abbrev pub chain_unit : List Item

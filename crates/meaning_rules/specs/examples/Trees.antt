@@ -10,7 +10,7 @@ use Rattle.meaning_rules.specs.Bindings.{Binding, pointer_to, bindings_of, type_
 use Rattle.meaning_rules.specs.Expressions.{no_fact, fact_of}
 use Rattle.meaning_rules.specs.Evaluation.{ForValue, InAssignment, accesses_of, conversions_of, accesses_in}
 use Rattle.meaning_rules.specs.Typing.{int_with}
-use Rattle.meaning_rules.specs.Examples.{function_of}
+use Rattle.meaning_rules.specs.examples.Failures.{function_of}
 
 -- the flags that `__attribute__((noderef))` gives
 abbrev pub only_noderef : Flags

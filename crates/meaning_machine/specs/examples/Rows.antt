@@ -3,20 +3,20 @@ use Rattle.std.specs.Prelude.{◌≡◌, ℕ, ◌^◌, Bool, true, false, ℤ, p
 use Rattle.vocabulary.specs.declared.int_kind.IntKind.TheVariants as kinds
 use Rattle.meaning_types.specs.Types.{NumberedSpace, Flags, TypeTree}
 use Rattle.meaning_types.specs.Ranges.{greatest}
-use Rattle.meaning_types.specs.Examples.{plain, signed_kinds, unsigned_kinds}
+use Rattle.meaning_types.specs.examples.Types.{plain, signed_kinds, unsigned_kinds}
 use Rattle.meaning_tree.specs.Trees.{SyntaxTree}
 use Rattle.meaning_syntax.specs.Items.{Object}
 use Rattle.meaning_syntax.specs.Trees.{unit_tree}
 use Rattle.meaning_rules.specs.Bindings.{pointer_to}
 use Rattle.meaning_rules.specs.Typing.{int_with}
-use Rattle.meaning_rules.specs.Examples.{noderef_flags, function_of}
+use Rattle.meaning_rules.specs.examples.Failures.{noderef_flags, function_of}
 use Rattle.meaning_machine.specs.Values.{Spot, Null, Foreign, In, Value, Integer, Pointer, ForObject, ForFunction, Cell, Block, Fits}
 use Rattle.meaning_machine.specs.Conversion.{converted}
 use Rattle.meaning_machine.specs.Outcomes.{DeadBlock, ForeignPointer, OutOfBounds, ReadOnly, AccessFault, SpaceFault, RestrictedFault, ShapeFault, Gives, IsFault, IsUndefined}
 use Rattle.meaning_machine.specs.Memory.{adopt, content_at, with_content, block_with, load, store}
 use Rattle.meaning_machine.specs.Runs.{IsWritable, opening, Write, Moves}
-use Rattle.meaning_machine.specs.Soundness.{Last}
-use Rattle.meaning_machine.specs.Examples.{plain_int, const_int, int_of, object_spot, indeterminate_block}
+use Rattle.meaning_machine.specs.laws.Soundness.{Last}
+use Rattle.meaning_machine.specs.examples.Runs.{plain_int, const_int, int_of, object_spot, indeterminate_block}
 
 -- Conversions (6.3.1.2, 6.3.1.3)
 

@@ -6,7 +6,7 @@ use Rattle.meaning_answer.specs.Reply.{Ending, Clean, Warned, Refused, Usage, Re
 use Rattle.meaning_answer.specs.Refusal.{UnknownWord, MissingOperand, refusal_reply}
 use Rattle.meaning_answer.specs.Command.{Request, BadWord, MissingFile, Check, request_of}
 use Rattle.meaning_answer.specs.Answer.{IsAnswer}
-use Rattle.meaning_answer.specs.Answering.{reply_to}
+use Rattle.meaning_answer.specs.plain.Answering.{reply_to}
 use Rattle.meaning_answer.specs.Delivery.{Sinks, Outcome, IsOutcome, GrewAlike}
 
 -- there is an answer, the one that the plain program computes

@@ -11,7 +11,7 @@ use Rattle.meaning_rules.specs.Bindings.{pointer_to}
 use Rattle.meaning_rules.specs.Typing.{int_with, flagged}
 use Rattle.meaning_rules.specs.Evaluation.{InAssignment}
 use Rattle.meaning_rules.specs.Failures.{Failure, SpacesMixed, FlaggedAccess}
-use Rattle.meaning_rules.specs.Judging.{failures_of}
+use Rattle.meaning_rules.specs.plain.Judging.{failures_of}
 use Rattle.meaning_text.specs.Places.{main_file}
 use Rattle.meaning_rules.specs.Text.{warnings_text}
 

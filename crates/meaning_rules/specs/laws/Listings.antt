@@ -5,7 +5,7 @@ use Rattle.meaning_syntax.specs.Items.{Item}
 use Rattle.meaning_syntax.specs.Binding.{are_bound}
 use Rattle.meaning_syntax.specs.Trees.{unit_tree}
 use Rattle.meaning_rules.specs.Failures.{Failure, IsListing}
-use Rattle.meaning_rules.specs.Judging.{failures_of}
+use Rattle.meaning_rules.specs.plain.Judging.{failures_of}
 
 -- of items whose names are bound, the plain program gives a listing
 abbrev pub ListingsExist : Type 0

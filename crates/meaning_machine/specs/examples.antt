@@ -1,0 +1,5 @@
+-- Worked examples.
+pub mod Runs
+pub mod Activities
+pub mod Rows
+pub mod Steps

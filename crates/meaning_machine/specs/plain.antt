@@ -1,0 +1,2 @@
+-- The plain programs beside the definitions.
+pub mod Playing

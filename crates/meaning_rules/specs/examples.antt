@@ -1,0 +1,4 @@
+-- Worked examples.
+pub mod Failures
+pub mod Trees
+pub mod Order

@@ -1,0 +1,3 @@
+-- Worked examples.
+pub mod Units
+pub mod Trees

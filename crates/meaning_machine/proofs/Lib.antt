@@ -7,6 +7,7 @@ pub mod Steps
 pub mod Worlds
 pub mod Lasting
 pub mod Possible
+pub mod Named
 pub mod Playing
 pub mod Worked
 pub mod Replaying

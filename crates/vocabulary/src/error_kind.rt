@@ -1,5 +1,5 @@
 ghost use Rattle.std.specs.Prelude.{◌≡◌};
-ghost use Rattle.vocabulary.specs.Numbers.{error_number};
+ghost use Rattle.vocabulary.specs.Errors.{error_number, error_row};
 
 /// What a file can be refused for. The variants from `CannotDereference` on are constraints of C.
 #[derive(Clone, Copy, Debug, PartialEq, Eq)]
@@ -102,5 +102,123 @@ impl ErrorKind {
         ensures { result ≡ error_number self }
     {
         self as u8
+    }
+
+    /// The error's text, or its part before the word that it names.
+    #[rattlefmt::skip]
+    pub fn front(self) -> &'static [u8]
+        ensures { result.now ≡ (error_row self).front }
+    {
+        match self {
+            ErrorKind::NoSuchFile => b"no such file: ",
+            ErrorKind::IncludeNotFound => b"include not found: ",
+            ErrorKind::UnterminatedComment => b"unterminated comment",
+            ErrorKind::UnterminatedLiteral => b"unterminated literal",
+            ErrorKind::UnterminatedConditional => b"unterminated conditional",
+            ErrorKind::ConditionalWithoutIf => b"conditional without #if",
+            ErrorKind::ConditionalAfterElse => b"conditional after #else",
+            ErrorKind::MalformedDirective => b"malformed directive",
+            ErrorKind::UnknownDirective => b"unknown directive",
+            ErrorKind::MacroRedefined => b"macro '",
+            ErrorKind::BadMacroDefinition => b"bad macro definition",
+            ErrorKind::WrongNumberOfMacroArguments => b"wrong number of macro arguments",
+            ErrorKind::UnterminatedMacroCall => b"unterminated macro call",
+            ErrorKind::BadPaste => b"bad paste",
+            ErrorKind::BadIfExpression => b"bad #if expression",
+            ErrorKind::DivisionByZeroInIf => b"division by zero in #if",
+            ErrorKind::ErrorDirective => b"#error",
+            ErrorKind::SyntaxError => b"syntax error: unexpected ",
+            ErrorKind::NotDeclared => b"'",
+            ErrorKind::Redeclared => b"'",
+            ErrorKind::BadAttribute => b"bad attribute",
+            ErrorKind::BadNumber => b"bad number",
+            ErrorKind::NumberTooLarge => b"number too large",
+            ErrorKind::BadEscape => b"bad escape or character constant",
+            ErrorKind::EmptyCharacterConstant => b"empty character constant",
+            ErrorKind::BadDeclaration => b"bad declaration",
+            ErrorKind::FormNotBuilt => b"form not built",
+            ErrorKind::FloatingType => b"unsupported: floating type",
+            ErrorKind::InlineAssembly => b"unsupported: inline assembly",
+            ErrorKind::ParameterWithoutType => b"unsupported: parameter without a type",
+            ErrorKind::NestedFunction => b"unsupported: nested function",
+            ErrorKind::ComputedGoto => b"unsupported: computed goto",
+            ErrorKind::GenericSelection => b"unsupported: _Generic",
+            ErrorKind::AtomicType => b"unsupported: _Atomic",
+            ErrorKind::ComplexType => b"unsupported: _Complex",
+            ErrorKind::ThreadLocal => b"unsupported: _Thread_local",
+            ErrorKind::Int128 => b"unsupported: __int128",
+            ErrorKind::LocalLabel => b"unsupported: __label__",
+            ErrorKind::UniversalCharacterName => b"unsupported: universal character name",
+            ErrorKind::WideOrUtfLiteral => b"unsupported: wide or UTF literal",
+            ErrorKind::CaseRange => b"unsupported: case range",
+            ErrorKind::DesignatorRange => b"unsupported: designator range",
+            ErrorKind::AutoType => b"unsupported: __auto_type",
+            ErrorKind::Alignas => b"unsupported: _Alignas",
+            ErrorKind::Builtin => b"unsupported: builtin",
+            ErrorKind::PragmaOperator => b"unsupported: _Pragma",
+            ErrorKind::QualifierInArrayBrackets => b"unsupported: qualifier in array brackets",
+            ErrorKind::BadScriptLine => b"bad script line",
+            ErrorKind::NotPlain => b"not plain: ",
+            ErrorKind::CannotDereference => b"cannot dereference this type",
+            ErrorKind::CannotTakeAddress => b"cannot take this address",
+            ErrorKind::NotModifiable => b"not a modifiable place",
+            ErrorKind::WrongOperandTypes => b"wrong operand types",
+            ErrorKind::CalledObjectIsNoFunction => b"called object is not a function",
+            ErrorKind::WrongNumberOfArguments => b"wrong number of arguments",
+            ErrorKind::NoSuchMember => b"no such member '",
+            ErrorKind::NoAggregate => b"not a structure or union",
+            ErrorKind::VoidValueUsed => b"void value used",
+            ErrorKind::IncompleteType => b"incomplete type",
+            ErrorKind::IncompatibleTypes => b"incompatible types",
+            ErrorKind::BadCast => b"bad cast",
+            ErrorKind::ConditionIsNotScalar => b"condition is not scalar",
+            ErrorKind::SwitchOnNoInteger => b"switch on a value that is not an integer",
+            ErrorKind::CaseLabelIsNotConstant => b"case label is not constant",
+            ErrorKind::CaseValueUsedTwice => b"case value used twice",
+            ErrorKind::TwoDefaultLabels => b"two default labels",
+            ErrorKind::LabelOutsideSwitch => b"label outside switch",
+            ErrorKind::JumpOutsideLoop => b"jump outside loop",
+            ErrorKind::LabelIsNotDefined => b"label '",
+            ErrorKind::LabelDefinedTwice => b"label '",
+            ErrorKind::JumpIntoStatementExpression => b"jump into statement expression",
+            ErrorKind::ValueReturnedFromVoid => b"value returned from void function",
+            ErrorKind::ReturnWithoutValue => b"return without value",
+            ErrorKind::VariableLengthArray => b"unsupported: variable-length array",
+            ErrorKind::NegativeArraySize => b"negative array size",
+            ErrorKind::BadElementType => b"bad element type",
+            ErrorKind::BadResultType => b"bad result type",
+            ErrorKind::BadBitField => b"bad bit-field",
+            ErrorKind::RestrictedBitField => b"unsupported: restricted bit-field",
+            ErrorKind::BitwiseOnNoInteger => b"bitwise on a type that is not an integer",
+            ErrorKind::EnumeratorIsNotConstant => b"enumerator is not constant",
+            ErrorKind::EnumeratorOutOfRange => b"enumerator out of range",
+            ErrorKind::MemberDeclaredTwice => b"member '",
+            ErrorKind::TagRedeclared => b"tag '",
+            ErrorKind::DefinedTwice => b"'",
+            ErrorKind::StaticAssertionFailed => b"static assertion failed",
+            ErrorKind::ExtraInitializer => b"extra initializer",
+            ErrorKind::InitializerIsNotConstant => b"initializer is not constant",
+            ErrorKind::BadDesignator => b"bad designator",
+            ErrorKind::TypedefHasAnotherType => b"typedef '",
+        }
+    }
+
+    /// The part of the error's text behind the word that it names, if it names one.
+    pub fn back(self) -> &'static [u8]
+        ensures { result.now ≡ (error_row self).back }
+    {
+        match self {
+            ErrorKind::MacroRedefined => b"' redefined",
+            ErrorKind::NotDeclared => b"' is not declared",
+            ErrorKind::Redeclared => b"' redeclared",
+            ErrorKind::NoSuchMember => b"'",
+            ErrorKind::LabelIsNotDefined => b"' is not defined",
+            ErrorKind::LabelDefinedTwice => b"' defined twice",
+            ErrorKind::MemberDeclaredTwice => b"' declared twice",
+            ErrorKind::TagRedeclared => b"' redeclared",
+            ErrorKind::DefinedTwice => b"' defined twice",
+            ErrorKind::TypedefHasAnotherType => b"' has another type",
+            _ => b"",
+        }
     }
 }

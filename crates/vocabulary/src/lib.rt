@@ -12,6 +12,7 @@ mod limit;
 mod node_kind;
 mod role;
 mod rule;
+mod tables;
 mod token_kind;
 mod words;
 
@@ -22,5 +23,6 @@ pub use limit::LimitKind;
 pub use node_kind::NodeKind;
 pub use role::{Role, tags_keep_roles};
 pub use rule::RuleCode;
+pub use tables::rules_are_numbered;
 pub use token_kind::TokenKind;
 pub use words::{KEYWORDS, PREDEFINED_MACROS, RESERVED_WORDS, words_are_spelled};

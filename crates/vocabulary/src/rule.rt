@@ -1,5 +1,7 @@
 ghost use Rattle.std.specs.Prelude.{◌≡◌};
-ghost use Rattle.vocabulary.specs.Numbers.{rule_number};
+ghost use Rattle.vocabulary.specs.Rules.{rule_class, rule_number};
+
+use crate::class::Class;
 
 /// The rules whose failures are warnings: on address spaces, restricted integers, contexts, null
 /// pointers and style.
@@ -65,5 +67,39 @@ impl RuleCode {
         ensures { result ≡ rule_number self }
     {
         self as u8 + 1
+    }
+
+    /// The class that switches the rule on and off.
+    pub fn class(self) -> Class
+        ensures { result ≡ rule_class self }
+    {
+        match self {
+            RuleCode::A1 => Class::AddressSpace,
+            RuleCode::A2 => Class::AddressSpace,
+            RuleCode::A3 => Class::AddressSpace,
+            RuleCode::A4 => Class::AddressSpace,
+            RuleCode::A5 => Class::AddressSpace,
+            RuleCode::A6 => Class::CastToAs,
+            RuleCode::A7 => Class::AddressSpace,
+            RuleCode::B1 => Class::Bitwise,
+            RuleCode::B2 => Class::Bitwise,
+            RuleCode::B3 => Class::Bitwise,
+            RuleCode::B4 => Class::Bitwise,
+            RuleCode::B5 => Class::Bitwise,
+            RuleCode::B6 => Class::Bitwise,
+            RuleCode::B7 => Class::Bitwise,
+            RuleCode::C1 => Class::Context,
+            RuleCode::C2 => Class::Context,
+            RuleCode::C3 => Class::Context,
+            RuleCode::N1 => Class::NonPointerNull,
+            RuleCode::S1 => Class::Decl,
+            RuleCode::S2 => Class::Shadow,
+            RuleCode::S3 => Class::Undef,
+            RuleCode::S4 => Class::ReturnVoid,
+            RuleCode::S5 => Class::DoWhile,
+            RuleCode::S6 => Class::StrictPrototypes,
+            RuleCode::S7 => Class::OneBitSignedBitfield,
+            RuleCode::S8 => Class::CastTruncate,
+        }
     }
 }

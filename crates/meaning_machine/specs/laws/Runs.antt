@@ -9,12 +9,12 @@ use Rattle.meaning_syntax.specs.Trees.{IsInFirstForm, statement_trees}
 use Rattle.meaning_rules.specs.Bindings.{Binding}
 use Rattle.meaning_rules.specs.Typing.{declared_type}
 use Rattle.meaning_rules.specs.Failures.{IsListing}
-use Rattle.meaning_machine.specs.Values.{Value, Block, IsInRange, Fits}
+use Rattle.meaning_machine.specs.Values.{In, Value, Block, IsInRange, Fits}
 use Rattle.meaning_machine.specs.Conversion.{number_count, converted}
 use Rattle.meaning_machine.specs.Outcomes.{Gives}
 use Rattle.meaning_machine.specs.Memory.{adopt, content_at}
 use Rattle.meaning_machine.specs.Code.{statement_code}
-use Rattle.meaning_machine.specs.Machine.{Control, EnterBody, Finished, Next, Done, step}
+use Rattle.meaning_machine.specs.Machine.{Control, EnterBody, Finished, Next, Done, place_of, step}
 use Rattle.meaning_machine.specs.Runs.{World, opening, Move, Start, Step, Write, Moves, Runs, IsSafe, bindings_in}
 use Rattle.meaning_machine.specs.laws.Soundness.{Last, AreSoundBlocks, IsSoundControl, IsSoundOutcome, IsSoundWorld}
 
@@ -105,3 +105,11 @@ ObjectsAreWritten =
     → (number : ℕ) (words : List Word) (stars : ℕ) (name : List ℕ) → slice_get form.items number ≡ Some (Object words stars name)
     → (value : Value) → Fits world.blocks value (declared_type (record { words = words; stars = stars }))
     → (after : World) × Moves unit world (Write number [] value) after × Holds after number [] value
+
+-- and there the object's name is read: it designates the one element of the block
+abbrev pub NamesDesignate : Type 0
+NamesDesignate =
+    (unit : SyntaxTree) (form : IsInFirstForm unit)
+    (number : ℕ) (words : List Word) (stars : ℕ) (name : List ℕ) → slice_get form.items number ≡ Some (Object words stars name)
+    → place_of (bindings_in unit) name
+    ≡ Some (record { type_ = declared_type (record { words = words; stars = stars }); spot = In number [] 0 1 })

@@ -59,11 +59,12 @@ def crates():
 
 
 def places_of(path, near):
-    """The files that a path may mean, where these crates are near."""
+    """The files that a path may mean, where these crates are near. A folder, and a file without one, may be anywhere."""
+    is_anywhere = path.endswith("/") or "/" not in path or not near
     path = path.rstrip("/")
     tops = ["", "crates/", "docs/", "scripts/", *(f"crates/{it}/" for it in near)]
     found = [it for it in files() if any(fnmatch.fnmatch(it, top + path) for top in tops)]
-    if found or "/" in path and near and not path.endswith("/"):
+    if found or not is_anywhere:
         return found
     return [it for it in files() if it.endswith(f"/{path}")]
 
@@ -133,7 +134,6 @@ def findings_of(file):
             cell = CITED.findall(told.split("|")[1])
             first = [it for it in cell if it in crates()] or (first if not cell else [])
         near = sorted({*named, *(first if header else [])})
-        # what stands between two others in backquotes, as in a regular pattern, is text
         for cited in CITED.findall(told):
             if cited.startswith("make "):
                 for word in cited.split()[1:]:

@@ -37,6 +37,11 @@ def files():
 
 
 @functools.lru_cache(None)
+def every():
+    return frozenset(files())
+
+
+@functools.lru_cache(None)
 def words_in(file):
     """The words of a file, without its comments."""
     path = os.path.join(TOP, file)
@@ -50,10 +55,11 @@ def words_in(file):
 
 @functools.lru_cache(None)
 def words_of_code():
-    found = set(os.path.splitext(os.path.basename(it))[0] for it in files())
+    found = {os.path.splitext(os.path.basename(it))[0] for it in files()}
     return found.union(*map(words_in, files()))
 
 
+@functools.lru_cache(None)
 def crates():
     return {it.split("/")[1] for it in files() if it.count("/") == 1 and it.startswith("crates/")}
 
@@ -63,7 +69,7 @@ def places_of(path, near):
     is_anywhere = path.endswith("/") or "/" not in path or not near
     path = path.rstrip("/")
     tops = ["", "crates/", "docs/", "scripts/", *(f"crates/{it}/" for it in near)]
-    found = [it for it in files() if any(fnmatch.fnmatch(it, top + path) for top in tops)]
+    found = [it for top in tops for it in ([top + path] if top + path in every() else fnmatch.filter(files(), top + path) if "*" in path else [])]
     if found or not is_anywhere:
         return found
     return [it for it in files() if it.endswith(f"/{path}")]
@@ -104,6 +110,7 @@ def blocks(text):
     return [it for it in found if it]
 
 
+@functools.lru_cache(None)
 def targets():
     with open(os.path.join(TOP, "Makefile"), encoding="utf-8") as text:
         return set(re.findall(r"^([\w-]+):", text.read(), re.MULTILINE))

@@ -37,7 +37,7 @@ def told(rt, words, crate):
         [rt, *words], cwd=os.path.join(TOP, "crates", crate), stdout=subprocess.PIPE, stderr=subprocess.STDOUT, text=True, check=False
     )
     if ran.returncode:
-        print(ran.stdout, end="")
+        print(f"\n{ran.stdout}", end="")
     return ran.returncode
 
 
@@ -48,9 +48,10 @@ def main():
         begun = time.monotonic()
         print(f"proving {crate}, {len(below) - number} more crates behind it ..", end="", flush=True)
         status = told(rt, ["lib"] if crate != program else ["run", "--", *words], crate)
-        print(f" {time.monotonic() - begun:.0f} s" if not status else " it failed", flush=True)
         if status:
+            print(f"{crate} isn't proved")
             return status
+        print(f" {time.monotonic() - begun:.0f} s", flush=True)
     print(f"{program} is proved and built, after {time.monotonic() - first:.0f} s")
     return 0
 

@@ -17,6 +17,8 @@ TOP = os.path.dirname(os.path.dirname(os.path.abspath(__file__)))
 PROGRAM = "crates/ksparse_cli/out/ksparse_cli"
 # How long, in seconds, nothing is said of what is left.
 QUIET = 60
+# So many names of what is left are shown.
+SHOWN = 6
 
 DONE = re.compile(r"rt: (\w+)(: its tests)? (?:proved|NOT PROVED|is kept)")
 EDITS = re.compile(r"rt: (\w+): trying its must-fail edits \((\d+)\)")
@@ -57,13 +59,18 @@ class Left:
                 self.proofs.pop(name, None)
             self.say()
         if edits:
+            # which come behind the proofs of the crate
             self.edits += int(edits[2])
+            self.proofs.pop(edits[1], None)
+            self.proofs.pop(f"{edits[1]}'s tests", None)
             self.say()
 
     def say(self):
         self.said = time.monotonic()
         minutes, seconds = divmod(int(self.said - self.begun), 60)
-        left = f"left: {', '.join(self.proofs)}" if self.proofs else "edits, programs and tests are tried"
+        # they are proved about in the order of crates.txt
+        names = [*list(self.proofs)[:SHOWN], *[".."] * (len(self.proofs) > SHOWN)]
+        left = f"{len(self.proofs)} left: {', '.join(names)}" if names else "edits, programs and tests are tried"
         begun = f"; {self.edits} edits begun" if self.edits else ""
         print(f"gate: {minutes} min {seconds:02} s, {self.all - len(self.proofs)} of {self.all} proofs{begun}; {left}", flush=True)
 

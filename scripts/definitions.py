@@ -11,6 +11,7 @@ WORD = re.compile(r"[A-Za-z_][A-Za-z0-9_']*(?:\.[A-Za-z_][A-Za-z0-9_']*)*")
 USE = re.compile(r"^ *(?:ghost )?use Rattle\.(\w+)\.specs\.([\w.]+?)(?:\.\{([^}]*)\}| as (\w+))?;?$", re.MULTILINE)
 HEAD = re.compile(r"(?:(?:abbrev|unfoldable|opaque|pub|private) )*(record |data )?(\S+)")
 BOUND = re.compile(r"[({]((?:[a-z_][\w']*\s+)*[a-z_][\w']*)\s*:\s|λ\s*([a-z_][\w' ]*?)\s*\.")
+VARIABLE = re.compile(r"(?<![\w.'])[a-z_][\w']*(?![\w.'])")
 NOT_HEADS = ("use ", "pub use ", "pub mod ", "mutual", "abbrev mutual", "unfoldable mutual")
 
 
@@ -128,17 +129,15 @@ def chunks_of(definition):
 
 def words_of(text):
     """The names in a part of a definition that it doesn't bind itself."""
+    # the fields that a record is given are none
+    text = re.sub(r"([{;]\s*)[\w']+ = ", r"\1", text)
     bound = set()
     for group, by_lambda in BOUND.findall(text):
         bound.update((group or by_lambda).split())
-    left = re.match(r" *[\w']+((?: [^:=]*)?) =(?!=)", text)
-    if left:
-        bound.update(it for it in re.findall(r"[a-z_][\w']*", left[1]))
-    for row in re.findall(r"\| ([^↦]*)↦", text):
-        bound.update(it for it in re.findall(r"[a-z_][\w']*", row))
-    for field in re.findall(r"([\w']+) = ", text):
-        if not left or not text.strip().startswith(field):
-            bound.add(field)
+    patterns = [re.match(r" *[\w']+((?: [^:=]*)?) =(?!=)", text)]
+    patterns += [*re.finditer(r"\| ([^↦]*)↦", text), *re.finditer(r"\blet ([\w']+) ", text)]
+    for pattern in filter(None, patterns):
+        bound.update(VARIABLE.findall(pattern[1]))
     return [it for it in WORD.findall(text) if it.split(".")[0] not in bound]
 
 

@@ -67,7 +67,7 @@ def crates():
 def places_of(path, near):
     """The files that a path may mean, where these crates are near. A folder, and a file without one, may be anywhere."""
     is_anywhere = path.endswith("/") or "/" not in path or not near
-    path = path.rstrip("/")
+    path = path.rstrip("/").replace("NAME", "*")
     tops = ["", "crates/", "docs/", "scripts/", *(f"crates/{it}/" for it in near)]
     found = [it for top in tops for it in ([top + path] if top + path in every() else fnmatch.filter(files(), top + path) if "*" in path else [])]
     if found or not is_anywhere:

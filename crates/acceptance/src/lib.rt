@@ -2,7 +2,8 @@
 //! crates below it.
 //!
 //! Tests alone, each a table whose rows are worked out by hand from the rules. What a contract below
-//! says needs no row here; these rows ask whether the contracts say what was meant.
+//! says needs no row here; these rows ask whether the contracts say what was meant. A command and its
+//! answer is an archive of `cases`: here stands what no archive can hold.
 #![tactic(auto)]
 
 #[cfg(test)]
@@ -18,8 +19,4 @@ mod run;
 #[cfg(test)]
 mod sizes;
 #[cfg(test)]
-mod texts;
-#[cfg(test)]
 mod trees;
-#[cfg(test)]
-mod words;

@@ -1,3 +1,4 @@
+use ksparse::Exit;
 use sparse_model::{Bytes, ErrorKind, RuleCode, Seq};
 use std::test::Fail;
 
@@ -108,13 +109,23 @@ const ERRORS: [(ErrorKind, u8); 90] = [
     (ErrorKind::TypedefHasAnotherType, 101),
 ];
 
+// The exits and their statuses.
+#[rattlefmt::skip]
+const STATUSES: [(Exit, u8); 8] = [
+    (Exit::Clean, 0), (Exit::Warned, 1), (Exit::Refused, 2), (Exit::Usage, 3),
+    (Exit::ReadFault, 4), (Exit::WriteFault, 5), (Exit::NoMemory, 6), (Exit::Limit, 7),
+];
+
 #[test]
-fn rules_and_errors_have_their_numbers(rt: HostRuntime) {
+fn rules_errors_and_exits_have_their_numbers(rt: HostRuntime) {
     for (rule, number) in RULES {
         assert_eq!(rt; rule.number(), number, "{rule:?}");
     }
     for (error, number) in ERRORS {
         assert_eq!(rt; error.number(), number, "{error:?}");
+    }
+    for (exit, status) in STATUSES {
+        assert_eq!(rt; exit.status(), status, "{exit:?}");
     }
 }
 

@@ -26,20 +26,15 @@ pub fn list(alloc: Global, words: &[&str]) -> Result<Words, AllocError> {
     Ok(list)
 }
 
-/// Runs the words over the one file `t.c`.
-pub fn run(alloc: Global, words: &[&str], text: &[u8]) -> Result<Ran, AllocError> {
-    let words = list(alloc, words)?;
+// Checks the one file `t.c` with this text.
+fn check(alloc: Global, text: &[u8]) -> Result<Ran, AllocError> {
+    let words = list(alloc, &["t.c"])?;
     let mut files = HonestFiles::new(alloc);
     files.add(b"t.c", text)?;
     let mut out = MemorySink::new(alloc, ROOM)?;
     let mut err = MemorySink::new(alloc, ROOM)?;
     let exit = ksparse(alloc, &words, &mut files, &mut out, &mut err);
     Ok(Ran { exit, out, err })
-}
-
-// Checks the file `t.c` with this text.
-fn check(alloc: Global, text: &[u8]) -> Result<Ran, AllocError> {
-    run(alloc, &["t.c"], text)
 }
 
 /// Asserts how a run ended and what it wrote to standard error, and that it wrote nothing else.

@@ -3,21 +3,6 @@ use ksparse::Exit;
 use std::alloc::{AllocError, Global};
 use std::test::Fail;
 
-// The most bytes that a file may have.
-const MOST_BYTES: usize = 8_388_608;
-
-#[test]
-fn a_file_may_have_so_many_bytes(rt: HostRuntime) -> Result<(), Fail> {
-    let mut text = vec![in rt.alloc(); b' '; MOST_BYTES]?;
-    assert_check(&rt, "the most bytes", text.as_slice(), Exit::Clean, "")?;
-
-    // A literal opens in the byte too many, and the size goes before it.
-    text.push(b'"')?;
-    let limit = "ksparse: limit: file size\n";
-    assert_check(&rt, "a byte too many", text.as_slice(), Exit::Limit, limit)?;
-    Ok(())
-}
-
 // Four tokens, and 499,996 statements of four each, between the other tokens of the unit.
 fn long_unit(alloc: Global, object: &str, end: &str) -> Result<Vec<u8>, AllocError> {
     let mut text = Vec::new(alloc);

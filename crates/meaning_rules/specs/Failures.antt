@@ -1,5 +1,8 @@
 -- The failing rules of a unit, and their order.
 use Rattle.std.specs.Prelude.{◌≡◌, ℕ, ◌<◌, true, List, [], ◌∷◌, All, Contains, ◌⊎◌}
+use Rattle.vocabulary.specs.declared.rule.RuleCode.{RuleCode}
+use Rattle.vocabulary.specs.declared.rule.RuleCode.TheVariants.{A1, A4}
+use Rattle.vocabulary.specs.Rules.{rule_number}
 use Rattle.meaning_types.specs.Types.{TypeTree, flags_of, has_flag}
 use Rattle.meaning_types.specs.Spaces.{MixSpaces}
 use Rattle.meaning_tree.specs.Trees.{SyntaxTree}
@@ -18,9 +21,14 @@ pub record Failure : Type 0 where
   pub part : ℕ
   pub cause : Cause
 
+-- the rule that fails
+abbrev pub code_of : Cause → RuleCode
+code_of (SpacesMixed position expected got) = A1
+code_of (FlaggedAccess place) = A4
+
+-- its number, by which failures at one token are ordered
 abbrev pub rule_of : Cause → ℕ
-rule_of (SpacesMixed position expected got) = 1
-rule_of (FlaggedAccess place) = 4
+rule_of cause = rule_number (code_of cause)
 
 abbrev pub access_failure : Access → Failure
 access_failure access = record { token = access.token; part = 0; cause = FlaggedAccess access.place }

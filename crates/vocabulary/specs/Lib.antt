@@ -1,4 +1,5 @@
 pub mod Errors
+pub mod Limits
 pub mod Rules
 pub mod Roles
 pub mod Words

@@ -2,6 +2,7 @@
 RT ?= rt
 PREFIX ?= /usr/local
 PYTHON ?= python3
+export PYTHONDONTWRITEBYTECODE = 1
 
 PROGRAM := build/ksparse
 # Names with spaces, which a program's own run reads, are none for make.

@@ -20,11 +20,11 @@ pub record AreDefault (options : Options) : Type 0 where
   pub classes : options.classes ≡ default_classes
 
 -- what the command is asked for
-abbrev pub request_of : Command → command.Request
-request_of (commands.Check options file) = command.Check file
+abbrev pub request_seen : Command → command.Request
+request_seen (commands.Check options file) = command.Check file
 
-abbrev pub options_of : Command → Options
-options_of (commands.Check options file) = options
+abbrev pub options_seen : Command → Options
+options_seen (commands.Check options file) = options
 
 -- the words are at this fault
 abbrev pub IsFaultOf : List (List ℕ) → WordFault → Type 0

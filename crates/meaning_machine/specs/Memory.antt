@@ -6,7 +6,7 @@ use Rattle.vocabulary.specs.declared.int_kind.IntKind.{IntKind}
 use Rattle.vocabulary.specs.declared.int_kind.IntKind.TheVariants as kinds
 use Rattle.meaning_types.specs.Types.{TypeTree, Typed, BaseTree, IntegerTree, PointerTree, flags_of, has_flag}
 use Rattle.meaning_types.specs.Equality.{are_similar}
-use Rattle.meaning_machine.specs.Values.{Spot, Null, Foreign, In, Value, Integer, Pointer, Place, Made, ForObject, ForFunction, Cell, Block}
+use Rattle.meaning_machine.specs.Values.{Spot, Null, Foreign, In, Value, Integer, Pointer, Lvalue, Made, ForObject, ForFunction, Cell, Block}
 use Rattle.meaning_machine.specs.Conversion.{spot_truth, converted}
 use Rattle.meaning_machine.specs.Outcomes.{NullPointer, DeadBlock, ForeignPointer, OutOfBounds, IndeterminateValue, ReadOnly, AccessFault, SpaceFault, RestrictedFault, ShapeFault, Answer, Gives, IsFault, IsUndefined}
 use Rattle.meaning_machine.specs.Tests.{differ_in_flags_alone}
@@ -80,7 +80,7 @@ load_spot blocks type_ Null = IsUndefined NullPointer
 load_spot blocks type_ Foreign = IsUndefined ForeignPointer
 load_spot blocks type_ (In block path index length) = load_block (slice_get blocks block) type_ path index length
 
-abbrev pub load : List Block → Place → Answer Value
+abbrev pub load : List Block → Lvalue → Answer Value
 load blocks place = if has_flag (flags_of place.type_) then IsFault AccessFault else load_spot blocks place.type_ place.spot
 
 -- A store of a value that was adopted

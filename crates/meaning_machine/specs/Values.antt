@@ -20,7 +20,7 @@ pub data Value : Type 0 where
   Pointer : (target : TypeTree) (spot : Spot) → Value
 
 -- an object as one may read or write it
-pub record Place : Type 0 where
+pub record Lvalue : Type 0 where
   pub type_ : TypeTree
   pub spot : Spot
 

@@ -1,6 +1,6 @@
 ghost use Rattle.std.specs.Prelude.{◌≡◌, IfOk, IfErr};
 ghost use Rattle.meaning_answer.specs.Command as meaning;
-ghost use Rattle.ksparse.specs.Words.{AreDefault, IsFaultOf, options_seen, request_seen};
+ghost use Rattle.ksparse.specs.Words.{AreDefault, EachStandsOnce, IsFaultOf, options_seen, request_seen};
 
 use sparse_model::{Bytes, Class, Options, Seq};
 use sparse_outside::Words;
@@ -40,6 +40,9 @@ impl From<AllocError> for WordFault {
 pub fn read_words(alloc: Global, words: &Words) -> Result<Command, WordFault>
     ensures command { IfOk result (λ command. request_seen command ≡ meaning.request_of words.now) }
     ensures options { IfOk result (λ command. AreDefault (options_seen command)) }
+
+    // Each class that is on stands once.
+    ensures once { IfOk result (λ command. EachStandsOnce (options_seen command).classes) }
     ensures fault { IfErr result (IsFaultOf words.now) }
 {
     let Some(word) = words.get(0) else {

@@ -1,4 +1,4 @@
-ghost use Rattle.meaning_machine.specs.plain.Playing.{MovesArePlayed, PlayedIsRun, RunIsPlayed};
+ghost use Rattle.meaning_machine.specs.laws.Playing.{MovesArePlayed, PlayedIsRun, RunIsPlayed};
 ghost use Rattle.meaning_machine.specs.examples.Rows.{CellExamples, ConversionExamples, FitExamples, LastExamples, RowExamples};
 ghost use Rattle.meaning_machine.specs.examples.Steps.{StepExamples};
 ghost use Rattle.meaning_machine.specs.examples.Activities.{OthersGoOn, ThirdMeetsFault, ThreeByTurns, ThreeInOrder};

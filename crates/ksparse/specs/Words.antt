@@ -23,6 +23,7 @@ pub record AreDefault (options : Options) : Type 0 where
 abbrev pub request_seen : Command → command.Request
 request_seen (commands.Check options file) = command.Check file
 
+-- the options that the command has
 abbrev pub options_seen : Command → Options
 options_seen (commands.Check options file) = options
 

@@ -3,6 +3,7 @@ use Rattle.meaning_answer.specs.Reply as reply
 use Rattle.ksparse.specs.declared.exit.Exit.{Exit}
 use Rattle.ksparse.specs.declared.exit.Exit.TheVariants as exits
 
+-- the ending that an exit of the code is
 abbrev pub ending_seen : Exit → reply.Ending
 ending_seen exits.Clean = reply.Clean
 ending_seen exits.Warned = reply.Warned

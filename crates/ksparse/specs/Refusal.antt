@@ -5,6 +5,7 @@ use Rattle.c_tokens.specs.Seen.{at_of}
 use Rattle.ksparse.specs.declared.refusal.Refusal.{Refusal}
 use Rattle.ksparse.specs.declared.refusal.Refusal.TheVariants as refusals
 
+-- the refusal of the answer that a refusal of the code is
 abbrev pub refusal_seen : Refusal → refusal.Refusal
 refusal_seen refusals.UnknownWord = refusal.UnknownWord
 refusal_seen refusals.MissingOperand = refusal.MissingOperand

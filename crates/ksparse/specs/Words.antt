@@ -29,6 +29,7 @@ EachStandsOnce (class_ ∷ classes) = IsNotAmong class_ classes × EachStandsOnc
 abbrev pub request_seen : Command → command.Request
 request_seen (commands.Check options file) = command.Check file
 
+-- the options that the command has
 abbrev pub options_seen : Command → Options
 options_seen (commands.Check options file) = options
 

@@ -8,6 +8,7 @@ use Rattle.meaning_syntax.specs.Trees.{SyntaxParts}
 
 -- lvalues, and expressions whose value is wanted (C11 6.3.2.1 p1, 6.5)
 mutual
+  -- an expression, for the place that it designates
   pub data LvalueCode : Type 0 where
     -- the object of this name
     Named : (token : ℕ) (name : List ℕ) → LvalueCode
@@ -16,6 +17,7 @@ mutual
     -- a node that designates no place, or for which the machine has no row: to enter it is a fault
     NoLvalue : (token : ℕ) → LvalueCode
 
+  -- an expression, for its value
   pub data ValueCode : Type 0 where
     -- the value of a place
     ValueOf : LvalueCode → ValueCode
@@ -35,9 +37,11 @@ pub record Code : Type 0 where
   pub place : LvalueCode
   pub value : ValueCode
 
+-- of a node that designates a place: its value is that of the place
 abbrev pub lvalue_code : LvalueCode → Code
 lvalue_code place = record { place = place; value = ValueOf place }
 
+-- of a node at this token that has a value and designates no place
 abbrev pub value_code : ℕ → ValueCode → Code
 value_code token value = record { place = NoLvalue token; value = value }
 
@@ -50,9 +54,11 @@ code_row kinds.Assignment token name (left ∷ right ∷ []) = value_code token 
 code_row kind token name parts = lvalue_code (NoLvalue token)
 
 abbrev mutual
+  -- the code of a node, by its row
   pub code_of : SyntaxTree → Code
   code_of (Node kind token name number parts) = code_row kind token name (parts_code parts)
 
+  -- the code of each part, in order
   pub parts_code : SyntaxParts → List Code
   parts_code NoParts = []
   parts_code (Part role tree parts) = code_of tree ∷ parts_code parts
@@ -62,9 +68,11 @@ abbrev pub statement_row : NodeKind → ℕ → List Code → ValueCode
 statement_row ExpressionStatement token (expression ∷ []) = expression.value
 statement_row kind token parts = ValueOf (NoLvalue token)
 
+-- the code of a statement, by its row
 abbrev pub statement_code : SyntaxTree → ValueCode
 statement_code (Node kind token name number parts) = statement_row kind token (parts_code parts)
 
+-- the code of each statement of a body, in order
 abbrev pub statements_code : SyntaxParts → List ValueCode
 statements_code NoParts = []
 statements_code (Part role statement statements) = statement_code statement ∷ statements_code statements
@@ -80,6 +88,7 @@ last_code NoParts = None
 last_code (Part role (Node kind token name number statements) NoParts) = compound_code kind statements
 last_code (Part role tree (Part other next parts)) = last_code (Part other next parts)
 
+-- the code of a function's body; no other node has one
 abbrev pub function_code : NodeKind → SyntaxParts → Option (List ValueCode)
 function_code FunctionDefinition parts = last_code parts
 function_code kind parts = None

@@ -11,6 +11,7 @@ use Rattle.meaning_machine.specs.Code.{LvalueCode, Named, Behind, NoLvalue, Valu
 
 -- What remains to be done with a place, or with a value, innermost first
 mutual
+  -- what a place is wanted for
   pub data AfterLvalue : Type 0 where
     -- it is loaded, at this token
     ThenLoad : (token : ℕ) → AfterValue → AfterLvalue
@@ -19,6 +20,7 @@ mutual
     -- it is assigned to, at the `=`, the value of the right side
     ThenAssign : (lvalue_token token : ℕ) (right : ValueCode) → AfterValue → AfterLvalue
 
+  -- what a value is wanted for
   pub data AfterValue : Type 0 where
     -- it points to the place that is wanted, at the `*`
     ThenMove : (token : ℕ) → AfterLvalue → AfterValue
@@ -40,6 +42,7 @@ pub data Control : Type 0 where
   Leave : Control
   Finished : Control
 
+-- what a step comes to
 pub data Outcome : Type 0 where
   -- the blocks, and what comes next
   Next : List Block → Control → Outcome
@@ -58,6 +61,7 @@ lvalue_from number [] name = None
 lvalue_from number (binding ∷ scope) name =
     if bytes_eq binding.name name then object_lvalue number binding.object else lvalue_from (number + 1) scope name
 
+-- the object of a name in this scope
 abbrev pub lvalue_of : List Binding → List ℕ → Option Lvalue
 lvalue_of scope name = lvalue_from 0 scope name
 
@@ -67,6 +71,7 @@ taken_up (ValueOf place) after = EnterLvalue place (ThenLoad (lvalue_token place
 taken_up (AddressOf token place) after = EnterAddress place after
 taken_up (Assignment token left right) after = EnterAssignment token left right after
 
+-- the next statement is entered, or the body is left behind its last
 abbrev pub gone_on : List ValueCode → Control
 gone_on [] = Leave
 gone_on (statement ∷ statements) = EnterStatement statement statements
@@ -77,6 +82,7 @@ behind_value value (ThenMove token after) = Move value token after
 behind_value value (ThenStore place lvalue_token token after) = Store place lvalue_token value token after
 behind_value value (ThenGoOn statements) = gone_on statements
 
+-- the place is loaded, is pointed to, or waits for the value that is assigned to it
 abbrev pub behind_lvalue : Lvalue → AfterLvalue → Control
 behind_lvalue place (ThenLoad token after) = Load place token after
 behind_lvalue place (ThenPoint after) = behind_value (Pointer place.type_ place.spot) after
@@ -112,11 +118,13 @@ written value lvalue_token after (Gives blocks) = Next blocks (behind_value valu
 written value lvalue_token after (IsFault kind) = Fault kind lvalue_token
 written value lvalue_token after (IsUndefined reason) = Undefined reason lvalue_token
 
+-- a value that was adopted is written, and one that can't be is told at the `=`
 abbrev pub adopted : List Block → Lvalue → ℕ → ℕ → AfterValue → Answer Value → Outcome
 adopted blocks place lvalue_token token after (Gives value) = written value lvalue_token after (store blocks place.spot value)
 adopted blocks place lvalue_token token after (IsFault kind) = Fault kind token
 adopted blocks place lvalue_token token after (IsUndefined reason) = Undefined reason token
 
+-- a store to a place with a flag is a fault, before the value is looked at
 abbrev pub stored : List Block → Lvalue → ℕ → Value → ℕ → AfterValue → Outcome
 stored blocks place lvalue_token value token after =
     if has_flag (flags_of place.type_) then Fault AccessFault lvalue_token

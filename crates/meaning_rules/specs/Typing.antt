@@ -25,6 +25,7 @@ abbrev pub behind_stars : ℕ → TypeTree → TypeTree
 behind_stars zero type_ = type_
 behind_stars (suc stars) type_ = pointer_to (behind_stars stars type_)
 
+-- int with these flags
 abbrev pub int_with : Flags → TypeTree
 int_with flags = Typed (IntegerTree Int) no_qualifiers flags
 

@@ -9,9 +9,11 @@ pub record RangeRow : Type 0 where
   pub least : ℤ
   pub greatest : ℤ
 
+-- a row of the table
 abbrev pub range_row : (width : ℕ) → (least greatest : ℤ) → RangeRow
 range_row width least greatest = record { width = width; least = least; greatest = greatest }
 
+-- the row of a kind
 abbrev pub range_of : IntKind → RangeRow
 range_of Bool = range_row 1 (pos 0) (pos 1)
 range_of Char = range_row 8 (negsuc 127) (pos 127)
@@ -26,11 +28,14 @@ range_of ULong = range_row 64 (pos 0) (pos 18446744073709551615)
 range_of LLong = range_row 64 (negsuc 9223372036854775807) (pos 9223372036854775807)
 range_of ULLong = range_row 64 (pos 0) (pos 18446744073709551615)
 
+-- the width of a kind in bits
 abbrev pub width : IntKind → ℕ
 width kind = (range_of kind).width
 
+-- the least number that a kind holds
 abbrev pub least : IntKind → ℤ
 least kind = (range_of kind).least
 
+-- the greatest number that a kind holds
 abbrev pub greatest : IntKind → ℤ
 greatest kind = (range_of kind).greatest

@@ -11,9 +11,11 @@ pub record RuleRow : Type 0 where
   pub number : ℕ
   pub class_ : Class
 
+-- a row with this number and this class
 abbrev pub row : ℕ → Class → RuleRow
 row number class_ = record { number = number; class_ = class_ }
 
+-- the row of a rule
 abbrev pub rule_row : RuleCode → RuleRow
 rule_row A1 = row 1 AddressSpace
 rule_row A2 = row 2 AddressSpace
@@ -42,12 +44,15 @@ rule_row S6 = row 24 StrictPrototypes
 rule_row S7 = row 25 OneBitSignedBitfield
 rule_row S8 = row 26 CastTruncate
 
+-- the number of a rule
 abbrev pub rule_number : RuleCode → ℕ
 rule_number code = (rule_row code).number
 
+-- the class that switches a rule
 abbrev pub rule_class : RuleCode → Class
 rule_class code = (rule_row code).class_
 
+-- the class is on where no word says otherwise
 abbrev pub is_on_by_default : Class → Bool
 is_on_by_default AddressSpace = true
 is_on_by_default Bitwise = true
@@ -63,9 +68,11 @@ is_on_by_default StrictPrototypes = false
 is_on_by_default OneBitSignedBitfield = false
 is_on_by_default CastTruncate = false
 
+-- all rules, in the order of their numbers
 abbrev pub all_rules : List RuleCode
 all_rules = A1 ∷ A2 ∷ A3 ∷ A4 ∷ A5 ∷ A6 ∷ A7 ∷ B1 ∷ B2 ∷ B3 ∷ B4 ∷ B5 ∷ B6 ∷ B7 ∷ C1 ∷ C2 ∷ C3 ∷ N1 ∷ S1 ∷ S2 ∷ S3 ∷ S4 ∷ S5 ∷ S6 ∷ S7 ∷ S8 ∷ []
 
+-- all classes
 abbrev pub all_classes : List Class
 all_classes = AddressSpace ∷ Bitwise ∷ Context ∷ NonPointerNull ∷ CastToAs ∷ Decl ∷ Shadow ∷ Undef ∷ ReturnVoid ∷ DoWhile ∷ StrictPrototypes ∷ OneBitSignedBitfield ∷ CastTruncate ∷ []
 

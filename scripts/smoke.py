@@ -4,6 +4,7 @@
 usage: smoke.py PROGRAM
 """
 import os
+import resource
 import shutil
 import subprocess
 import sys
@@ -134,6 +135,8 @@ UNTOLD = [
     ("folder", 4),
 ]
 
+STATUSES = range(8)
+
 # So many kilobytes are enough for a small file, and so many for a large one.
 LITTLE_MEMORY = 100000
 MUCH_MEMORY = 2000000
@@ -230,18 +233,22 @@ def failures_of_closed_streams(program):
     return failures
 
 
-# The program, with no more memory than so many kilobytes.
+# Runs the program with no more memory than so many kilobytes.
 def run_within(program, kilobytes, words):
-    script = f'ulimit -v {kilobytes}; exec "$0" "$@"'
-    return subprocess.run(["bash", "-c", script, program, *words], capture_output=True, timeout=60, check=False)
+    def limit():
+        resource.setrlimit(resource.RLIMIT_AS, (kilobytes * 1024, kilobytes * 1024))
+
+    ran = subprocess.run([program, *words], preexec_fn=limit, capture_output=True, timeout=60, check=False)
+    return ran.stdout, ran.stderr, ran.returncode
 
 
-# The least memory with which the program comes as far as to read its words.
-def least_memory(program):
+# The least kilobytes with which the system starts the program, so that it ends with a status of its own.
+def least_memory(program, words):
     low, high = 0, LITTLE_MEMORY
     while low + 1 < high:
         middle = (low + high) // 2
-        if run_within(program, middle, ["-"]).returncode == 3:
+        _, _, status = run_within(program, middle, words)
+        if status in STATUSES:
             high = middle
         else:
             low = middle
@@ -251,17 +258,14 @@ def least_memory(program):
 # With ever more memory each use writes nothing, until it writes all that it has to.
 def failures_of_memory(program):
     failures = 0
-    least = least_memory(program)
+    wanting = (b"", b"", 6)
     for words, step, err, status in MEMORY_USES:
-        wanted = (b"", err.encode(), status)
-        wanting = (b"", b"", 6)
-        kilobytes = least
-        got = wanting
+        kilobytes = least_memory(program, words)
+        got = run_within(program, kilobytes, words)
         while got == wanting and kilobytes < MUCH_MEMORY:
-            ran = run_within(program, kilobytes, words)
-            got = (ran.stdout, ran.stderr, ran.returncode)
             kilobytes += step
-        failures += differs(f"ksparse {words[0][:9]} with {kilobytes} KB", wanted, got)
+            got = run_within(program, kilobytes, words)
+        failures += differs(f"ksparse {words[0][:9]} within {kilobytes} KB", (b"", err.encode(), status), got)
     return failures
 
 

@@ -22,3 +22,5 @@ mod run;
 mod sizes;
 #[cfg(test)]
 mod trees;
+#[cfg(test)]
+mod untold;

@@ -1,3 +1,4 @@
+// Each byte in each state of a text, by what a check of the whole text answers.
 use crate::run::{NOT_BUILT, assert_check};
 use ksparse::Exit;
 use std::alloc::{AllocError, Global};

@@ -1,3 +1,4 @@
+// Loads that fail and sinks that fill up, and what is told of them.
 use crate::run::{ROOM, Ran, assert_ran, list};
 use ksparse::{Exit, ksparse};
 use sparse_outside::{MemoryFiles, MemorySink};

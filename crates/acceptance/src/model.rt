@@ -1,3 +1,4 @@
+// The numbers that users see of rules, errors and exits, beside those in the lists; and a list in its order.
 use ksparse::Exit;
 use sparse_model::{Bytes, ErrorKind, RuleCode, Seq};
 use std::test::Fail;

@@ -1,3 +1,4 @@
+// What the tests share: a check of one text, and what it has to leave.
 use ksparse::{Exit, ksparse};
 use sparse_outside::{HonestFiles, MemorySink, Words};
 use std::alloc::{AllocError, Global};

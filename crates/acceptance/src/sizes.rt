@@ -1,3 +1,4 @@
+// Units with as many tokens as they may have, with a few more, and with many parts of one sort.
 use crate::run::{NOT_BUILT, assert_check};
 use ksparse::Exit;
 use std::alloc::{AllocError, Global};

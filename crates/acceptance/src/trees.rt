@@ -1,3 +1,4 @@
+// A text of three lines, and its nodes beside those worked out by hand.
 ghost use Rattle.std.specs.Prelude.{◌≤◌, length};
 
 use c_tokens::{Names, lex};

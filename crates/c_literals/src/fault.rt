@@ -1,3 +1,4 @@
+// What leaves in place of a value. Where the literal stands isn't known here.
 ghost use Rattle.std.specs.Prelude.{◌≡◌};
 ghost use Rattle.c_literals.specs.declared.fault.LiteralFault.TheVariants.{Memory};
 

@@ -1,3 +1,4 @@
+// Integer constants: a spelling in, a kind and a value out. Signs and places aren't known here.
 ghost use Rattle.std.specs.Prelude.{◌≡◌, ◌↔◌, Some, Ok, Err, IfOk, IfErr, IsErrOf};
 ghost use Rattle.std.specs.List.{list_any};
 ghost use Rattle.meaning_literals.specs.Bytes.{is_one_of};

@@ -1,3 +1,4 @@
+// Literals in quotation marks: a spelling in, an int or bytes out. Neighbouring strings aren't known here.
 ghost use Rattle.std.specs.Prelude.{◌≡◌, ◌↔◌, ℕ, Result, [], ◌∷◌, Some, Ok, Err, IfOk, IfErr, IsErrOf};
 ghost use Rattle.meaning_literals.specs.Constants.{Fault, BadEscapeFault, EmptyFault, WideFault, UniversalFault};
 ghost use Rattle.meaning_literals.specs.Elements.{elements_of};

@@ -1,3 +1,4 @@
+// What is remembered of the tokens so far, to tell a header name from other tokens.
 ghost use Rattle.std.specs.Prelude.{◌≡◌};
 ghost use Rattle.meaning_text.specs.Tokens.{allows_header_name, behind_token, is_hash, is_line_start};
 

@@ -1,3 +1,4 @@
+// The bytes of a file in, those of its logical text out, with their places. Tokens aren't known here.
 ghost use Rattle.std.specs.Prelude.{◌≡◌, ◌+◌, ◌-◌, ◌^◌, ◌≤◌, ◌<◌, ◌++◌, length, take, drop, false, get_or, IsSome, IsNone, IfOk, OnOk};
 ghost use Rattle.meaning_text.specs.Bytes.{new_line};
 ghost use Rattle.meaning_text.specs.Places.{behind_byte};

@@ -1,3 +1,4 @@
+// What leaves in place of tokens. The line that tells of it is written elsewhere.
 ghost use Rattle.std.specs.Prelude.{◌≡◌};
 ghost use Rattle.c_tokens.specs.declared.fault.LexFault.TheVariants.{Memory};
 

@@ -1,3 +1,4 @@
+// Spellings in, ids out, and back. What a spelling means isn't known here.
 ghost use Rattle.std.specs.Prelude.{◌≡◌, ◌^◌, ◌<◌, ◌≤◌, [], ◌∷◌, length, slice_get, IsTrue, IsOk, IfOk, OnOk, OnErr};
 
 use indexmap::IndexSet;

@@ -1,3 +1,4 @@
+// Punctuators side by side, as `lex` and a second, plain scanner find them.
 ghost use Rattle.std.specs.Prelude.{◌^◌, ◌<◌, All, length};
 ghost use Rattle.c_tokens.specs.Seen.{IsKnown};
 

@@ -1,3 +1,4 @@
+// A file's bytes in, all its tokens out, front by front. The grammar isn't known here.
 ghost use Rattle.std.specs.Prelude.{◌≡◌, ◌^◌, ◌<◌, ◌≤◌, List, All, IfOk, IfErr, IfSome, length, vec_len};
 ghost use Rattle.meaning_text.specs.Tokens.{Tok, LexesFile, OpensFile};
 ghost use Rattle.meaning_text.specs.Tokens as tokens;

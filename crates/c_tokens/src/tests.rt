@@ -1,3 +1,4 @@
+// Short texts beside listings of their tokens by hand; and ids of spellings.
 ghost use Rattle.std.specs.Prelude.{◌^◌, ◌<◌, All, length};
 ghost use Rattle.c_tokens.specs.Seen.{IsKnown};
 

@@ -1,3 +1,4 @@
+// What leaves the scanner: a kind, an id and a place, without any bytes.
 use sparse_model::{NameId, Place, TokenKind};
 use std::mem::size_of;
 

@@ -1,3 +1,4 @@
+// What a unit answers with a node that it gives back.
 use thiserror::Error;
 
 /// Why a node isn't added.

@@ -1,3 +1,4 @@
+// How a node is kept: a kind, a token's index, an id, a number, handles. Spellings aren't known here.
 ghost use Rattle.c_tree.specs.Seen.{NodesAreSeenWhole};
 
 use sparse_model::{NameId, NodeKind};

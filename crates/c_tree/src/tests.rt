@@ -1,3 +1,4 @@
+// A small unit that is built with a part, and one that is filled until it refuses a node.
 ghost use Rattle.std.specs.Prelude.{◌≡◌, ◌<◌, ◌≤◌, All, IfOk};
 ghost use Rattle.meaning_tree.specs.Nodes.{end_of};
 

@@ -1,3 +1,4 @@
+// The list of nodes: nodes in, handles out. What a kind of node means isn't known here.
 use crate::fault::AddFault;
 use crate::node::Node;
 use region_alloc::{Handle, Region};

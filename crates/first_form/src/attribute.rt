@@ -1,3 +1,4 @@
+// Tokens in, the words of an attribute out. What the words do to a type isn't known here.
 ghost use Rattle.first_form.specs.Known.{IsKnownWord};
 ghost use Rattle.first_form.specs.Reader.{AreKnownTokens, IsKnownFound, found_of};
 ghost use Rattle.first_form.specs.Seen.{spellings_of, word_of};

@@ -1,3 +1,4 @@
+// Items in, the nodes of a unit out, each behind its children. No token is read here.
 ghost use Rattle.std.specs.Prelude.{◌≡◌, ◌+◌, ◌*◌, ◌^◌, ◌<◌, ◌≤◌, ◌∷◌, All, IfOk, OnOk, length, map, true};
 ghost use Rattle.std.specs.List.{flat_map, list_all, sum_by};
 ghost use Rattle.c_tokens.specs.Seen.{IsKnown, text_of};

@@ -1,3 +1,4 @@
+// What the judge hands to the writer: causes and types, at indices of tokens; no spelling and no place.
 use crate::object::ObjectType;
 
 /// What a rule is broken by, with the types that its warning names.

@@ -1,3 +1,4 @@
+// What a list of tokens begins with: a given text, a name or a space. Items aren't known here.
 ghost use Rattle.c_tokens.specs.Seen.{IsKnown, text_of, tok_of};
 ghost use Rattle.first_form.specs.Reader.{AreKnownTokens, IsKnownFound, found_of};
 ghost use Rattle.first_form.specs.Seen.{spellings_of};

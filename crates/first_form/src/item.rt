@@ -1,3 +1,4 @@
+// What the reader hands to the builder: items, and the counts of their tokens. Nodes aren't known here.
 ghost use Rattle.std.specs.List.{sum_by};
 ghost use Rattle.std.specs.Prelude.{◌≡◌, ◌<◌, ◌^◌, ◌+◌};
 ghost use Rattle.first_form.specs.Counts as counts;

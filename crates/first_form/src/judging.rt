@@ -1,3 +1,4 @@
+// The nodes of a unit in, the failures of its statements out, in one pass. No warning is spelled here.
 ghost use Rattle.std.specs.Prelude.{◌≡◌, ◌<◌, ◌+◌, [], ℕ, ◌++◌, IfNone, IfOk, IfSome, List, OnOk, false, is_some, length, not, true};
 ghost use Rattle.std.specs.List.{flat_map, list_all};
 ghost use Rattle.meaning_syntax.specs.Binding.{are_bound, statement_binds};

@@ -1,3 +1,4 @@
+// What loads, stars and `&` make of the types of the first form. Names and tokens aren't known here.
 ghost use Rattle.std.specs.Prelude.{◌≡◌, ◌<◌, ◌+◌, ◌^◌};
 ghost use Rattle.first_form.specs.Found as found;
 ghost use Rattle.first_form.specs.Object.{address_of, outermost_of, target_of, value_of};

@@ -1,3 +1,4 @@
+// Tokens in, items out. Whether a name is declared isn't asked here.
 ghost use Rattle.c_tokens.specs.Seen.{IsKnown};
 ghost use Rattle.first_form.specs.Known.{AreKnown, IsKnownItem, IsKnownStatement};
 ghost use Rattle.first_form.specs.Reader.{AreKnownTokens, IsKnownFound, found_of};

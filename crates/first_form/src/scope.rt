@@ -1,3 +1,4 @@
+// Names while a file is judged, by their ids. Spellings aren't known here.
 ghost use Rattle.std.specs.Prelude.{◌≡◌, ◌<◌, None, OnOk, is_some};
 ghost use Rattle.sparse_model.specs.declared.ids.NameId.{NameId};
 ghost use Rattle.first_form.specs.Scope.{Binds, binding_in, object_in};

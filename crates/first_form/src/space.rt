@@ -1,3 +1,4 @@
+// Spellings of address spaces: some are numbers, the others names.
 ghost use Rattle.std.specs.Prelude.{◌≡◌, IfNone, IfSome, true};
 ghost use Rattle.meaning_types.specs.Types.{NamedSpace, NumberedSpace};
 ghost use Rattle.meaning_syntax.specs.Words as words;

@@ -1,3 +1,4 @@
+// Failures in, the bytes of their warnings out. No rule is judged here.
 ghost use Rattle.std.specs.Prelude.{◌≡◌, ◌<◌, ◌++◌, All, OnOk, codes, length};
 ghost use Rattle.std.specs.Fmt.{decimal};
 ghost use Rattle.c_tokens.specs.Seen.{IsKnown, at_of, toks_of};

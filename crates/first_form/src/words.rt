@@ -1,3 +1,4 @@
+// Which spellings pass for names and which for spaces. Tokens and ids aren't known here.
 ghost use Rattle.meaning_syntax.specs.Words.{
   begins_with_two_underscores,
   is_keyword,

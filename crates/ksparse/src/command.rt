@@ -1,3 +1,4 @@
+// Words in, the path and the options that they ask for out, or their fault. No file is loaded here.
 ghost use Rattle.std.specs.Prelude.{◌≡◌, IfOk, IfErr};
 ghost use Rattle.meaning_answer.specs.Command as meaning;
 ghost use Rattle.ksparse.specs.Words.{AreDefault, EachStandsOnce, IsFaultOf, options_seen, request_seen};

@@ -1,3 +1,4 @@
+// The ends of a command, and the status that the system sees of each.
 ghost use Rattle.std.specs.Prelude.{◌≡◌};
 ghost use Rattle.meaning_answer.specs.Reply.{status_of};
 ghost use Rattle.ksparse.specs.Ending.{ending_seen};

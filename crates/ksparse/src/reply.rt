@@ -1,3 +1,4 @@
+// A reply, which stands whole in memory before any of it is written. Sinks aren't known here.
 ghost use Rattle.std.specs.Prelude.{◌≡◌, ◌++◌, IfOk, length};
 ghost use Rattle.meaning_answer.specs.Reply.{line, silence};
 ghost use Rattle.ksparse.specs.Ending.{ending_seen};

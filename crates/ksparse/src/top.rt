@@ -1,3 +1,4 @@
+// The outermost call, and all that is promised of it: first the answer in memory, then the writes.
 ghost use Rattle.std.specs.Prelude.{◌≡◌, ◌⊎◌, IfSome};
 ghost use Rattle.meaning_outside.specs.Faults.{Rose, Told, ToldOfTwo};
 ghost use Rattle.meaning_outside.specs.Files.{FileMap};

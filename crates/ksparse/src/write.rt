@@ -1,3 +1,4 @@
+// Built texts to the two sinks. What the texts say isn't known here.
 ghost use Rattle.std.specs.Prelude.{◌≡◌, ◌++◌, true, false};
 ghost use Rattle.meaning_outside.specs.Faults.{Told, ToldOfTwo};
 ghost use Rattle.meaning_answer.specs.Delivery.{BreaksOff, Delivers};

@@ -1,3 +1,4 @@
+// What is proved of answers and outcomes, and examples of them.
 ghost use Rattle.meaning_answer.specs.examples.Answers.{AnswerExamples, LimitExamples, RequestExamples};
 ghost use Rattle.meaning_answer.specs.laws.Answers.{AnswersAreShaped, AnswersAreUnique, AnswersExist, AnswersTellUsage, EndingsTellWhatIsWritten, OutcomesAreTold};
 

@@ -1,3 +1,4 @@
+// What is proved of literals: their elements, their numbers, and examples.
 ghost use Rattle.meaning_literals.specs.examples.Literals.{IntegerExamples, KindExamples, SuffixExamples, CharacterExamples, StringExamples};
 ghost use Rattle.meaning_literals.specs.laws.Literals.{DecimalsAreRead, ElementsAreThose, TextsAreMadeOfElements};
 

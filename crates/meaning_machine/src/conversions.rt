@@ -1,3 +1,4 @@
+// What is proved of values that change their types, in conversions and in stores.
 ghost use Rattle.meaning_machine.specs.laws.Runs.{AdoptedValuesFit, ConversionsAreInRange, ConversionsKeepNumbers, ConversionsWrap};
 
 /// A number that is converted to an integer type becomes the one number of it that differs by a multiple

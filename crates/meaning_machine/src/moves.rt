@@ -1,3 +1,4 @@
+// That the machine can go on: which moves each world has.
 ghost use Rattle.meaning_machine.specs.laws.Runs.{ActivitiesEnd, ActivitiesGoOn, FunctionsStart, NamesDesignate, ObjectsAreWritten, RunsBegin};
 
 /// There are runs. Whatever world is reached, each function can be called again, each activity takes its

@@ -1,3 +1,4 @@
+// The machine beside a plain program that plays its moves, and worlds worked out by hand.
 ghost use Rattle.meaning_machine.specs.laws.Playing.{MovesArePlayed, PlayedIsRun, RunIsPlayed};
 ghost use Rattle.meaning_machine.specs.examples.Rows.{CellExamples, ConversionExamples, FitExamples, LastExamples, RowExamples};
 ghost use Rattle.meaning_machine.specs.examples.Steps.{StepExamples};

@@ -1,3 +1,4 @@
+// From blocks to steps, to moves, to runs: what stays sound where no rule fails.
 ghost use Rattle.meaning_machine.specs.laws.Playing.{FaultsAreUnsafe};
 ghost use Rattle.meaning_machine.specs.laws.Runs.{BlocksLast, MovesAreSound, RunsAreSound, SilenceIsSafe, StepsAreSound};
 

@@ -1,3 +1,4 @@
+// Examples of what stands outside: counts of faults, files, and what was loaded.
 ghost use Rattle.meaning_outside.specs.examples.Outside.{AgreementExamples, FileExamples, RisenExamples, ToldExamples, TwoSinkExamples};
 
 /// Counts rise, and calls tell of it, files are found, and agree with what was loaded, where one can tell so

@@ -1,3 +1,4 @@
+// What is proved of the failures of units, and examples of them.
 ghost use Rattle.meaning_rules.specs.examples.Failures.{CheckedFileIsFirst, SpaceIsLost, SpaceBehindTwoStarsIsLost, TwoStarsMixSpaces, StarsAloneDoNotMix, NoderefIsAccessed, SpaceIsAccessed, NoderefIsToldBeforeSpace, LaterSpaceCounts, EqualFlagsPass, PlainIntsPass, NoderefIsStoredThrough, NoderefIsLostBehindPointer, LoadAloneWarns, AddressPasses};
 ghost use Rattle.meaning_rules.specs.examples.Trees.{DeclarationExamples, ExpressionExamples};
 ghost use Rattle.meaning_rules.specs.examples.Order.{OrderExamples};

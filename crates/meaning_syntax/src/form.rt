@@ -1,3 +1,4 @@
+// The grammar of the first form and its plain reader: they agree, and nothing is read in two ways.
 ghost use Rattle.meaning_syntax.specs.examples.Trees.{TreeExamples};
 ghost use Rattle.meaning_syntax.specs.examples.Units.{ReadExamples, MisspelledExamples, UnboundExamples, SpaceExamples};
 ghost use Rattle.meaning_syntax.specs.laws.Form.{

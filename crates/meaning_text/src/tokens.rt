@@ -1,3 +1,4 @@
+// What is proved of texts and their tokens, and examples of them.
 ghost use Rattle.meaning_text.specs.examples.Tokens.{LogicalExamples, SpellingExamples, TextExamples, FaultExamples, TableFacts};
 ghost use Rattle.meaning_text.specs.laws.Tokens.{TokensExist, TokensAreUnique, FaultsExist, FaultsAreUnique, EachTextHasOneAnswer, LogicalTextsEndTheirLine};
 

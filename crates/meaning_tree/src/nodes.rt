@@ -1,3 +1,4 @@
+// What is proved of trees that stand in lists of nodes, while the lists grow.
 ghost use Rattle.meaning_tree.specs.examples.Trees.{NodeExamples, PartExamples};
 ghost use Rattle.meaning_tree.specs.laws.Trees.{AddedNodeGrows, AddedNodeStands, AddedNodeStandsBehind, FurtherChildStands, GrowthIsReflexive, GrowthIsTransitive, JoinedPartGrows, JoinedStandBefore, NoTreesCome, NothingStandsBefore, PartsAreUnique, PartsStay, TreesAreUnique, TreesExist, TreesStay, TreesStayBehind, TreesStayInFront};
 

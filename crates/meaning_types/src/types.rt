@@ -1,3 +1,4 @@
+// Examples of kinds and types, and what the tests of equality tell.
 ghost use Rattle.meaning_types.specs.laws.Types.{EqualKindsPass, EqualFlagsPass, SimilarTypesPass};
 ghost use Rattle.meaning_types.specs.examples.Types.{RangeExamples, SpellingExamples, LevelExamples, MixedExamples, UnmixedExamples};
 

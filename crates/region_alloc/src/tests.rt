@@ -1,3 +1,4 @@
+// Regions as their callers meet them: they are filled, joined, written, released and dropped.
 use crate::{Mark, Region};
 use std::alloc::{AllocError, Global};
 use std::cell::Cell;

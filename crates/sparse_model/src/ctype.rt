@@ -1,3 +1,4 @@
+// Types of C as plain data. What the rules ask of them isn't known here.
 use crate::ids::Restrict;
 use crate::space::Space;
 use vocabulary::IntKind;

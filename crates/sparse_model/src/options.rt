@@ -1,3 +1,4 @@
+// What a command sets for a check, and the named lists for it. The words themselves aren't known here.
 use crate::seq::Seq;
 use vocabulary::Class;
 

@@ -1,3 +1,4 @@
+// The one list that plain data is made of, whatever its values are.
 ghost use Rattle.std.specs.Prelude.{◌≡◌, ◌<◌, ◌++◌, ◌∷◌, [], length, slice_get, OnOk, OnErr, IfErr, Some};
 
 use std::alloc::{AllocError, Global};

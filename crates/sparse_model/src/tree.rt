@@ -1,3 +1,4 @@
+// Trees for contracts to speak of. The code has lists of nodes in their place.
 use crate::ids::NameId;
 use vocabulary::{NodeKind, Role};
 

@@ -1,3 +1,4 @@
+// Loads over memory and over the system, puts to sinks that fill up, and words.
 use super::*;
 use std::fs;
 use std::process::Abort;

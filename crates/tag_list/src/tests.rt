@@ -1,3 +1,4 @@
+// Lists as their callers meet them: they are pushed to, joined, and walked from both ends.
 use crate::{Handle, TagList};
 use std::alloc::{AllocError, Global};
 use std::process::Abort;

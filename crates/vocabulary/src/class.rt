@@ -1,3 +1,4 @@
+// The groups by which warnings are chosen. Which rule stands in which is said beside the rules.
 ghost use Rattle.std.specs.Prelude.{◌≡◌};
 ghost use Rattle.vocabulary.specs.Rules.{is_on_by_default};
 

@@ -1,3 +1,4 @@
+// Errors by name, each with its number and its text. How a file comes to them isn't known here.
 ghost use Rattle.std.specs.Prelude.{◌≡◌};
 ghost use Rattle.vocabulary.specs.Errors.{error_number, error_row};
 

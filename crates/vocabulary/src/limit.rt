@@ -1,3 +1,4 @@
+// Limits by name alone. Their numbers stand where the counting is done.
 ghost use Rattle.std.specs.Prelude.{◌≡◌};
 ghost use Rattle.vocabulary.specs.Limits.{limit_name};
 

@@ -1,3 +1,4 @@
+// Roles of children, and the tags that lists keep for them.
 ghost use Rattle.std.specs.Prelude.{◌≡◌};
 ghost use Rattle.vocabulary.specs.Roles.{TagsKeepRoles, role_tag};
 

@@ -1,3 +1,4 @@
+// Rules by name, each with its number and its class. How they are judged isn't known here.
 ghost use Rattle.std.specs.Prelude.{◌≡◌};
 ghost use Rattle.vocabulary.specs.Rules.{rule_class, rule_number};
 

@@ -1,3 +1,4 @@
+// What is proved of rules and classes as whole lists.
 ghost use Rattle.vocabulary.specs.Rules.{RulesAreNumbered};
 
 /// The rules are numbered from 1 in their order, and which classes are on by default.

@@ -1,3 +1,4 @@
+// The spellings that a program finds taken. Tokens aren't known here.
 ghost use Rattle.vocabulary.specs.Words.{WordExamples};
 
 /// The keywords, in the order of C11 6.4.1.

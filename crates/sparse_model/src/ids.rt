@@ -1,3 +1,5 @@
+// The ids by which values name what a table keeps.
+
 /// The number of a spelling in the table of names. Number 0 is the empty spelling.
 #[derive(Clone, Copy, Debug, PartialEq, Eq, PartialOrd, Ord, Hash)]
 pub struct NameId(pub u32);

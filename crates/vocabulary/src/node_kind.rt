@@ -1,3 +1,5 @@
+// The kinds of nodes.
+
 /// What a node of the tree of a unit is: one kind for each form of the grammar that makes a node (C11 6.5
 /// to 6.9, and attributes). In brackets: the token at which the node stands.
 #[derive(Clone, Copy, Debug, PartialEq, Eq)]

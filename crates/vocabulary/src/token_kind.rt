@@ -1,3 +1,5 @@
+// The kinds of tokens.
+
 /// The kinds of tokens (C11 6.4). A digraph is of the kind of the punctuator that it stands for.
 #[derive(Clone, Copy, Debug, PartialEq, Eq)]
 pub enum TokenKind {

@@ -2,11 +2,13 @@
 RT ?= rt
 PREFIX ?= /usr/local
 PYTHON ?= python3
+export PYTHONDONTWRITEBYTECODE = 1
 
 PROGRAM := build/ksparse
-SOURCES := $(shell find crates crates.txt HANDLES -name out -prune -o -type f -print)
+# Names with spaces, which a program's own run reads, are none for make.
+SOURCES := $(shell find crates crates.txt HANDLES -name out -prune -o -type f ! -name '* *' -print)
 
-.PHONY: all run test costs bench fuzz smoke install clean kit
+.PHONY: all run test edits believe names docs costs bench fuzz smoke install clean kit
 
 all: $(PROGRAM)
 
@@ -15,9 +17,9 @@ kit:
 	  echo "make: no command '$(RT)': put the folder bin of the Rattle kit on the PATH, or say make RT=/path/to/rt" >&2; \
 	  exit 1; }
 
-# Only a proved program is built, so this proves each crate first.
+# Only a proved program is built, so this proves each crate that it stands on first.
 $(PROGRAM): $(SOURCES) | kit
-	cd crates/ksparse_cli && $(RT) run -- /dev/null
+	$(PYTHON) scripts/build.py $(RT) ksparse_cli /dev/null
 	mkdir -p build
 	cp crates/ksparse_cli/out/ksparse_cli $@
 
@@ -25,10 +27,25 @@ $(PROGRAM): $(SOURCES) | kit
 run: $(PROGRAM)
 	cd examples && ../$(PROGRAM) user_pointer.c; test $$? -eq 1
 
+# The gate, a plain rt ci; then the docs, and uses of the program that it built.
 test: | kit
-	$(RT) ci
+	@$(PYTHON) scripts/gate.py $(RT)
 
-# What each crate costs the gate. Nothing that an earlier run proved is used.
+# The wrong programs that the gate doesn't try, of one crate or of all: make edits CRATE=NAME
+edits: | kit
+	$(PYTHON) scripts/edits.py $(RT) $(CRATE)
+
+# What the clauses of the top call rest on, or one of them: make believe CLAUSE=NAME
+believe:
+	@$(PYTHON) scripts/believe.py $(CLAUSE)
+
+names:
+	@$(PYTHON) scripts/names.py
+
+docs:
+	@$(PYTHON) scripts/docs.py
+
+# What each crate costs the gate, and what is above its budget. Nothing that an earlier run proved is used.
 costs: | kit
 	$(PYTHON) scripts/costs.py $(RT)
 

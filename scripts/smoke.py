@@ -4,6 +4,7 @@
 usage: smoke.py PROGRAM
 """
 import os
+import resource
 import shutil
 import subprocess
 import sys
@@ -22,8 +23,29 @@ WARNINGS = (
     "{0}:3:18:    got int noderef address_space(__user) *\n"
 )
 
+# More lines of warnings than a pipe takes at once.
+MANY = 3000
+
+MANY_WARNED = (
+    "extern int __attribute__((noderef)) a;\n"
+    "extern int b;\n"
+    "void f(void) {\n" + "b = a;\n" * MANY + "}\n"
+)
+
+MANY_WARNINGS = "".join(
+    f"many.c:{line}:5: warning: dereference of noderef expression\n" for line in range(4, 4 + MANY)
+)
+
+MOST_BYTES = 8388608
+
 FILES = {
     "t.c": WARNED,
+    "many.c": MANY_WARNED,
+    "folder/t.c": WARNED,
+    "-x": WARNED,
+    "eval": WARNED,
+    "longest.c": " " * MOST_BYTES,
+    "too_long.c": " " * (MOST_BYTES + 1),
     "a name with spaces and ü.c": WARNED,
     "clean.c": "extern int x;\n",
     "empty.c": "",
@@ -34,6 +56,14 @@ FILES = {
     "large.c": "extern int a; void f(void) { " + "a = a; " * 400000 + "}",
 }
 
+# Names of other files, and what each leads to.
+LINKS = {
+    "link.c": "t.c",
+    "dangling.c": "missing.c",
+    "loop.c": "loop.c",
+    "link": "folder",
+}
+
 # A use: its words, what it writes to standard error, and its status.
 USES = [
     (["t.c"], WARNINGS.format("t.c"), 1),
@@ -42,6 +72,12 @@ USES = [
     (["empty.c"], "", 0),
     (["large.c"], "", 0),
     (["/dev/null"], "", 0),
+    (["many.c"], MANY_WARNINGS, 1),
+    (["./-x"], WARNINGS.format("./-x"), 1),
+    (["./eval"], WARNINGS.format("./eval"), 1),
+    (["folder/../t.c"], WARNINGS.format("folder/../t.c"), 1),
+    (["link.c"], WARNINGS.format("link.c"), 1),
+    (["link/t.c"], WARNINGS.format("link/t.c"), 1),
     (["macro.c"], "macro.c:1:1: error[29]: form not built\n", 2),
     (["comment.c"], "comment.c:2:3: error[3]: unterminated comment\n", 2),
     (["string.c"], "string.c:1:15: error[4]: unterminated literal\n", 2),
@@ -49,21 +85,71 @@ USES = [
     (["missing.c"], "ksparse: error[1]: no such file: missing.c\n", 2),
     ([""], "ksparse: error[1]: no such file: \n", 2),
     ([" t.c "], "ksparse: error[1]: no such file:  t.c \n", 2),
+    (["a\tb\x1b\n.c"], "ksparse: error[1]: no such file: a\tb\x1b\n.c\n", 2),
+    (["*.c"], "ksparse: error[1]: no such file: *.c\n", 2),
+    (["dangling.c"], "ksparse: error[1]: no such file: dangling.c\n", 2),
+    (["missing/t.c"], "ksparse: error[1]: no such file: missing/t.c\n", 2),
+    # The longest name that a folder can hold.
+    (["n" * 255], f"ksparse: error[1]: no such file: {'n' * 255}\n", 2),
     ([], "ksparse: missing file\n", 3),
     (["t.c", "clean.c"], "ksparse: bad word: clean.c\n", 3),
     ([str(n) for n in range(100)], "ksparse: bad word: 1\n", 3),
     (["-x", "t.c"], "ksparse: bad word: -x\n", 3),
     (["--help"], "ksparse: bad word: --help\n", 3),
+    (["-"], "ksparse: bad word: -\n", 3),
+    (["--", "t.c"], "ksparse: bad word: --\n", 3),
+    (["eval"], "ksparse: bad word: eval\n", 3),
+    (["t.c", ""], "ksparse: bad word: \n", 3),
+    (["", "t.c"], "ksparse: bad word: t.c\n", 3),
     ([b"\xff"], "ksparse: bad word: not UTF-8\n", 3),
+    ([b"t.c\xc3"], "ksparse: bad word: not UTF-8\n", 3),
+    (["t.c", b"\xed\xa0\x80"], "ksparse: bad word: not UTF-8\n", 3),
+    # These are there, or it can't be known, and what they hold can't be read.
     (["."], "", 4),
+    (["folder"], "", 4),
+    (["link/"], "", 4),
+    (["t.c/"], "", 4),
     (["t.c/t.c"], "", 4),
+    (["loop.c"], "", 4),
+    (["n" * 256], "", 4),
+    (["n/" * 4000], "", 4),
+    (["/proc/self/mem"], "", 4),
+    (["longest.c"], "", 0),
+    (["too_long.c"], "ksparse: limit: file size\n", 7),
+    (["/dev/zero"], "ksparse: limit: file size\n", 7),
 ]
 
-# Where standard error goes when it can't take the warnings: the write fails, and nothing else is said.
-FULL_OR_CLOSED = [">/dev/full", ">&-"]
+# Where a stream goes when it takes nothing: the write fails, and nothing else is said.
+TAKES_NOTHING = [">/dev/full", ">&-", "</dev/null"]
 
-# So many kilobytes are enough for a small file, and too few for the large one.
+# A word, and how it ends where standard error takes nothing. Only a write can fail, so where there is nothing to
+# write all is as ever.
+UNTOLD = [
+    ("t.c", 5),
+    ("many.c", 5),
+    ("missing.c", 5),
+    ("too_long.c", 5),
+    ("--help", 5),
+    (r"$'\xff'", 5),
+    ("clean.c", 0),
+    ("folder", 4),
+]
+
+STATUSES = range(8)
+
+# So many kilobytes are enough for a small file, and so many for a large one.
 LITTLE_MEMORY = 100000
+MUCH_MEMORY = 2000000
+
+LONG_WORD = "-" + "x" * 100000
+
+# Words, how many kilobytes more are tried at a time, what is written to standard error, and the status.
+MEMORY_USES = [
+    (["t.c"], 4, WARNINGS.format("t.c"), 1),
+    ([LONG_WORD] * 15, 16, f"ksparse: bad word: {LONG_WORD}\n", 3),
+    (["many.c"], 100, MANY_WARNINGS, 1),
+    (["large.c"], 20000, "", 0),
+]
 
 # A user who may read no more than what everyone may.
 OTHER_USER = 65534
@@ -88,7 +174,7 @@ def failures_of_uses(program):
 # Warnings go to standard error alone, so nothing is amiss where standard output takes nothing.
 def failures_of_unused_output(program):
     failures = 0
-    for sink in FULL_OR_CLOSED:
+    for sink in TAKES_NOTHING:
         script = f'"$0" t.c 1{sink}'
         ran = subprocess.run(["bash", "-c", script, program], stderr=subprocess.PIPE, timeout=60, check=False)
         got = (ran.stderr, ran.returncode)
@@ -100,11 +186,11 @@ def failures_of_unused_output(program):
 
 def failures_of_sinks(program):
     failures = 0
-    for word in ["t.c", "missing.c", "--help", r"$'\xff'"]:
-        for sink in FULL_OR_CLOSED:
+    for word, status in UNTOLD:
+        for sink in TAKES_NOTHING:
             script = f'"$0" {word} 2{sink}'
             ran = subprocess.run(["bash", "-c", script, program], stdout=subprocess.PIPE, timeout=60, check=False)
-            failures += differs(f"ksparse {word} 2{sink}", (b"", 5), (ran.stdout, ran.returncode))
+            failures += differs(f"ksparse {word} 2{sink}", (b"", status), (ran.stdout, ran.returncode))
     ran = into_closed_pipe(program, "stderr", stdout=subprocess.PIPE)
     return failures + differs("ksparse t.c 2>closed pipe", (b"", 5), (ran.stdout, ran.returncode))
 
@@ -118,23 +204,84 @@ def into_closed_pipe(program, stream, **others):
     return ran
 
 
-def failures_of_memory(program):
+# Of a text that a pipe takes no more of, a front was written.
+def failures_of_fronts(program):
+    reading, writing = os.pipe()
+    os.set_blocking(writing, False)
+    ran = subprocess.run([program, "many.c"], stdout=subprocess.PIPE, stderr=writing, timeout=60, check=False)
+    os.close(writing)
+    with os.fdopen(reading, "rb") as pipe:
+        taken = pipe.read()
+    front = MANY_WARNINGS.encode()[: len(taken)]
+    is_cut = 0 < len(taken) < len(MANY_WARNINGS)
+    got = (ran.stdout, taken, is_cut, ran.returncode)
+    return differs("ksparse many.c 2>full pipe", (b"", front, True, 5), got)
+
+
+# No stream is read, so nothing is amiss where none is open.
+def failures_of_closed_streams(program):
     failures = 0
-    for name, err, status in [("t.c", WARNINGS.format("t.c"), 1), ("large.c", "", 6)]:
-        script = f'ulimit -v {LITTLE_MEMORY}; exec "$0" {name}'
+    for script, err, status in [
+        ('exec "$0" t.c <&-', WARNINGS.format("t.c"), 1),
+        ('exec "$0" t.c <&- >&-', WARNINGS.format("t.c"), 1),
+        ('exec "$0" t.c <&- >&- 2>&-', "", 5),
+        ('exec "$0" clean.c <&- >&- 2>&-', "", 0),
+    ]:
         ran = subprocess.run(["bash", "-c", script, program], capture_output=True, timeout=60, check=False)
         got = (ran.stdout, ran.stderr, ran.returncode)
-        failures += differs(f"ksparse {name} with little memory", (b"", err.encode(), status), got)
+        failures += differs(script, (b"", err.encode(), status), got)
     return failures
 
 
-# The superuser may read any file, so another user runs the program then.
+# Runs the program with no more memory than so many kilobytes.
+def run_within(program, kilobytes, words):
+    def limit():
+        resource.setrlimit(resource.RLIMIT_AS, (kilobytes * 1024, kilobytes * 1024))
+
+    ran = subprocess.run([program, *words], preexec_fn=limit, capture_output=True, timeout=60, check=False)
+    return ran.stdout, ran.stderr, ran.returncode
+
+
+# The least kilobytes with which the system starts the program, so that it ends with a status of its own.
+def least_memory(program, words):
+    low, high = 0, LITTLE_MEMORY
+    while low + 1 < high:
+        middle = (low + high) // 2
+        _, _, status = run_within(program, middle, words)
+        if status in STATUSES:
+            high = middle
+        else:
+            low = middle
+    return high
+
+
+# With ever more memory each use writes nothing, until it writes all that it has to.
+def failures_of_memory(program):
+    failures = 0
+    wanting = (b"", b"", 6)
+    for words, step, err, status in MEMORY_USES:
+        kilobytes = least_memory(program, words)
+        got = run_within(program, kilobytes, words)
+        while got == wanting and kilobytes < MUCH_MEMORY:
+            kilobytes += step
+            got = run_within(program, kilobytes, words)
+        failures += differs(f"ksparse {words[0][:9]} within {kilobytes} KB", (b"", err.encode(), status), got)
+    return failures
+
+
+# The superuser may read any file, so another user runs the program then. Whether a file is there can't be known
+# where the folder may not be searched.
 def failures_of_permission(program):
-    os.chmod("clean.c", 0)
+    failures = 0
     user = OTHER_USER if os.geteuid() == 0 else None
-    ran = subprocess.run([program, "clean.c"], user=user, capture_output=True, timeout=60, check=False)
-    got = (ran.stdout, ran.stderr, ran.returncode)
-    return differs("a file that may not be read", (b"", b"", 4), got)
+    for denied, word in [("clean.c", "clean.c"), ("folder", "folder/t.c"), ("folder", "folder/missing.c")]:
+        mode = os.stat(denied).st_mode
+        os.chmod(denied, 0)
+        ran = subprocess.run([program, word], user=user, capture_output=True, timeout=60, check=False)
+        os.chmod(denied, mode)
+        got = (ran.stdout, ran.stderr, ran.returncode)
+        failures += differs(f"ksparse {word} without permission", (b"", b"", 4), got)
+    return failures
 
 
 def main():
@@ -143,11 +290,15 @@ def main():
         os.chmod(folder, 0o755)
         program = shutil.copy(sys.argv[1], os.path.join(folder, "ksparse"))
         os.chdir(folder)
+        os.mkdir("folder")
+        for name, target in LINKS.items():
+            os.symlink(target, name)
         for name, text in FILES.items():
             with open(name, "w", encoding="utf-8") as file:
                 file.write(text)
         failures = failures_of_uses(program)
         failures += failures_of_sinks(program) + failures_of_unused_output(program)
+        failures += failures_of_fronts(program) + failures_of_closed_streams(program)
         failures += failures_of_memory(program) + failures_of_permission(program)
         os.chdir("/")
     print(f"smoke: {failures} differences")

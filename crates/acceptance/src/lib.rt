@@ -11,6 +11,8 @@ mod bytes;
 #[cfg(test)]
 mod faults;
 #[cfg(test)]
+mod growth;
+#[cfg(test)]
 mod model;
 #[cfg(test)]
 mod pairs;
@@ -20,3 +22,5 @@ mod run;
 mod sizes;
 #[cfg(test)]
 mod trees;
+#[cfg(test)]
+mod untold;

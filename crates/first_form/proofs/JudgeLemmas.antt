@@ -10,6 +10,7 @@ use Rattle.meaning_syntax.specs.Binding as binding
 use Rattle.meaning_rules.specs.Evaluation.{InAssignment}
 use Rattle.meaning_rules.specs.Failures as rules
 use Rattle.meaning_types.specs.Equality as equality
+use Rattle.meaning_rules.specs.Typing as typing
 use Rattle.meaning_rules.specs.plain.Judging as judging
 use Rattle.meaning_rules.specs.Typing.{behind_stars, int_with}
 use Rattle.sparse_model.specs.declared.ids.NameId.{NameId}
@@ -95,8 +96,8 @@ failures_of-assignment names token target source to from apart so_target so_sour
     ∙ ap (λ equal. if nat_lt 0 target.stars && not equal then failure_of names (record { token = token; cause = causes.SpacesMixed target source }) ∷ [] else []) (sym (are_equal_flags-flags_of names target source apart so_target.known so_source.known))
     ∙ ap (λ stars. assignment_judged token stars (flags_of names target) source.stars (flags_of names source)) so_target.stars
     ∙ ap (λ flags. assignment_judged token to.stars flags source.stars (flags_of names source)) so_target.flags
-    ∙ ap (λ stars. assignment_judged token to.stars (judging.int_flags to) stars (flags_of names source)) so_source.stars
-    ∙ ap (λ flags. assignment_judged token to.stars (judging.int_flags to) from.stars flags) so_source.flags
+    ∙ ap (λ stars. assignment_judged token to.stars (typing.int_flags to) stars (flags_of names source)) so_source.stars
+    ∙ ap (λ flags. assignment_judged token to.stars (typing.int_flags to) from.stars flags) so_source.flags
 
 -- both are objects that are declared so, or neither is one
 abbrev pub Agree : List (List ℕ) → Option ObjectType → Option binding.Declared → Type 0
@@ -148,14 +149,14 @@ has_one_star_more-Agree names =
 -- what a pointer points to is declared so where the pointer is
 IsDeclaredSo-target :
     (names : List (List ℕ)) (pointer : ObjectType) (declared : binding.Declared) → IsDeclaredSo names pointer declared
-    → IsDeclaredSo names (target_of pointer) (judging.behind_pointer declared)
+    → IsDeclaredSo names (target_of pointer) (typing.behind_pointer declared)
 IsDeclaredSo-target names pointer declared so =
     record { stars = ap (λ stars. stars - 1) so.stars; flags = so.flags; known = so.known }
 
 -- and so is the address of an object
 IsDeclaredSo-address :
     (names : List (List ℕ)) (object : ObjectType) (declared : binding.Declared) → IsDeclaredSo names object declared
-    → IsDeclaredSo names (address_of object) (judging.address_of declared)
+    → IsDeclaredSo names (address_of object) (typing.address_of declared)
 IsDeclaredSo-address names object declared so =
     record { stars = omega (arith, so.stars); flags = so.flags; known = so.known }
 
@@ -189,8 +190,8 @@ failures_of-assign_through :
 failures_of-assign_through names first apart pointer source to from so_pointer so_source =
     let so_target = IsDeclaredSo-target names pointer to so_pointer in
     failures_of-three names _ _ _ _ _ _
-    (failures_of-access names first (target_of pointer) (judging.behind_pointer to) so_target)
-    (failures_of-assignment names (first + 2) (target_of pointer) source (judging.behind_pointer to) from apart so_target so_source)
+    (failures_of-access names first (target_of pointer) (typing.behind_pointer to) so_target)
+    (failures_of-assignment names (first + 2) (target_of pointer) source (typing.behind_pointer to) from apart so_target so_source)
     (failures_of-access names (first + 3) source from so_source)
 
 -- and of `target = & object ;`
@@ -199,7 +200,7 @@ failures_of-assign_address :
     → IsDeclaredSo names object from
     → failures_of names (found.assign_address_found (record { left = first; equals = first + 1; right = first + 2 }) target object) ≡ judging.judged_assign_address first to from
 failures_of-assign_address names first apart target object to from so_target so_object =
-    failures_of-assignment names (first + 1) target (address_of object) to (judging.address_of from) apart so_target (IsDeclaredSo-address names object from so_object)
+    failures_of-assignment names (first + 1) target (address_of object) to (typing.address_of from) apart so_target (IsDeclaredSo-address names object from so_object)
 
 -- what is found where both are objects is what is judged there
 failures_of-both : (names : List (List ℕ)) (both : ObjectType → ObjectType → List Failure) (judged : binding.Declared → binding.Declared → List rules.Failure)

@@ -1,3 +1,4 @@
+pub mod Classes
 pub mod CleanIsSafe
 pub mod Counts
 pub mod Endings

@@ -5,6 +5,7 @@ use Rattle.ksparse.specs.declared.refusal.Refusal.TheVariants as refusals
 use Rattle.ksparse.specs.declared.check.Unchecked.{Unchecked}
 use Rattle.ksparse.specs.declared.check.Unchecked.TheVariants.{Refused, Memory}
 
+-- a refusal at the place where it opens, or want of memory
 abbrev pub reason_of : LexFault → Unchecked
 reason_of (faults.OpenComment place) = Refused (refusals.OpenComment place)
 reason_of (faults.OpenLiteral place) = Refused (refusals.OpenLiteral place)

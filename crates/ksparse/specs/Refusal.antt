@@ -5,12 +5,13 @@ use Rattle.c_tokens.specs.Seen.{at_of}
 use Rattle.ksparse.specs.declared.refusal.Refusal.{Refusal}
 use Rattle.ksparse.specs.declared.refusal.Refusal.TheVariants as refusals
 
-abbrev pub refusal_of : Refusal → refusal.Refusal
-refusal_of refusals.UnknownWord = refusal.UnknownWord
-refusal_of refusals.MissingOperand = refusal.MissingOperand
-refusal_of refusals.NoSuchFile = refusal.NoSuchFile
-refusal_of refusals.LargeFile = refusal.LargeFile
-refusal_of (refusals.OpenComment place) = refusal.Opens (OpenComment (at_of place))
-refusal_of (refusals.OpenLiteral place) = refusal.Opens (OpenLiteral (at_of place))
-refusal_of refusals.NotBuilt = refusal.NotBuilt
-refusal_of refusals.ManyTokens = refusal.ManyTokens
+-- the refusal of the answer that a refusal of the code is
+abbrev pub refusal_seen : Refusal → refusal.Refusal
+refusal_seen refusals.UnknownWord = refusal.UnknownWord
+refusal_seen refusals.MissingOperand = refusal.MissingOperand
+refusal_seen refusals.NoSuchFile = refusal.NoSuchFile
+refusal_seen refusals.LargeFile = refusal.LargeFile
+refusal_seen (refusals.OpenComment place) = refusal.Opens (OpenComment (at_of place))
+refusal_seen (refusals.OpenLiteral place) = refusal.Opens (OpenLiteral (at_of place))
+refusal_seen refusals.NotBuilt = refusal.NotBuilt
+refusal_seen refusals.ManyTokens = refusal.ManyTokens

@@ -1,7 +1,7 @@
 -- What the words of a command are read as.
-use Rattle.std.specs.Prelude.{◌≡◌, ℕ, List, [], ◌∷◌, Some, slice_get}
+use Rattle.std.specs.Prelude.{◌≡◌, ◌≢◌, ℕ, List, [], ◌∷◌, Some, slice_get}
 use Rattle.vocabulary.specs.declared.class.Class.{Class}
-use Rattle.vocabulary.specs.declared.class.Class.TheVariants.{AddressSpace, Bitwise, Context, NonPointerNull}
+use Rattle.vocabulary.specs.Rules.{default_classes}
 use Rattle.sparse_model.specs.declared.options.Options.{Options}
 use Rattle.meaning_answer.specs.Command as command
 use Rattle.ksparse.specs.declared.command.Command.{Command}
@@ -9,9 +9,10 @@ use Rattle.ksparse.specs.declared.command.Command.TheVariants as commands
 use Rattle.ksparse.specs.declared.command.WordFault.{WordFault}
 use Rattle.ksparse.specs.declared.command.WordFault.TheVariants as faults
 
--- the classes that are on by default
-abbrev pub default_classes : List Class
-default_classes = AddressSpace ∷ Bitwise ∷ Context ∷ NonPointerNull ∷ []
+-- the class isn't in the list
+abbrev pub IsNotAmong : Class → List Class → Type 0
+IsNotAmong class_ [] = Unit {0}
+IsNotAmong class_ (other ∷ others) = (other ≢ class_) × IsNotAmong class_ others
 
 -- no directory, no macro, and the default classes
 pub record AreDefault (options : Options) : Type 0 where
@@ -19,12 +20,18 @@ pub record AreDefault (options : Options) : Type 0 where
   pub commands : options.commands ≡ []
   pub classes : options.classes ≡ default_classes
 
--- what the command is asked for
-abbrev pub request_of : Command → command.Request
-request_of (commands.Check options file) = command.Check file
+-- no class stands twice in the list
+abbrev pub EachStandsOnce : List Class → Type 0
+EachStandsOnce [] = Unit {0}
+EachStandsOnce (class_ ∷ classes) = IsNotAmong class_ classes × EachStandsOnce classes
 
-abbrev pub options_of : Command → Options
-options_of (commands.Check options file) = options
+-- what the command is asked for
+abbrev pub request_seen : Command → command.Request
+request_seen (commands.Check options file) = command.Check file
+
+-- the options that the command has
+abbrev pub options_seen : Command → Options
+options_seen (commands.Check options file) = options
 
 -- the words are at this fault
 abbrev pub IsFaultOf : List (List ℕ) → WordFault → Type 0

@@ -6,7 +6,7 @@ ghost use Rattle.meaning_outside.specs.Loads.{AgreesWith, loads_since};
 ghost use Rattle.meaning_answer.specs.Answer.{IsAnswer, IsFileReply};
 ghost use Rattle.ksparse.specs.Loading.{Loading};
 ghost use Rattle.ksparse.specs.Words.{IsFaultOf};
-ghost use Rattle.ksparse.specs.Written.{reply_of};
+ghost use Rattle.ksparse.specs.Written.{reply_seen};
 
 use crate::check::check_text;
 use crate::command::{Command, WordFault, read_words};
@@ -40,7 +40,7 @@ impl From<AllocError> for Stop {
 pub fn answer<F: Files>(alloc: Global, words: &Words, files: &mut F) -> Result<Written, Stop>
     ensures right { IfOk result (λ written. (map : FileMap)
         → AgreesWith map (loads_since (F.loads files.old) (F.loads files.new))
-        → IsAnswer words.now map (reply_of written)) }
+        → IsAnswer words.now map (reply_seen written)) }
     ensures loading { Loading (F.holds files.old) (F.loads files.old) (F.loads files.new) }
     ensures cause { Told (F.faults files.old) (F.faults files.new) (IsErrOf result Stop.ReadFault) }
     ensures keeps { F.holds files.new ≡ F.holds files.old }
@@ -59,7 +59,7 @@ pub fn answer<F: Files>(alloc: Global, words: &Words, files: &mut F) -> Result<W
 // The reply to words that are at fault.
 fn usage(alloc: Global, words: &Words, fault: WordFault) -> Result<Written, Stop>
     requires { IsFaultOf words.now fault }
-    ensures right { IfOk result (λ written. (map : FileMap) → IsAnswer words.now map (reply_of written)) }
+    ensures right { IfOk result (λ written. (map : FileMap) → IsAnswer words.now map (reply_seen written)) }
     ensures memory { IfErr result (λ stop. stop ≡ Stop.NoMemory) }
 {
     match fault {
@@ -76,7 +76,7 @@ fn usage(alloc: Global, words: &Words, fault: WordFault) -> Result<Written, Stop
 fn check_file<F: Files>(alloc: Global, path: &[u8], files: &mut F) -> Result<Written, Stop>
     ensures right { IfOk result (λ written. (map : FileMap)
         → AgreesWith map (loads_since (F.loads files.old) (F.loads files.new))
-        → IsFileReply path.now (file_at map path.now) (reply_of written)) }
+        → IsFileReply path.now (file_at map path.now) (reply_seen written)) }
     ensures loading { Loading (F.holds files.old) (F.loads files.old) (F.loads files.new) }
     ensures cause { Told (F.faults files.old) (F.faults files.new) (IsErrOf result Stop.ReadFault) }
     ensures keeps { F.holds files.new ≡ F.holds files.old }

@@ -5,7 +5,7 @@ ghost use Rattle.first_form.specs.Known.{AreKnownFailures};
 ghost use Rattle.first_form.specs.Seen.{failures_of};
 ghost use Rattle.meaning_answer.specs.Answer.{IsTextReply, warned};
 ghost use Rattle.ksparse.specs.Unchecked.{IsReasonOf};
-ghost use Rattle.ksparse.specs.Written.{reply_of};
+ghost use Rattle.ksparse.specs.Written.{reply_seen};
 
 use crate::exit::Exit;
 use crate::refusal::Refusal;
@@ -56,7 +56,7 @@ impl From<LexFault> for Unchecked {
 /// Checks a file with this path and this text, and answers the reply to it.
 pub fn check_text(alloc: Global, path: &[u8], text: &[u8]) -> Result<Written, AllocError>
     requires { length text.now ≤ 8388608 }
-    ensures { IfOk result (λ written. IsTextReply path.now text.now (reply_of written)) }
+    ensures { IfOk result (λ written. IsTextReply path.now text.now (reply_seen written)) }
 {
     match check(alloc, path, text) {
         Ok(written) => Ok(written),
@@ -68,7 +68,7 @@ pub fn check_text(alloc: Global, path: &[u8], text: &[u8]) -> Result<Written, Al
 // The same, where refusals are data.
 fn check(alloc: Global, path: &[u8], text: &[u8]) -> Result<Written, Unchecked>
     requires { length text.now ≤ 8388608 }
-    ensures checked { IfOk result (λ written. IsTextReply path.now text.now (reply_of written)) }
+    ensures checked { IfOk result (λ written. IsTextReply path.now text.now (reply_seen written)) }
     ensures refused { IfErr result (IsReasonOf path.now text.now) }
 {
     let mut names = Names::new(alloc)?;
@@ -97,7 +97,7 @@ fn print(
     failures: &[Failure],
 ) -> Result<Written, AllocError>
     requires { AreKnownFailures names.now (length tokens.now) failures.now }
-    ensures { IfOk result (λ written. reply_of written
+    ensures { IfOk result (λ written. reply_seen written
         ≡ warned path.now (toks_of names.now tokens.now) (failures_of names.now failures.now)) }
 {
     if failures.is_empty() {

@@ -1,6 +1,6 @@
 ghost use Rattle.std.specs.Prelude.{◌≡◌, IfOk, IfErr};
 ghost use Rattle.meaning_answer.specs.Command as meaning;
-ghost use Rattle.ksparse.specs.Words.{AreDefault, IsFaultOf, options_of, request_of};
+ghost use Rattle.ksparse.specs.Words.{AreDefault, EachStandsOnce, IsFaultOf, options_seen, request_seen};
 
 use sparse_model::{Bytes, Class, Options, Seq};
 use sparse_outside::Words;
@@ -38,8 +38,11 @@ impl From<AllocError> for WordFault {
 
 /// Reads the words of a command: one operand, the file, and nothing else.
 pub fn read_words(alloc: Global, words: &Words) -> Result<Command, WordFault>
-    ensures command { IfOk result (λ command. request_of command ≡ meaning.request_of words.now) }
-    ensures options { IfOk result (λ command. AreDefault (options_of command)) }
+    ensures command { IfOk result (λ command. request_seen command ≡ meaning.request_of words.now) }
+    ensures options { IfOk result (λ command. AreDefault (options_seen command)) }
+
+    // Each class that is on stands once.
+    ensures once { IfOk result (λ command. EachStandsOnce (options_seen command).classes) }
     ensures fault { IfErr result (IsFaultOf words.now) }
 {
     let Some(word) = words.get(0) else {
@@ -56,8 +59,8 @@ pub fn read_words(alloc: Global, words: &Words) -> Result<Command, WordFault>
 
 // The command that checks a file, with nothing set besides.
 fn check_command(alloc: Global, path: &[u8]) -> Result<Command, WordFault>
-    ensures command { IfOk result (λ command. request_of command ≡ meaning.Check path.now) }
-    ensures options { IfOk result (λ command. AreDefault (options_of command)) }
+    ensures command { IfOk result (λ command. request_seen command ≡ meaning.Check path.now) }
+    ensures options { IfOk result (λ command. AreDefault (options_seen command)) }
     ensures memory { IfErr result (λ fault. fault ≡ WordFault.Memory) }
 {
     let file = Seq::from_vec(Vec::from_slice(alloc, path)?);

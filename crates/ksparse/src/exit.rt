@@ -1,6 +1,6 @@
 ghost use Rattle.std.specs.Prelude.{◌≡◌};
 ghost use Rattle.meaning_answer.specs.Reply.{status_of};
-ghost use Rattle.ksparse.specs.Ending.{ending_of};
+ghost use Rattle.ksparse.specs.Ending.{ending_seen};
 
 /// How a command ended.
 #[derive(Clone, Copy, Debug, PartialEq, Eq)]
@@ -26,7 +26,7 @@ pub enum Exit {
 impl Exit {
     /// The status with which the program ends.
     pub fn status(self) -> u8
-        ensures { result ≡ status_of (ending_of self) }
+        ensures { result ≡ status_of (ending_seen self) }
     {
         match self {
             Exit::Clean => 0,

@@ -4,8 +4,8 @@ ghost use Rattle.vocabulary.specs.Errors.{error_line};
 ghost use Rattle.c_tokens.specs.Seen.{at_of};
 ghost use Rattle.meaning_answer.specs.Refusal.{error_text, limit_text, refusal_reply};
 ghost use Rattle.meaning_answer.specs.Reply.{Limit, Refused, line};
-ghost use Rattle.ksparse.specs.Refusal.{refusal_of};
-ghost use Rattle.ksparse.specs.Written.{reply_of};
+ghost use Rattle.ksparse.specs.Refusal.{refusal_seen};
+ghost use Rattle.ksparse.specs.Written.{reply_seen};
 
 use crate::exit::Exit;
 use crate::reply::Written;
@@ -46,7 +46,7 @@ impl Refusal {
     /// the file.
     pub fn reply(self, alloc: Global, subject: &[u8]) -> Result<Written, AllocError>
         ensures { IfOk result
-            (λ written. reply_of written ≡ refusal_reply subject.now (refusal_of self)) }
+            (λ written. reply_seen written ≡ refusal_reply subject.now (refusal_seen self)) }
     {
         match self {
             Refusal::UnknownWord => {
@@ -71,14 +71,14 @@ impl Refusal {
 
 // The line of a limit that was passed.
 fn limit(alloc: Global, kind: LimitKind) -> Result<Written, AllocError>
-    ensures { IfOk result (λ written. reply_of written ≡ line Limit (limit_text kind)) }
+    ensures { IfOk result (λ written. reply_seen written ≡ line Limit (limit_text kind)) }
 {
     Written::line(alloc, Exit::Limit, b"ksparse: limit: ", kind.name())
 }
 
 // The line for a file that isn't there, which has no place.
 fn no_such_file(alloc: Global, path: &[u8]) -> Result<Written, AllocError>
-    ensures { IfOk result (λ written. reply_of written
+    ensures { IfOk result (λ written. reply_seen written
         ≡ line Refused (codes "ksparse: " ++ error_line ErrorKind.NoSuchFile path.now)) }
 {
     let mut error = Vec::new(alloc);
@@ -93,7 +93,7 @@ fn error_at(
     place: Place,
     kind: ErrorKind,
 ) -> Result<Written, AllocError>
-    ensures { IfOk result (λ written. reply_of written
+    ensures { IfOk result (λ written. reply_seen written
         ≡ line Refused (error_text path.now (at_of place) kind)) }
 {
     let mut front = Vec::new(alloc);

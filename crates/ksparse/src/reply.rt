@@ -1,7 +1,7 @@
 ghost use Rattle.std.specs.Prelude.{◌≡◌, ◌++◌, IfOk, length};
 ghost use Rattle.meaning_answer.specs.Reply.{line, silence};
-ghost use Rattle.ksparse.specs.Ending.{ending_of};
-ghost use Rattle.ksparse.specs.Written.{reply_of};
+ghost use Rattle.ksparse.specs.Ending.{ending_seen};
+ghost use Rattle.ksparse.specs.Written.{reply_seen};
 
 use crate::exit::Exit;
 use std::alloc::{AllocError, Global};
@@ -17,7 +17,7 @@ pub struct Written {
 impl Written {
     /// Nothing, and a clean exit.
     pub fn silent(alloc: Global) -> Self
-        ensures { reply_of result ≡ silence }
+        ensures { reply_seen result ≡ silence }
     {
         Written {
             out: Vec::new(alloc),
@@ -29,7 +29,7 @@ impl Written {
     /// One line for `err`, of two parts.
     pub fn line(alloc: Global, exit: Exit, front: &[u8], back: &[u8]) -> Result<Self, AllocError>
         ensures { IfOk result
-            (λ written. reply_of written ≡ line (ending_of exit) (front.now ++ back.now)) }
+            (λ written. reply_seen written ≡ line (ending_seen exit) (front.now ++ back.now)) }
     {
         let mut err = Vec::from_slice(alloc, front)?;
         err.extend_from_slice(back)?;

@@ -3,7 +3,7 @@ ghost use Rattle.meaning_outside.specs.Faults.{Rose, Told, ToldOfTwo};
 ghost use Rattle.meaning_outside.specs.Files.{FileMap};
 ghost use Rattle.meaning_outside.specs.Loads.{AgreesWith, EachPathIsLoadedOnce, LoadsStay, loads_since};
 ghost use Rattle.meaning_answer.specs.Delivery.{Completes, IsOutcome};
-ghost use Rattle.ksparse.specs.Ending.{ending_of};
+ghost use Rattle.ksparse.specs.Ending.{ending_seen};
 ghost use Rattle.ksparse.specs.Safe.{IsSafeIfClean};
 ghost use Rattle.ksparse.specs.Sinks.{TellsWhatItTook};
 
@@ -33,7 +33,7 @@ pub fn ksparse<F: Files, O: Sink, E: Sink>(
 
     // Over each such map the answer was taken: whole, a front of it, or nothing, as the exit says.
     ensures outcome { IsOutcome words.now (loads_since (F.loads files.old) (F.loads files.new))
-        (ending_of result) (record {
+        (ending_seen result) (record {
           old_out = O.taken out.old;
           new_out = O.taken out.new;
           old_err = E.taken err.old;
@@ -44,7 +44,7 @@ pub fn ksparse<F: Files, O: Sink, E: Sink>(
     ensures complete { Completes words.now (loads_since (F.loads files.old) (F.loads files.new))
         (Rose (F.faults files.old) (F.faults files.new) ⊎ Rose (O.faults out.old) (O.faults out.new)
         ⊎ Rose (E.faults err.old) (E.faults err.new))
-        (ending_of result) (record {
+        (ending_seen result) (record {
           old_out = O.taken out.old;
           new_out = O.taken out.new;
           old_err = E.taken err.old;
@@ -53,7 +53,7 @@ pub fn ksparse<F: Files, O: Sink, E: Sink>(
 
     // Clean says that no run of the file that the words name meets a fault, whatever map it is taken from.
     ensures safe { IsSafeIfClean words.now (loads_since (F.loads files.old) (F.loads files.new))
-        (ending_of result) }
+        (ending_seen result) }
 
     // Faults are told exactly by the counts.
     ensures read { Told (F.faults files.old) (F.faults files.new) (result ≡ Exit.ReadFault) }

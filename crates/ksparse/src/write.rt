@@ -2,7 +2,7 @@ ghost use Rattle.std.specs.Prelude.{◌≡◌, ◌++◌, true, false};
 ghost use Rattle.meaning_outside.specs.Faults.{Told, ToldOfTwo};
 ghost use Rattle.meaning_answer.specs.Delivery.{BreaksOff, Delivers};
 ghost use Rattle.ksparse.specs.Sinks.{GoesOutFirst, TakesFront, TellsWhatItTook};
-ghost use Rattle.ksparse.specs.Written.{reply_of};
+ghost use Rattle.ksparse.specs.Written.{reply_seen};
 
 use crate::reply::Written;
 use sparse_outside::{Put, Sink};
@@ -10,19 +10,19 @@ use sparse_outside::{Put, Sink};
 /// Writes the texts of a reply, that for `out` first, and says whether all of them were taken. Where they
 /// weren't, a front was.
 pub fn deliver<O: Sink, E: Sink>(written: &Written, out: &mut O, err: &mut E) -> bool
-    ensures whole { result ≡ true → Delivers (reply_of written.now) (record {
+    ensures whole { result ≡ true → Delivers (reply_seen written.now) (record {
       old_out = O.taken out.old;
       new_out = O.taken out.new;
       old_err = E.taken err.old;
       new_err = E.taken err.new;
     }) }
-    ensures broken { result ≡ false → BreaksOff (reply_of written.now) (record {
+    ensures broken { result ≡ false → BreaksOff (reply_seen written.now) (record {
       old_out = O.taken out.old;
       new_out = O.taken out.new;
       old_err = E.taken err.old;
       new_err = E.taken err.new;
     }) }
-    ensures order { GoesOutFirst (reply_of written.now) (record {
+    ensures order { GoesOutFirst (reply_seen written.now) (record {
       old_out = O.taken out.old;
       new_out = O.taken out.new;
       old_err = E.taken err.old;

@@ -55,15 +55,18 @@ abbrev pub TellsOpening : List ℕ → List ℕ → Reply → Type 0
 TellsOpening path text reply =
     (fault : LexFault) × OpensFile main_file text fault × (reply ≡ refusal_reply path (Opens fault))
 
+-- the reply to the file with this path and text is one of these four
 abbrev pub IsTextReply : List ℕ → List ℕ → Reply → Type 0
 IsTextReply path text reply =
     TellsFailures path text reply ⊎ (TellsManyTokens path text reply ⊎ (TellsNotBuilt path text reply ⊎ TellsOpening path text reply))
 
+-- the reply to what is found at the path: no file, a file of too many bytes, or a text
 abbrev pub IsFileReply : List ℕ → Option (List ℕ) → Reply → Type 0
 IsFileReply path None reply = reply ≡ refusal_reply path NoSuchFile
 IsFileReply path (Some text) reply =
     ((most_bytes < length text) × (reply ≡ refusal_reply path LargeFile)) ⊎ ((length text ≤ most_bytes) × IsTextReply path text reply)
 
+-- the reply to a request over these files: what is wrong with the words, or the reply to a file
 abbrev pub IsRequestReply : Request → FileMap → Reply → Type 0
 IsRequestReply (BadWord position word) files reply = reply ≡ refusal_reply word UnknownWord
 IsRequestReply MissingFile files reply = reply ≡ refusal_reply [] MissingOperand

@@ -3,6 +3,7 @@ use Rattle.std.specs.Prelude.{ℕ, Bool, false, ◌||◌, ◌==◌, List, [], �
 use Rattle.std.specs.List.{list_any}
 use Rattle.std.specs.Str.{bytes_eq}
 
+-- what the words ask for, or why they are refused
 pub data Request : Type 0 where
   -- the first word that no rule allows, and where it stands among the words, from 0
   BadWord : (position : ℕ) (word : List ℕ) → Request
@@ -20,6 +21,7 @@ is_command word =
 abbrev pub hyphen : ℕ
 hyphen = 45
 
+-- the word begins with a hyphen
 abbrev pub is_option : List ℕ → Bool
 is_option [] = false
 is_option (b ∷ bytes) = b == hyphen

@@ -17,6 +17,7 @@ pub record Delivers (reply : Reply) (sinks : Sinks) : Type 0 where
   pub out : sinks.new_out ≡ sinks.old_out ++ reply.out
   pub err : sinks.new_err ≡ sinks.old_err ++ reply.err
 
+-- the text begins with this front
 abbrev pub IsPrefix : List ℕ → List ℕ → Type 0
 IsPrefix front text = (back : List ℕ) × (text ≡ front ++ back)
 

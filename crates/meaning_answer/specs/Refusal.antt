@@ -11,6 +11,7 @@ use Rattle.meaning_text.specs.Tokens.{LexFault, OpenComment, OpenLiteral}
 use Rattle.meaning_rules.specs.Text.{place_text}
 use Rattle.meaning_answer.specs.Reply.{Ending, Refused, Usage, Limit, Reply, line}
 
+-- why a command is refused
 pub data Refusal : Type 0 where
   -- no rule allows the word
   UnknownWord : Refusal
@@ -41,6 +42,7 @@ refusal_ending ManyTokens = Limit
 abbrev pub error_text : List ℕ → At → ErrorKind → List ℕ
 error_text path at kind = place_text path at ++ codes " " ++ error_line kind []
 
+-- what is said where this quantity passes its number
 abbrev pub limit_text : LimitKind → List ℕ
 limit_text kind = codes "ksparse: limit: " ++ limit_name kind
 
@@ -55,5 +57,6 @@ refusal_text path (Opens (OpenLiteral at)) = error_text path at errors.Untermina
 refusal_text path NotBuilt = error_text path (start_of main_file) errors.FormNotBuilt
 refusal_text path ManyTokens = limit_text UnitTokens
 
+-- the reply of a refusal: its line on err, and its ending
 abbrev pub refusal_reply : (subject : List ℕ) → Refusal → Reply
 refusal_reply subject refusal = line (refusal_ending refusal) (refusal_text subject refusal)

@@ -1,14 +1,23 @@
 -- What a command writes, and how it ends.
 use Rattle.std.specs.Prelude.{◌≡◌, ℕ, List, [], ◌++◌, codes}
 
+-- how a command ends
 pub data Ending : Type 0 where
+  -- no rule fails
   Clean : Ending
+  -- a rule fails
   Warned : Ending
+  -- the file can't be checked
   Refused : Ending
+  -- the words are at fault
   Usage : Ending
+  -- a load failed
   ReadFault : Ending
+  -- a write failed
   WriteFault : Ending
+  -- memory was wanting
   NoMemory : Ending
+  -- a counted quantity passed its number
   Limit : Ending
 
 -- the status with which the program ends
@@ -22,11 +31,13 @@ status_of WriteFault = 5
 status_of NoMemory = 6
 status_of Limit = 7
 
+-- the texts that are written to both outputs, and how the command ends
 pub record Reply : Type 0 where
   pub out : List ℕ
   pub err : List ℕ
   pub ending : Ending
 
+-- nothing is written, and the ending is clean
 abbrev pub silence : Reply
 silence = record { out = []; err = []; ending = Clean }
 
@@ -49,5 +60,6 @@ HasShape ReadFault out err = ⊥
 HasShape WriteFault out err = ⊥
 HasShape NoMemory out err = ⊥
 
+-- the reply is like what its ending says
 abbrev pub IsShaped : Reply → Type 0
 IsShaped reply = HasShape reply.ending reply.out reply.err

@@ -11,9 +11,12 @@ pub record Constant : Type 0 where
 pub data Fault : Type 0 where
   BadDigitFault : Fault
   BadSuffixFault : Fault
+  -- no kind that it may have holds its value
   TooBigFault : Fault
   FloatingFault : Fault
   BadEscapeFault : Fault
+  -- a character constant without a character
   EmptyFault : Fault
+  -- it has a prefix
   WideFault : Fault
   UniversalFault : Fault

@@ -4,6 +4,7 @@ use Rattle.std.specs.Str.{bytes_eq}
 use Rattle.meaning_literals.specs.Numbers.{Octal, Hexadecimal, is_digit_of, digits_of, number}
 use Rattle.meaning_literals.specs.Bytes.{is_one_of}
 
+-- what a literal is made of between its quotation marks
 pub data Element : Type 0 where
   -- a byte that stands for itself
   Plain : ℕ → Element
@@ -32,6 +33,7 @@ simple_values = codes "'\"?\\" ++ 7 ∷ 8 ∷ 12 ∷ 10 ∷ 13 ∷ 9 ∷ 11 ∷ 
 abbrev pub simple_value : ℕ → Option ℕ
 simple_value b = option_map (λ row. row.1) (find (λ row. b == row.0) (zip simple_escapes simple_values))
 
+-- a backslash with the byte behind it, where they begin no escape sequence
 abbrev pub unknown_escape : Piece
 unknown_escape = record { element = UnknownEscape; further = 1 }
 

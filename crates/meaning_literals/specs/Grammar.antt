@@ -5,6 +5,7 @@ use Rattle.meaning_literals.specs.Numbers.{Base, Octal, Hexadecimal, is_digit_of
 use Rattle.meaning_literals.specs.Bytes.{is_one_of}
 use Rattle.meaning_literals.specs.Elements.{Element, Plain, Escape, UnknownEscape, UniversalName, simple_value}
 
+-- all bytes are digits of the base
 abbrev pub are_digits : Base → List ℕ → Bool
 are_digits base digits = list_all (is_digit_of base) digits
 

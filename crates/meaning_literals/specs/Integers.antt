@@ -16,6 +16,7 @@ has_hexadecimal_prefix [] = false
 has_hexadecimal_prefix (b ∷ []) = false
 has_hexadecimal_prefix (b ∷ c ∷ text) = is_one_of (codes "0") b && is_one_of (codes "xX") c
 
+-- the text begins with `0`
 abbrev pub begins_with_zero : List ℕ → Bool
 begins_with_zero [] = false
 begins_with_zero (b ∷ text) = is_one_of (codes "0") b
@@ -40,6 +41,7 @@ floating_marks Hexadecimal = codes ".pP"
 abbrev pub is_floating : List ℕ → Bool
 is_floating text = list_any (is_one_of (floating_marks (base_of text))) text
 
+-- the text begins with a decimal digit
 abbrev pub begins_with_digit : List ℕ → Bool
 begins_with_digit [] = false
 begins_with_digit (b ∷ text) = is_ascii_digit b

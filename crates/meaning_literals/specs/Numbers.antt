@@ -3,11 +3,13 @@ use Rattle.std.specs.Prelude.{ℕ, ◌+◌, ◌*◌, ◌^◌, Bool, List, [], �
 use Rattle.std.specs.List.{prefix_len}
 use Rattle.std.specs.Char.{digit_value, is_digit}
 
+-- the base of a number that digits write (6.4.4.1 p1)
 pub data Base : Type 0 where
   Octal : Base
   Decimal : Base
   Hexadecimal : Base
 
+-- how many digits the base has
 abbrev pub radix : Base → ℕ
 radix Octal = 8
 radix Decimal = 10

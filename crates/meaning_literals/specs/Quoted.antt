@@ -37,6 +37,7 @@ single_byte [] = Err EmptyFault
 single_byte (element ∷ []) = byte_of element
 single_byte (element ∷ other ∷ elements) = Err (fault_of_two (byte_of element) (byte_of other))
 
+-- the constant of a byte, or the fault for which there is no byte
 abbrev pub char_constant_of : Result ℕ Fault → Result Constant Fault
 char_constant_of (Ok b) = Ok (char_constant b)
 char_constant_of (Err fault) = Err fault

@@ -12,9 +12,11 @@ pub data Suffix : Type 0 where
   LL : Suffix
   ULL : Suffix
 
+-- the spellings of an unsigned-suffix (6.4.4.1 p1)
 abbrev pub unsigned_words : List (List ℕ)
 unsigned_words = codes "u" ∷ codes "U" ∷ []
 
+-- the spellings of a long-suffix (6.4.4.1 p1)
 abbrev pub long_words : List (List ℕ)
 long_words = codes "l" ∷ codes "L" ∷ []
 
@@ -26,6 +28,7 @@ long_long_words = codes "ll" ∷ codes "LL" ∷ []
 abbrev pub joined : List (List ℕ) → List (List ℕ) → List (List ℕ)
 joined words others = flat_map (λ word. map (λ other. word ++ other) others) words
 
+-- a word of the one list and a word of the other, in both orders
 abbrev pub in_either_order : List (List ℕ) → List (List ℕ) → List (List ℕ)
 in_either_order words others = joined words others ++ joined others words
 
@@ -38,9 +41,11 @@ spellings UL = in_either_order unsigned_words long_words
 spellings LL = long_long_words
 spellings ULL = in_either_order unsigned_words long_long_words
 
+-- the suffix is spelled so
 abbrev pub is_spelling : Suffix → List ℕ → Bool
 is_spelling suffix text = list_any (bytes_eq text) (spellings suffix)
 
+-- all suffixes
 abbrev pub suffixes : List Suffix
 suffixes = NoSuffix ∷ U ∷ L ∷ UL ∷ LL ∷ ULL ∷ []
 

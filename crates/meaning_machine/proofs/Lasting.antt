@@ -4,11 +4,11 @@ use Rattle.std.specs.Str.{bytes_eq}
 use Rattle.meaning_types.specs.Types.{flags_of, has_flag}
 use Rattle.meaning_tree.specs.Trees.{SyntaxTree, external_parts}
 use Rattle.meaning_rules.specs.Bindings.{Binding}
-use Rattle.meaning_machine.specs.Values.{Value, Integer, Pointer, Spot, Null, Foreign, In, Place, Cell, Block}
+use Rattle.meaning_machine.specs.Values.{Value, Integer, Pointer, Spot, Null, Foreign, In, Lvalue, Cell, Block}
 use Rattle.meaning_machine.specs.Outcomes.{DeadBlock, OutOfBounds, ReadOnly, FaultKind, AccessFault, Answer, Gives, IsFault, IsUndefined}
 use Rattle.meaning_machine.specs.Memory.{adopt, load, store, store_block, content_at, with_content, block_with, is_read_only}
-use Rattle.meaning_machine.specs.Code.{PlaceCode, Named, Behind, NoPlace, ValueCode}
-use Rattle.meaning_machine.specs.Machine.{AfterPlace, AfterValue, Control, EnterBody, EnterStatement, EnterPlace, EnterAddress, EnterAssignment, Load, Move, Store, Leave, Finished, Outcome, Next, Done, Undefined, Fault, place_of, entered_name, loaded, moved, written, adopted, step}
+use Rattle.meaning_machine.specs.Code.{LvalueCode, Named, Behind, NoLvalue, ValueCode}
+use Rattle.meaning_machine.specs.Machine.{AfterLvalue, AfterValue, Control, EnterBody, EnterStatement, EnterLvalue, EnterAddress, EnterAssignment, Load, Move, Store, Leave, Finished, Outcome, Next, Done, Undefined, Fault, lvalue_of, entered_name, loaded, moved, written, adopted, step}
 use Rattle.meaning_machine.specs.Runs.{World, Moves, Start, Step, Write, Starts, Takes, body_at, bindings_in}
 use Rattle.meaning_machine.specs.Runs as runs
 use Rattle.meaning_machine.specs.plain.Playing.{has_content}
@@ -123,20 +123,20 @@ stay-stored blocks (In number path index length) value = stay-stored_block block
 
 -- the written value goes on
 stay-written_answer :
-    (blocks : List Block) (value : Value) (place_token : ℕ) (after : AfterValue) (answer : Answer (List Block)) → StayInAnswer blocks answer
-    → StayInOutcome blocks (written value place_token after answer)
-stay-written_answer blocks value place_token after (Gives later) stay = stay
-stay-written_answer blocks value place_token after (IsFault kind) stay = tt
-stay-written_answer blocks value place_token after (IsUndefined reason) stay = tt
+    (blocks : List Block) (value : Value) (lvalue_token : ℕ) (after : AfterValue) (answer : Answer (List Block)) → StayInAnswer blocks answer
+    → StayInOutcome blocks (written value lvalue_token after answer)
+stay-written_answer blocks value lvalue_token after (Gives later) stay = stay
+stay-written_answer blocks value lvalue_token after (IsFault kind) stay = tt
+stay-written_answer blocks value lvalue_token after (IsUndefined reason) stay = tt
 
 -- an adopted value is written
 stay-adopted :
-    (blocks : List Block) (place : Place) (place_token token : ℕ) (after : AfterValue) (answer : Answer Value)
-    → StayInOutcome blocks (adopted blocks place place_token token after answer)
-stay-adopted blocks place place_token token after (Gives value) =
-    stay-written_answer blocks value place_token after (store blocks place.spot value) (stay-stored blocks place.spot value)
-stay-adopted blocks place place_token token after (IsFault kind) = tt
-stay-adopted blocks place place_token token after (IsUndefined reason) = tt
+    (blocks : List Block) (place : Lvalue) (lvalue_token token : ℕ) (after : AfterValue) (answer : Answer Value)
+    → StayInOutcome blocks (adopted blocks place lvalue_token token after answer)
+stay-adopted blocks place lvalue_token token after (Gives value) =
+    stay-written_answer blocks value lvalue_token after (store blocks place.spot value) (stay-stored blocks place.spot value)
+stay-adopted blocks place lvalue_token token after (IsFault kind) = tt
+stay-adopted blocks place lvalue_token token after (IsUndefined reason) = tt
 
 -- a flag ends the step before
 stay-flagged :
@@ -152,34 +152,34 @@ stay-loaded blocks token after (IsFault kind) = tt
 stay-loaded blocks token after (IsUndefined reason) = tt
 
 -- nor does a move
-stay-moved : (blocks : List Block) (value : Value) (token : ℕ) (after : AfterPlace) → StayInOutcome blocks (moved blocks value token after)
+stay-moved : (blocks : List Block) (value : Value) (token : ℕ) (after : AfterLvalue) → StayInOutcome blocks (moved blocks value token after)
 stay-moved blocks (Pointer target spot) token after = stay-same blocks
 stay-moved blocks (Integer kind restricted fouled number) token after = tt
 
 -- nor does the place of a name
-stay-entered : (blocks : List Block) (token : ℕ) (found : Option Place) (after : AfterPlace) → StayInOutcome blocks (entered_name blocks token found after)
+stay-entered : (blocks : List Block) (token : ℕ) (found : Option Lvalue) (after : AfterLvalue) → StayInOutcome blocks (entered_name blocks token found after)
 stay-entered blocks token None after = tt
 stay-entered blocks token (Some place) after = stay-same blocks
 
 -- nor that of a node
-stay-entered_place :
-    (scope : List Binding) (blocks : List Block) (place : PlaceCode) (after : AfterPlace) → StayInOutcome blocks (step scope blocks (EnterPlace place after))
-stay-entered_place scope blocks (Named token name) after = stay-entered blocks token (place_of scope name) after
-stay-entered_place scope blocks (Behind token pointer) after = stay-same blocks
-stay-entered_place scope blocks (NoPlace token) after = tt
+stay-entered_lvalue :
+    (scope : List Binding) (blocks : List Block) (place : LvalueCode) (after : AfterLvalue) → StayInOutcome blocks (step scope blocks (EnterLvalue place after))
+stay-entered_lvalue scope blocks (Named token name) after = stay-entered blocks token (lvalue_of scope name) after
+stay-entered_lvalue scope blocks (Behind token pointer) after = stay-same blocks
+stay-entered_lvalue scope blocks (NoLvalue token) after = tt
 
 -- a store alone changes blocks
 stay-step : (scope : List Binding) (blocks : List Block) (control : Control) → StayInOutcome blocks (step scope blocks control)
 stay-step scope blocks (EnterBody statements) = stay-same blocks
 stay-step scope blocks (EnterStatement statement statements) = stay-same blocks
-stay-step scope blocks (EnterPlace place after) = stay-entered_place scope blocks place after
+stay-step scope blocks (EnterLvalue place after) = stay-entered_lvalue scope blocks place after
 stay-step scope blocks (EnterAddress place after) = stay-same blocks
 stay-step scope blocks (EnterAssignment token left right after) = stay-same blocks
 stay-step scope blocks (Load place token after) = stay-loaded blocks token after (load blocks place)
 stay-step scope blocks (Move value token after) = stay-moved blocks value token after
-stay-step scope blocks (Store place place_token value token after) =
-    stay-flagged blocks (adopted blocks place place_token token after (adopt value place.type_)) AccessFault place_token (has_flag (flags_of place.type_))
-    (stay-adopted blocks place place_token token after (adopt value place.type_))
+stay-step scope blocks (Store place lvalue_token value token after) =
+    stay-flagged blocks (adopted blocks place lvalue_token token after (adopt value place.type_)) AccessFault lvalue_token (has_flag (flags_of place.type_))
+    (stay-adopted blocks place lvalue_token token after (adopt value place.type_))
 stay-step scope blocks Leave = tt
 stay-step scope blocks Finished = tt
 

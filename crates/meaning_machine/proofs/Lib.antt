@@ -1,7 +1,7 @@
 pub mod Conversion
 pub mod Similar
 pub mod Storage
-pub mod Places
+pub mod Lvalues
 pub mod WellTyped
 pub mod Steps
 pub mod Worlds

@@ -9,8 +9,8 @@ use Rattle.meaning_syntax.specs.Items.{Word, Item, Object}
 use Rattle.meaning_syntax.specs.Binding.{item_name, is_declared, are_bound}
 use Rattle.meaning_rules.specs.Typing.{declared_type}
 use Rattle.meaning_rules.specs.Placed.{item_binding}
-use Rattle.meaning_machine.specs.Values.{In, Place}
-use Rattle.meaning_machine.specs.Machine.{place_from, place_of}
+use Rattle.meaning_machine.specs.Values.{In, Lvalue}
+use Rattle.meaning_machine.specs.Machine.{lvalue_from, lvalue_of}
 use Rattle.meaning_machine.specs.Runs.{bindings_in}
 use Rattle.meaning_machine.specs.laws.Runs.{NamesDesignate}
 use Rattle.meaning_machine.proofs.WellTyped.{bindings_among-items}
@@ -49,28 +49,28 @@ renamed before items item number one bound there =
     (neither _ _ (neither _ _ (sym (list_any-append (has_name (item_name one)) before (item ∷ []))
     ∙ undeclared (before ++ item ∷ []) items number one (and_parts _ _ bound).1 there)).1).0
 
--- Places
+-- Lvalues
 
 -- the place of an object whose block has this number
-abbrev place_at : ℕ → List Word → ℕ → Place
-place_at number words stars = record { type_ = declared_type (record { words = words; stars = stars }); spot = In number [] 0 1 }
+abbrev lvalue_at : ℕ → List Word → ℕ → Lvalue
+lvalue_at number words stars = record { type_ = declared_type (record { words = words; stars = stars }); spot = In number [] 0 1 }
 
 -- the name of an object among items whose blocks begin at this number
-place_from-object :
+lvalue_from-object :
     (before items : List Item) (start number : ℕ) (words : List Word) (stars : ℕ) (name : List ℕ) → are_bound before items ≡ true
-    → slice_get items number ≡ Some (Object words stars name) → place_from start (map item_binding items) name ≡ Some (place_at (start + number) words stars)
-place_from-object before [] start number words stars name bound there = cc there
-place_from-object before (item ∷ items) start zero words stars name bound there =
-    subst (λ i. place_from start (map item_binding (i ∷ items)) name ≡ Some (place_at (start + 0) words stars)) (sym (same_Some _ _ there))
-    (rw ((bytes_eq-Decides name name).1 refl) (ap (λ k. Some (place_at k words stars)) (omega arith)))
-place_from-object before (item ∷ items) start (suc number) words stars name bound there =
+    → slice_get items number ≡ Some (Object words stars name) → lvalue_from start (map item_binding items) name ≡ Some (lvalue_at (start + number) words stars)
+lvalue_from-object before [] start number words stars name bound there = cc there
+lvalue_from-object before (item ∷ items) start zero words stars name bound there =
+    subst (λ i. lvalue_from start (map item_binding (i ∷ items)) name ≡ Some (lvalue_at (start + 0) words stars)) (sym (same_Some _ _ there))
+    (rw ((bytes_eq-Decides name name).1 refl) (ap (λ k. Some (lvalue_at k words stars)) (omega arith)))
+lvalue_from-object before (item ∷ items) start (suc number) words stars name bound there =
     rw (renamed before items item number (Object words stars name) bound there)
-    (place_from-object (before ++ item ∷ []) items (start + 1) number words stars name (and_parts _ _ bound).1 there
-    ∙ ap (λ k. Some (place_at k words stars)) (omega arith))
+    (lvalue_from-object (before ++ item ∷ []) items (start + 1) number words stars name (and_parts _ _ bound).1 there
+    ∙ ap (λ k. Some (lvalue_at k words stars)) (omega arith))
 
 pub names_designate : NamesDesignate
 names_designate unit form number words stars name there =
-    ap (λ tree. place_of (bindings_in tree) name) form.is_tree
-    ∙ ap (λ scope. place_of scope name) (bindings_among-items 0 form.items)
-    ∙ place_from-object [] form.items 0 number words stars name form.bound there
-    ∙ ap (λ k. Some (place_at k words stars)) (omega arith)
+    ap (λ tree. lvalue_of (bindings_in tree) name) form.is_tree
+    ∙ ap (λ scope. lvalue_of scope name) (bindings_among-items 0 form.items)
+    ∙ lvalue_from-object [] form.items 0 number words stars name form.bound there
+    ∙ ap (λ k. Some (lvalue_at k words stars)) (omega arith)

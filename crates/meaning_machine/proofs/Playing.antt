@@ -14,7 +14,8 @@ use Rattle.meaning_machine.specs.Code.{ValueCode}
 use Rattle.meaning_machine.specs.Machine.{Control, Outcome, Next, Done, Undefined, Fault, step}
 use Rattle.meaning_machine.specs.Outcomes.{FaultKind}
 use Rattle.meaning_machine.specs.Runs.{World, opening, Move, Start, Step, Write, Runs, IsSafe, Moves, Starts, Takes, IsWritable, body_at, bindings_in}
-use Rattle.meaning_machine.specs.plain.Playing.{is_element, block_fits_now, spot_fits_now, value_fits_now, fits_now, made_fits_now, has_content, is_writable_now, started, taken, written_if, moved_to, played_from, onto, PlayedIsRun, FaultsAreUnsafe}
+use Rattle.meaning_machine.specs.laws.Playing.{PlayedIsRun, FaultsAreUnsafe}
+use Rattle.meaning_machine.specs.plain.Playing.{is_element, block_fits_now, spot_fits_now, value_fits_now, fits_now, made_fits_now, has_content, is_writable_now, started, taken, written_if, moved_to, played_from, onto}
 
 -- Tests say what the relations say
 

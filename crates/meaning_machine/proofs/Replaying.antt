@@ -10,7 +10,8 @@ use Rattle.meaning_machine.specs.Values.{Spot, Null, Foreign, In, Value, Integer
 use Rattle.meaning_machine.specs.Code.{ValueCode}
 use Rattle.meaning_machine.specs.Machine.{Outcome, Next, Done, Undefined, Fault, step}
 use Rattle.meaning_machine.specs.Runs.{World, Move, Start, Step, Write, Runs, Starts, Takes, IsWritable, body_at, bindings_in}
-use Rattle.meaning_machine.specs.plain.Playing.{is_element, spot_fits_now, value_fits_now, fits_now, is_writable_now, started, taken, played_from, onto, MovesArePlayed, RunIsPlayed}
+use Rattle.meaning_machine.specs.laws.Playing.{MovesArePlayed, RunIsPlayed}
+use Rattle.meaning_machine.specs.plain.Playing.{is_element, spot_fits_now, value_fits_now, fits_now, is_writable_now, started, taken, played_from, onto}
 
 -- Tests
 

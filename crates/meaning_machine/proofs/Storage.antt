@@ -5,10 +5,10 @@ use Rattle.std.proofs.lemmas.Option.{get_or_from_slice_get}
 use Rattle.meaning_types.specs.Types.{TypeTree, Typed, IntegerTree, PointerTree, has_flag, bare}
 use Rattle.meaning_types.proofs.Equality.{are_similar-Decides}
 use Rattle.meaning_rules.specs.Bindings.{Binding}
-use Rattle.meaning_machine.specs.Values.{Spot, Null, Foreign, In, Value, Integer, Pointer, Place, ForObject, Cell, Block, IsInRange, SpotFits, Fits}
+use Rattle.meaning_machine.specs.Values.{Spot, Null, Foreign, In, Value, Integer, Pointer, Lvalue, ForObject, Cell, Block, IsInRange, SpotFits, Fits}
 use Rattle.meaning_machine.specs.Outcomes.{DeadBlock, OutOfBounds, ReadOnly, AccessFault, Answer, Gives, IsFault, IsUndefined}
 use Rattle.meaning_machine.specs.Memory.{adopt, content_at, with_content, block_with, is_made_for, is_read_only, value_of_content, load_block, load_spot, load, store_block, store}
-use Rattle.meaning_machine.specs.laws.Soundness.{IsUnflagged, Agree, first_blocks, PlaceFits, ValueFitsIn, CellsFit, AreSoundBlocks}
+use Rattle.meaning_machine.specs.laws.Soundness.{IsUnflagged, Agree, first_blocks, LvalueFits, ValueFitsIn, CellsFit, AreSoundBlocks}
 use Rattle.meaning_machine.proofs.Conversion.{converted_is_kept}
 use Rattle.meaning_machine.proofs.Similar.{flags-bare, agree-bare, fits-agreeing, slice_get-mapped}
 
@@ -81,7 +81,7 @@ sound-load_spot scope blocks (In block path index length) place_type type_ sound
 
 -- a load from a place that fits is sound
 pub sound-load :
-    (scope : List Binding) (blocks : List Block) (place : Place) (type_ : TypeTree) → AreSoundBlocks scope blocks → PlaceFits scope place type_
+    (scope : List Binding) (blocks : List Block) (place : Lvalue) (type_ : TypeTree) → AreSoundBlocks scope blocks → LvalueFits scope place type_
     → IsUnflagged type_ → IsSoundLoad scope type_ (load blocks place)
 sound-load scope blocks place type_ sound fits unflagged =
     subst
@@ -201,6 +201,6 @@ sound-store_spot scope blocks (In block path index length) type_ value sound (th
 
 -- a store of a value that fits keeps blocks sound
 pub sound-store :
-    (scope : List Binding) (blocks : List Block) (place : Place) (type_ : TypeTree) (value : Value) → AreSoundBlocks scope blocks → PlaceFits scope place type_
+    (scope : List Binding) (blocks : List Block) (place : Lvalue) (type_ : TypeTree) (value : Value) → AreSoundBlocks scope blocks → LvalueFits scope place type_
     → ValueFitsIn scope value type_ → IsSoundStore scope (store blocks place.spot value)
 sound-store scope blocks place type_ value sound fits value_fits = sound-store_spot scope blocks place.spot type_ value sound fits.1 value_fits

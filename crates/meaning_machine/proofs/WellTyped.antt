@@ -15,12 +15,11 @@ use Rattle.meaning_syntax.specs.Binding.{Declared, item_statements, object_of, h
 use Rattle.meaning_syntax.specs.Trees.{IsInFirstForm, statement_tree, statement_trees, item_tree, item_trees, unit_tree}
 use Rattle.meaning_rules.specs.Bindings.{Binding, pointer_to, type_in}
 use Rattle.meaning_rules.specs.Expressions.{target_of}
-use Rattle.meaning_rules.specs.Typing.{behind_stars, int_with, declared_type}
+use Rattle.meaning_rules.specs.Typing.{behind_stars, int_with, declared_type, int_flags, behind_pointer, address_of}
 use Rattle.meaning_rules.specs.Evaluation.{Access, Conversion, InAssignment, access_at, assignment_at, accesses_in, conversions_in}
 use Rattle.meaning_rules.specs.Placed.{Placed, placed_body, placed_behind, placed_in, tokens_before_body, statement_accesses, statement_conversions, placed_accesses, placed_conversions, item_binding}
 use Rattle.meaning_rules.specs.Failures.{IsListing, access_failure, conversion_failure}
 use Rattle.meaning_types.specs.Equality.{are_equal_flags}
-use Rattle.meaning_rules.specs.plain.Judging.{int_flags, behind_pointer, address_of}
 use Rattle.meaning_rules.proofs.Elements.{Contains-nil, Contains-cons_head}
 use Rattle.meaning_types.proofs.Equality.{are_equal_flags-Decides}
 use Rattle.meaning_rules.proofs.MixedSpaces.{stars_mix}

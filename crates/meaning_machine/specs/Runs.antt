@@ -10,19 +10,23 @@ use Rattle.meaning_machine.specs.Memory.{content_at, block_with}
 use Rattle.meaning_machine.specs.Code.{ValueCode, body_code}
 use Rattle.meaning_machine.specs.Machine.{Control, EnterBody, Finished, Outcome, Next, Done, Undefined, Fault, step}
 
+-- all storage, and what each activity does next
 pub record World : Type 0 where
   pub blocks : List Block
   pub activities : List Control
 
 -- The opening world: each object begins with zero or null (6.7.9 p10), and no activity runs
 
+-- zero, or the null pointer
 abbrev pub zero_of : BaseTree → Value
 zero_of (IntegerTree kind) = Integer kind None false (pos 0)
 zero_of (PointerTree target) = Pointer target Null
 
+-- the value with which an object of this type begins
 abbrev pub opening_value : TypeTree → Value
 opening_value (Typed base _ _) = zero_of base
 
+-- the block of an object, with one cell, or of a function, without any
 abbrev pub opening_block : Option TypeTree → Block
 opening_block None = record { made = ForFunction; is_alive = true; cells = [] }
 opening_block (Some declared) =
@@ -37,6 +41,7 @@ abbrev pub bindings_among : SyntaxParts → List Binding
 bindings_among NoParts = []
 bindings_among (Part role tree parts) = bindings_of tree ++ bindings_among parts
 
+-- what a unit binds, in order
 abbrev pub bindings_in : SyntaxTree → List Binding
 bindings_in unit = bindings_among (external_parts unit)
 
@@ -46,6 +51,7 @@ opening unit = record { blocks = map (λ binding. opening_block binding.object) 
 
 -- Moves
 
+-- what may happen next in a run
 pub data Move : Type 0 where
   -- the function that stands there among the declarations and functions of the unit is called
   Start : (function : ℕ) → Move
@@ -79,6 +85,7 @@ IsWritable blocks block path value =
     (declared : TypeTree) × (content : Option Value) × (block.made ≡ ForObject declared) × (block.is_alive ≡ true)
     × (content_at block.cells path ≡ Some content) × Fits blocks value declared
 
+-- the move leads from the world before to the one after
 abbrev pub Moves : SyntaxTree → World → Move → World → Type 0
 Moves unit before (Start function) after = Starts before (body_at function (external_parts unit)) after
 Moves unit before (Step activity) after =

@@ -13,6 +13,7 @@ pub data Spot : Type 0 where
   -- an object that is no array is an array of one element (C11 6.5.6 p7)
   In : (block : ℕ) (path : List ℕ) (index length : ℕ) → Spot
 
+-- a number or a pointer, with its type
 pub data Value : Type 0 where
   -- with its kind, its restricted identity if it has one, whether it is fouled, and its number
   Integer : (kind : IntKind) (restricted : Option ℕ) (fouled : Bool) (number : ℤ) → Value
@@ -20,7 +21,7 @@ pub data Value : Type 0 where
   Pointer : (target : TypeTree) (spot : Spot) → Value
 
 -- an object as one may read or write it
-pub record Place : Type 0 where
+pub record Lvalue : Type 0 where
   pub type_ : TypeTree
   pub spot : Spot
 
@@ -40,6 +41,7 @@ pub record Block : Type 0 where
   pub is_alive : Bool
   pub cells : List Cell
 
+-- the kind holds the number
 abbrev pub IsInRange : IntKind → ℤ → Type 0
 IsInRange kind number = (least kind ≤ℤ number) × (number ≤ℤ greatest kind)
 
@@ -55,6 +57,7 @@ SpotFits blocks Foreign target = Unit {0}
 SpotFits blocks (In block path index length) target =
     (there : Block) × (slice_get blocks block ≡ Some there) × HasElements there path length target × (index ≤ length)
 
+-- a plain number that the kind holds, or a pointer with the wanted bare target and a spot that fits it
 abbrev pub ValueFits : List Block → Value → BaseTree → Type 0
 ValueFits blocks (Integer kind restricted fouled number) (IntegerTree wanted) =
     (kind ≡ wanted) × (restricted ≡ None) × (fouled ≡ false) × IsInRange kind number

@@ -1,8 +1,8 @@
-ghost use Rattle.meaning_machine.specs.plain.Playing.{MovesArePlayed, PlayedIsRun, RunIsPlayed};
+ghost use Rattle.meaning_machine.specs.laws.Playing.{MovesArePlayed, PlayedIsRun, RunIsPlayed};
 ghost use Rattle.meaning_machine.specs.examples.Rows.{CellExamples, ConversionExamples, FitExamples, LastExamples, RowExamples};
 ghost use Rattle.meaning_machine.specs.examples.Steps.{StepExamples};
 ghost use Rattle.meaning_machine.specs.examples.Activities.{OthersGoOn, ThirdMeetsFault, ThreeByTurns, ThreeInOrder};
-ghost use Rattle.meaning_machine.specs.examples.Runs.{SpaceIsLost, NoderefIsAccessed, FlaggedIntIsLoaded, SilentUnitLeaves, SilentUnitEnds, SilentUnitCopies, NullIsUndefined, ForeignIsUndefined, ConstIsCopied, IndeterminateIsUndefined, ConstIsAdopted, AddressIsNoPlace, StatementWithoutRowIsFault};
+ghost use Rattle.meaning_machine.specs.examples.Runs.{SpaceIsLost, NoderefIsAccessed, FlaggedIntIsLoaded, SilentUnitLeaves, SilentUnitEnds, SilentUnitCopies, NullIsUndefined, ForeignIsUndefined, ConstIsCopied, IndeterminateIsUndefined, ConstIsAdopted, AddressIsNoLvalue, StatementWithoutRowIsFault};
 
 /// What the plain program plays is a run.
 pub fn played_is_run()
@@ -29,7 +29,7 @@ pub fn worked_runs()
     ensures const_copied { ConstIsCopied }
     ensures indeterminate_undefined { IndeterminateIsUndefined }
     ensures const_adopted { ConstIsAdopted }
-    ensures address_no_place { AddressIsNoPlace }
+    ensures address_no_lvalue { AddressIsNoLvalue }
     ensures rowless_fault { StatementWithoutRowIsFault }
 {}
 

@@ -1,4 +1,4 @@
-ghost use Rattle.meaning_machine.specs.plain.Playing.{FaultsAreUnsafe};
+ghost use Rattle.meaning_machine.specs.laws.Playing.{FaultsAreUnsafe};
 ghost use Rattle.meaning_machine.specs.laws.Runs.{BlocksLast, MovesAreSound, RunsAreSound, SilenceIsSafe, StepsAreSound};
 
 /// Each move keeps what the blocks are made for, and dead blocks stay dead.

@@ -5,11 +5,11 @@ use Rattle.std.proofs.lemmas.Bool.Decides.{Decides-eqb}
 use Rattle.std.proofs.lemmas.Slice.Eq.{bytes_eq-Decides}
 use Rattle.meaning_types.specs.Types.{Space, NoSpace, NumberedSpace, NamedSpace, Flags, no_flags, no_qualifiers, TypeTree, Typed, BaseTree, IntegerTree, PointerTree, flags_of, bare, without_flags, has_flag, value_type}
 use Rattle.meaning_types.specs.Spaces.{MixSpaces, TargetsMixSpaces}
-use Rattle.meaning_rules.specs.Typing.{behind_stars, int_with, declared_type}
+use Rattle.meaning_rules.specs.Typing.{behind_stars, int_with, declared_type, int_flags}
 use Rattle.meaning_syntax.specs.Binding.{Declared}
 use Rattle.meaning_types.specs.Equality.{are_equal_flags}
 use Rattle.meaning_types.proofs.Equality.{are_equal_flags-Decides}
-use Rattle.meaning_rules.specs.plain.Judging.{int_flags, is_flagged_int}
+use Rattle.meaning_rules.specs.plain.Judging.{is_flagged_int}
 
 -- Pointers to ints
 

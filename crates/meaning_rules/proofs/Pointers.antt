@@ -6,8 +6,8 @@ use Rattle.meaning_types.specs.Types.{Flags, value_type}
 use Rattle.meaning_syntax.specs.Binding.{Declared}
 use Rattle.meaning_rules.specs.Bindings.{pointer_to}
 use Rattle.meaning_rules.specs.Expressions.{target_of}
-use Rattle.meaning_rules.specs.Typing.{behind_stars, int_with, declared_type}
-use Rattle.meaning_rules.specs.plain.Judging.{int_flags, is_flagged_int, behind_pointer, address_of}
+use Rattle.meaning_rules.specs.Typing.{behind_stars, int_with, declared_type, int_flags, behind_pointer, address_of}
+use Rattle.meaning_rules.specs.plain.Judging.{is_flagged_int}
 
 -- an object with one star more than another has one star at least
 one_star_more-suc : (pointer object : Declared) → nat_eq pointer.stars (object.stars + 1) ≡ true → pointer.stars ≡ suc object.stars

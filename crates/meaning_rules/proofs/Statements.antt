@@ -6,12 +6,12 @@ use Rattle.meaning_syntax.specs.Items.{Item, Statement, Assign, AssignThrough, A
 use Rattle.meaning_syntax.specs.Binding.{Declared, object_of, have_equal_stars, has_one_star_more, statement_binds}
 use Rattle.meaning_rules.specs.Bindings.{pointer_to}
 use Rattle.meaning_rules.specs.Expressions.{target_of}
-use Rattle.meaning_rules.specs.Typing.{declared_type}
+use Rattle.meaning_rules.specs.Typing.{declared_type, int_flags, behind_pointer, address_of}
 use Rattle.meaning_rules.specs.Evaluation.{Access, Conversion, InAssignment, access_at, assignment_at}
 use Rattle.meaning_rules.specs.Placed.{statement_accesses, statement_conversions}
 use Rattle.meaning_rules.specs.Failures.{Failure, access_failure, conversion_failure}
 use Rattle.meaning_types.specs.Equality.{are_equal_flags}
-use Rattle.meaning_rules.specs.plain.Judging.{int_flags, is_flagged_int, judged_access, judged_assignment, behind_pointer, address_of, judged_assign, judged_assign_through, judged_assign_address, judged_objects, judged_statement}
+use Rattle.meaning_rules.specs.plain.Judging.{is_flagged_int, judged_access, judged_assignment, judged_assign, judged_assign_through, judged_assign_address, judged_objects, judged_statement}
 use Rattle.meaning_rules.proofs.Elements.{Contains-nil, Contains-cons_head, Contains-single, Contains-if, All-if}
 use Rattle.meaning_rules.proofs.Failing.{AccessFails, ConversionFails, EitherFails, AreThose, AreThose-append}
 use Rattle.meaning_rules.proofs.Order.{StandIn, StandIn-nil, StandIn-append, StandIn-if}

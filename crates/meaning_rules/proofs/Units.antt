@@ -1,5 +1,5 @@
 -- The judged failures of a unit in which names are bound are those of all its statements, and stand in order.
-use Rattle.std.proofs.Common.{◌≡◌, ℕ, ◌+◌, true, List, [], ◌∷◌, ◌++◌, All, codes, length, length-append, flat_map, arith}
+use Rattle.std.proofs.Common.{◌≡◌, ℕ, ◌+◌, true, List, [], ◌∷◌, ◌++◌, All, codes, length, length-append, flat_map, subst, arith}
 use Rattle.std.proofs.lemmas.Bool.{and_parts}
 use Rattle.std.proofs.lemmas.List.Concat.{flat_map-append}
 use Rattle.std.proofs.lemmas.List.Elements.{All-nil, All-cons, All-append, All-head, All-tail, All-contains}
@@ -8,7 +8,7 @@ use Rattle.meaning_syntax.specs.Items.{Item, Object, Function, Statement, statem
 use Rattle.meaning_syntax.specs.Binding.{are_bound, item_statements, statement_binds}
 use Rattle.meaning_rules.specs.Evaluation.{accesses_in, conversions_in}
 use Rattle.meaning_rules.specs.Placed.{Placed, placed_body, placed_behind, placed_in, tokens_before_body, placed_accesses, placed_conversions}
-use Rattle.meaning_rules.specs.Failures.{Fails}
+use Rattle.meaning_rules.specs.Failures.{Failure, IsListing, Fails}
 use Rattle.meaning_rules.specs.plain.Judging.{judged_statement, judged_placed, failures_of}
 use Rattle.meaning_syntax.specs.Trees.{unit_tree}
 use Rattle.meaning_rules.specs.laws.Listings.{ListingsExist, ListingsAreUnique}
@@ -106,6 +106,14 @@ listings_exist items bound = record {
     those =
         rw (accesses_in-unit_tree items, conversions_in-unit_tree items)
         (judged_placed-AreThose (placed_in items) (placed_behind-Binds [] 0 items bound))
+
+-- the plain judge finds these failures
+abbrev pub AreFound : List Item → List Failure → Type 0
+AreFound items failures = failures_of items ≡ failures
+
+-- so they are the unit's listing
+pub found_are_listed : (items : List Item) (failures : List Failure) → are_bound [] items ≡ true → AreFound items failures → IsListing (unit_tree items) failures
+found_are_listed items failures bound found = subst (IsListing (unit_tree items)) found (listings_exist items bound)
 
 -- two listings hold the same failures, in the same order
 pub listings_are_unique : ListingsAreUnique

@@ -53,11 +53,13 @@ abbrev pub first_of : {A : Type 0} → Option A → Option A → Option A
 first_of None other = other
 first_of (Some one) other = Some one
 
+-- the type that the specifiers name, by the first word that names one
 abbrev pub specified_base : SyntaxParts → Option BaseTree
 specified_base NoParts = None
 specified_base (Part role (Node kind token name number parts) specifiers) =
     first_of (base_named kind) (specified_base specifiers)
 
+-- that type with the flags of the attributes among the specifiers
 abbrev pub specified_type : SyntaxParts → Option TypeTree
 specified_type specifiers =
     option_map (λ base. Typed base no_qualifiers (specified_flags no_flags specifiers)) (specified_base specifiers)
@@ -73,6 +75,7 @@ abbrev pub derived_by : NodeKind → Option TypeTree → Option TypeTree
 derived_by PointerDeclarator type_ = option_map pointer_to type_
 derived_by kind type_ = None
 
+-- the type behind all parts of a declarator
 abbrev pub declared_by : Option TypeTree → SyntaxParts → Option TypeTree
 declared_by type_ NoParts = type_
 declared_by type_ (Part role (Node kind token name number parts) others) = declared_by (derived_by kind type_) others
@@ -82,6 +85,7 @@ abbrev pub declarator_binding : NodeKind → List ℕ → Option TypeTree → Li
 declarator_binding Declarator name object = record { name = name; object = object } ∷ []
 declarator_binding kind name object = []
 
+-- what all nodes behind the specifiers bind
 abbrev pub declarator_bindings : Option TypeTree → SyntaxParts → List Binding
 declarator_bindings specified NoParts = []
 declarator_bindings specified (Part role (Node kind token name number parts) others) =
@@ -94,10 +98,12 @@ abbrev pub bindings_behind : NodeKind → SyntaxParts → SyntaxParts → List B
 bindings_behind Specifiers specifiers declarators = declarator_bindings (specified_type specifiers) declarators
 bindings_behind kind specifiers declarators = []
 
+-- what the parts of a declaration or a function bind
 abbrev pub parts_bindings : SyntaxParts → List Binding
 parts_bindings NoParts = []
 parts_bindings (Part role (Node kind token name number specifiers) declarators) = bindings_behind kind specifiers declarators
 
+-- what a node of this kind binds: one that is no declaration and no function binds nothing
 abbrev pub kind_bindings : NodeKind → SyntaxParts → List Binding
 kind_bindings Declaration parts = parts_bindings parts
 kind_bindings FunctionDefinition parts = parts_bindings parts

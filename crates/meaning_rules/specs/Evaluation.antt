@@ -66,10 +66,12 @@ conversion_at kind token facts = []
 
 -- The accesses of a node of which this is wanted, and those of its evaluated parts; so many parts stand before
 abbrev mutual
+  -- the node's own access, then those of its parts
   pub accesses_of : List Binding → Want → SyntaxTree → List Access
   accesses_of scope want (Node kind token name number parts) =
       access_for want token (row scope kind name (facts_of scope parts)).place ++ parts_accesses scope kind 0 parts
 
+  -- of a node's parts: evaluated ones and conditions; parts of types and unevaluated ones have none
   pub parts_accesses : List Binding → NodeKind → ℕ → SyntaxParts → List Access
   parts_accesses scope kind before NoParts = []
   parts_accesses scope kind before (Part Evaluated tree parts) =
@@ -81,10 +83,12 @@ abbrev mutual
 
 -- the conversions of a node and of its parts
 abbrev mutual
+  -- the node's own conversion, then those of its parts
   pub conversions_of : List Binding → SyntaxTree → List Conversion
   conversions_of scope (Node kind token name number parts) =
       conversion_at kind token (facts_of scope parts) ++ parts_conversions scope parts
 
+  -- of each part, whatever its role
   pub parts_conversions : List Binding → SyntaxParts → List Conversion
   parts_conversions scope NoParts = []
   parts_conversions scope (Part role tree parts) = conversions_of scope tree ++ parts_conversions scope parts
@@ -96,8 +100,10 @@ abbrev pub gathered : {A : Type 0} → (List Binding → SyntaxTree → List A) 
 gathered of_tree scope NoParts = []
 gathered of_tree scope (Part role tree parts) = of_tree scope tree ++ gathered of_tree (scope ++ bindings_of tree) parts
 
+-- all loads and stores of a unit
 abbrev pub accesses_in : SyntaxTree → List Access
 accesses_in unit = gathered (λ scope. accesses_of scope ForValue) [] (external_parts unit)
 
+-- all conversions of a unit
 abbrev pub conversions_in : SyntaxTree → List Conversion
 conversions_in unit = gathered conversions_of [] (external_parts unit)

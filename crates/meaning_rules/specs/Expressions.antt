@@ -14,6 +14,7 @@ pub record Fact : Type 0 where
   pub place : Option TypeTree
   pub value : Option TypeTree
 
+-- neither a place nor a value is known
 abbrev pub no_fact : Fact
 no_fact = record { place = None; value = None }
 
@@ -21,6 +22,7 @@ no_fact = record { place = None; value = None }
 abbrev pub place_fact : Option TypeTree → Fact
 place_fact place = record { place = place; value = option_map value_type place }
 
+-- of a value that is no place
 abbrev pub value_fact : Option TypeTree → Fact
 value_fact value = record { place = None; value = value }
 
@@ -42,9 +44,11 @@ row scope Assignment name (left ∷ right ∷ []) = value_fact (option_map value
 row scope kind name facts = no_fact
 
 abbrev mutual
+  -- what is known of a node, by its row
   pub fact_of : List Binding → SyntaxTree → Fact
   fact_of scope (Node kind token name number parts) = row scope kind name (facts_of scope parts)
 
+  -- what is known of each part, in order
   pub facts_of : List Binding → SyntaxParts → List Fact
   facts_of scope NoParts = []
   facts_of scope (Part role tree parts) = fact_of scope tree ∷ facts_of scope parts

@@ -30,9 +30,11 @@ code_of (FlaggedAccess place) = A4
 abbrev pub rule_of : Cause → ℕ
 rule_of cause = rule_number (code_of cause)
 
+-- the failure that an access is where the place has a flag
 abbrev pub access_failure : Access → Failure
 access_failure access = record { token = access.token; part = 0; cause = FlaggedAccess access.place }
 
+-- the failure that a conversion is where it mixes spaces
 abbrev pub conversion_failure : Conversion → Failure
 conversion_failure conversion =
     record { token = conversion.token; part = 0; cause = SpacesMixed conversion.position conversion.to conversion.from }

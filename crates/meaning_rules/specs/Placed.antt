@@ -28,11 +28,13 @@ placed_behind before first [] = []
 placed_behind before first (item ∷ items) =
     placed_body before (first + tokens_before_body) (item_statements item) ++ placed_behind (before ++ item ∷ []) (first + length (item_spelled item)) items
 
+-- all statements of a unit
 abbrev pub placed_in : List Item → List Placed
 placed_in unit = placed_behind [] 0 unit
 
 -- What the tree of a statement reads and writes, by how the objects in it are declared
 
+-- its accesses, if it begins at this token behind these items
 abbrev pub statement_accesses : List Item → ℕ → Statement → List Access
 statement_accesses before first (Assign target source) =
     access_at first (type_of before target) ++ access_at (first + 2) (type_of before source)
@@ -51,9 +53,11 @@ statement_conversions before first (AssignThrough pointer source) =
 statement_conversions before first (AssignAddress target object) =
     assignment_at (first + 1) (type_of before target) (address_type_of before object)
 
+-- what a placed statement reads and writes
 abbrev pub placed_accesses : Placed → List Access
 placed_accesses placed = statement_accesses placed.before placed.first placed.statement
 
+-- what a placed statement converts
 abbrev pub placed_conversions : Placed → List Conversion
 placed_conversions placed = statement_conversions placed.before placed.first placed.statement
 

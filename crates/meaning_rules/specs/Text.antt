@@ -13,6 +13,7 @@ use Rattle.meaning_rules.specs.Failures.{Cause, SpacesMixed, FlaggedAccess, Fail
 abbrev pub place_text : List ℕ → At → List ℕ
 place_text path at = path ++ codes ":" ++ decimal at.line ++ codes ":" ++ decimal at.column ++ codes ":"
 
+-- `FILE:LINE:COLUMN: warning: TEXT` on a line
 abbrev pub warning_line : List ℕ → At → List ℕ → List ℕ
 warning_line path at text = place_text path at ++ codes " warning: " ++ text ++ codes "\n"
 
@@ -20,6 +21,7 @@ warning_line path at text = place_text path at ++ codes " warning: " ++ text ++ 
 abbrev pub type_line : List ℕ → At → List ℕ → TypeTree → List ℕ
 type_line path at word type_ = place_text path at ++ codes "    " ++ word ++ codes " " ++ spelling type_ ++ codes "\n"
 
+-- how a warning names the position of a conversion
 abbrev pub position_text : Position → List ℕ
 position_text InAssignment = codes "assignment"
 
@@ -29,6 +31,7 @@ access_text flags =
     if flags.noderef then codes "dereference of noderef expression"
     else codes "dereference in address space " ++ space_spelling flags.space
 
+-- the lines of a cause at this place: its warning, and for mixed spaces both types
 abbrev pub cause_text : List ℕ → At → Cause → List ℕ
 cause_text path at (SpacesMixed position expected got) =
     warning_line path at (codes "incorrect type in " ++ position_text position ++ codes " (different address spaces)")
@@ -40,8 +43,10 @@ cause_text path at (FlaggedAccess place) = warning_line path at (access_text (fl
 abbrev pub place_of : List Tok → ℕ → At
 place_of tokens index = unwrap_or (option_map (λ token. token.at) (slice_get tokens index)) (start_of main_file)
 
+-- the lines of a failure, at the place of its token
 abbrev pub failure_text : List ℕ → List Tok → Failure → List ℕ
 failure_text path tokens failure = cause_text path (place_of tokens failure.token) failure.cause
 
+-- the lines of all failures, in their order
 abbrev pub warnings_text : List ℕ → List Tok → List Failure → List ℕ
 warnings_text path tokens failures = flat_map (failure_text path tokens) failures

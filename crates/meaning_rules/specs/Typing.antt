@@ -1,5 +1,5 @@
 -- The types of objects that items of the first form declare.
-use Rattle.std.specs.Prelude.{ℕ, suc, zero, true, List, [], ◌∷◌, Option, option_map, if◌then◌else◌}
+use Rattle.std.specs.Prelude.{ℕ, suc, zero, ◌-◌, true, List, [], ◌∷◌, Option, option_map, if◌then◌else◌}
 use Rattle.std.specs.Option.{option_and_then}
 use Rattle.std.specs.Str.Parse.{digits_value}
 use Rattle.vocabulary.specs.declared.int_kind.IntKind.TheVariants.{Int}
@@ -25,12 +25,25 @@ abbrev pub behind_stars : ℕ → TypeTree → TypeTree
 behind_stars zero type_ = type_
 behind_stars (suc stars) type_ = pointer_to (behind_stars stars type_)
 
+-- int with these flags
 abbrev pub int_with : Flags → TypeTree
 int_with flags = Typed (IntegerTree Int) no_qualifiers flags
 
+-- the flags of the int that is declared, or behind the stars
+abbrev pub int_flags : Declared → Flags
+int_flags declared = flagged no_flags declared.words
+
 -- attributes among the specifiers belong to the specified type, `int` here
 abbrev pub declared_type : Declared → TypeTree
-declared_type declared = behind_stars declared.stars (int_with (flagged no_flags declared.words))
+declared_type declared = behind_stars declared.stars (int_with (int_flags declared))
+
+-- what a pointer points to, as if it were declared
+abbrev pub behind_pointer : Declared → Declared
+behind_pointer pointer = record pointer { stars = pointer.stars - 1 }
+
+-- an object's address, as if it were declared
+abbrev pub address_of : Declared → Declared
+address_of object = record object { stars = suc object.stars }
 
 -- the type of an object that is declared before
 abbrev pub type_of : List Item → List ℕ → Option TypeTree

@@ -9,10 +9,12 @@ pub record Declared : Type 0 where
   pub words : List Word
   pub stars : ℕ
 
+-- the name that an item declares
 abbrev pub item_name : Item → List ℕ
 item_name (Object words stars name) = name
 item_name (Function name statements) = name
 
+-- the statements of a function; an object has none
 abbrev pub item_statements : Item → List Statement
 item_statements (Object words stars name) = []
 item_statements (Function name statements) = statements
@@ -22,6 +24,7 @@ abbrev pub item_declared : Item → Option Declared
 item_declared (Object words stars name) = Some (record { words = words; stars = stars })
 item_declared (Function name statements) = None
 
+-- one of the items declares this name
 abbrev pub is_declared : List Item → List ℕ → Bool
 is_declared items name = list_any (λ item. bytes_eq (item_name item) name) items
 
@@ -42,6 +45,7 @@ has_one_star_more (Some pointer) (Some object) = nat_eq pointer.stars (object.st
 has_one_star_more (Some pointer) None = false
 has_one_star_more None object = false
 
+-- the names of a statement are objects among these items, with the stars that it needs
 abbrev pub statement_binds : List Item → Statement → Bool
 statement_binds before (Assign target source) = have_equal_stars (object_of before target) (object_of before source)
 statement_binds before (AssignThrough pointer source) = has_one_star_more (object_of before pointer) (object_of before source)

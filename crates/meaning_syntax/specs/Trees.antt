@@ -30,11 +30,13 @@ leaf kind token = plain_node kind token NoParts
 abbrev pub one_part : SyntaxTree → SyntaxParts
 one_part tree = Part Evaluated tree NoParts
 
+-- two parts, both evaluated
 abbrev pub two_parts : SyntaxTree → SyntaxTree → SyntaxParts
 two_parts left right = Part Evaluated left (one_part right)
 
 -- Expressions and statements
 
+-- a name at this token
 abbrev pub name_tree : ℕ → List ℕ → SyntaxTree
 name_tree token name = Node Name token name 0 NoParts
 
@@ -42,9 +44,11 @@ name_tree token name = Node Name token name 0 NoParts
 abbrev pub assignment_tree : ℕ → SyntaxTree → SyntaxTree → SyntaxTree
 assignment_tree token left right = plain_node Assignment token (two_parts left right)
 
+-- `*pointer` at this `*`
 abbrev pub indirection_tree : ℕ → SyntaxTree → SyntaxTree
 indirection_tree token pointer = plain_node Indirection token (one_part pointer)
 
+-- `&place` at this `&`
 abbrev pub address_tree : ℕ → SyntaxTree → SyntaxTree
 address_tree token place = plain_node Address token (one_part place)
 
@@ -57,9 +61,11 @@ expression_tree first (AssignThrough pointer source) =
 expression_tree first (AssignAddress target object) =
     assignment_tree (first + 1) (name_tree first target) (address_tree (first + 2) (name_tree (first + 3) object))
 
+-- a statement that begins at this token
 abbrev pub statement_tree : ℕ → Statement → SyntaxTree
 statement_tree first statement = plain_node ExpressionStatement first (one_part (expression_tree first statement))
 
+-- statements one behind the other, from this token on
 abbrev pub statement_trees : ℕ → List Statement → List SyntaxTree
 statement_trees first [] = []
 statement_trees first (statement ∷ statements) =
@@ -67,6 +73,7 @@ statement_trees first (statement ∷ statements) =
 
 -- Declarations
 
+-- a word of an attribute at this token; a space has its name or its number
 abbrev pub word_tree : ℕ → Word → SyntaxTree
 word_tree token Noderef = leaf NoderefAttribute token
 word_tree token (AddressSpace id) =
@@ -84,6 +91,7 @@ attribute_trees token [] = []
 attribute_trees token (word ∷ words) =
     plain_node AttributeList token (parts_of TypePart (word_trees (token + 3) (word ∷ words))) ∷ []
 
+-- so many stars, from this token on
 abbrev pub star_trees : ℕ → ℕ → List SyntaxTree
 star_trees token zero = []
 star_trees token (suc stars) = leaf PointerDeclarator token ∷ star_trees (token + 1) stars
@@ -98,6 +106,7 @@ object_specifiers first words =
     plain_node Specifiers first
     (parts_of TypePart (leaf ExternSpecifier first ∷ leaf IntSpecifier (first + 1) ∷ attribute_trees (first + 2) words))
 
+-- the declaration of an object that begins at this token
 abbrev pub object_tree : ℕ → List Word → ℕ → List ℕ → SyntaxTree
 object_tree first words stars name =
     plain_node Declaration first
@@ -125,14 +134,17 @@ function_tree first name statements =
     (Part TypePart (function_declarator (first + 1) name)
     (one_part (plain_node CompoundStatement (first + 5) (parts_of Evaluated (statement_trees (first + 6) statements))))))
 
+-- an item that begins at this token
 abbrev pub item_tree : ℕ → Item → SyntaxTree
 item_tree first (Object words stars name) = object_tree first words stars name
 item_tree first (Function name statements) = function_tree first name statements
 
+-- items one behind the other, from this token on
 abbrev pub item_trees : ℕ → List Item → List SyntaxTree
 item_trees first [] = []
 item_trees first (item ∷ items) = item_tree first item ∷ item_trees (first + length (item_spelled item)) items
 
+-- the items as a unit, from token 0 on
 abbrev pub unit_tree : List Item → SyntaxTree
 unit_tree items = plain_node TranslationUnit 0 (parts_of Evaluated (item_trees 0 items))
 

@@ -25,6 +25,7 @@ is_reserved text = is_among text RESERVED_WORDS
 unfoldable pub is_predefined_macro : List ℕ → Bool
 is_predefined_macro text = is_among text PREDEFINED_MACROS
 
+-- the text begins with `__`
 abbrev pub begins_with_two_underscores : List ℕ → Bool
 begins_with_two_underscores (a ∷ b ∷ text) = a == underscore && b == underscore
 begins_with_two_underscores text = false
@@ -52,6 +53,7 @@ is_plain_decimal (digit ∷ digits) = list_all is_ascii_digit (digit ∷ digits)
 unfoldable pub is_space_number : List ℕ → Bool
 is_space_number text = is_plain_decimal text && nat_le (number_of text) 4294967295
 
+-- an identifier that can name an address space: no keyword and no predefined macro
 unfoldable pub is_space_name : List ℕ → Bool
 is_space_name text = is_plain_identifier text && not (is_keyword text) && not (is_predefined_macro text)
 

@@ -14,9 +14,11 @@ begins_slash_and second (b ∷ c ∷ text) = b == slash && c == second
 abbrev pub begins_block_comment : List ℕ → Bool
 begins_block_comment text = begins_slash_and star text
 
+-- the text begins with `//`
 abbrev pub begins_line_comment : List ℕ → Bool
 begins_line_comment text = begins_slash_and slash text
 
+-- the text begins with `/*` or `//`
 abbrev pub begins_comment : List ℕ → Bool
 begins_comment text = begins_block_comment text || begins_line_comment text
 

@@ -10,6 +10,7 @@ use Rattle.vocabulary.specs.declared.token_kind.TokenKind.{TokenKind}
 use Rattle.vocabulary.specs.declared.token_kind.TokenKind.TheVariants.{Identifier, Number, Character, String, HeaderName, Stray}
 use Rattle.meaning_text.specs.Kinds.{is_stray_byte}
 
+-- what may stand at the front of a text
 pub data Front : Type 0 where
   AtEnd : Front
   AtNewLine : Front
@@ -50,13 +51,16 @@ quoted_tail_length quote escaped (b ∷ text) =
     else (if b == quote && not escaped then Some 1
     else longer_by 1 (quoted_tail_length quote (b == backslash && not escaped) text))
 
+-- how many bytes there are from an opening quotation mark here to the one that closes it, with both
 abbrev pub quoted_length : ℕ → List ℕ → Option ℕ
 quoted_length quote [] = None
 quoted_length quote (b ∷ text) = if b == quote then longer_by 1 (quoted_tail_length quote false text) else None
 
+-- how many bytes a character constant has that begins here, with its prefix (6.4.4.4)
 abbrev pub character_length : List ℕ → Option ℕ
 character_length text = longer_by (character_prefix text) (quoted_length single_quote (drop (character_prefix text) text))
 
+-- how many bytes a string literal has that begins here, with its prefix (6.4.5)
 abbrev pub string_length : List ℕ → Option ℕ
 string_length text = longer_by (string_prefix text) (quoted_length double_quote (drop (string_prefix text) text))
 
@@ -72,6 +76,7 @@ abbrev pub name_length : ℕ → List ℕ → Option ℕ
 name_length closing [] = None
 name_length closing (b ∷ text) = if b == closing then None else name_tail_length closing (b ∷ text)
 
+-- how many bytes a header name has that begins here (6.4.7)
 abbrev pub header_name_length : List ℕ → Option ℕ
 header_name_length [] = None
 header_name_length (b ∷ text) =
@@ -91,12 +96,14 @@ block_tail_length behind_star [] = None
 block_tail_length behind_star (b ∷ text) =
     if b == slash && behind_star then Some 1 else longer_by 1 (block_tail_length (b == star) text)
 
+-- the front at a `/*`, by how many bytes the comment has behind that, if it ends
 abbrev pub block_front : Option ℕ → Front
 block_front None = AtOpenComment
 block_front (Some count) = AtComment (2 + count)
 
 -- What token begins here, and how long it is
 
+-- a kind with a number of bytes, or no token
 abbrev pub Found : Type 0
 Found = Option (TokenKind × ℕ)
 
@@ -105,9 +112,11 @@ abbrev pub or_else : Found → Found → Found
 or_else None other = other
 or_else (Some found) other = Some found
 
+-- a token of this kind and of so many bytes, if the condition holds
 abbrev pub found_where : Bool → TokenKind → ℕ → Found
 found_where holds kind count = if holds then Some (kind, count) else None
 
+-- a token of this kind, if there is a length
 abbrev pub found_of : TokenKind → Option ℕ → Found
 found_of kind None = None
 found_of kind (Some count) = Some (kind, count)
@@ -118,10 +127,12 @@ header_name_over None other = None
 header_name_over (Some count) None = Some (HeaderName, count)
 header_name_over (Some count) (Some other) = found_where (nat_le other count) HeaderName count
 
+-- a header name that begins here, where header names are allowed
 abbrev pub found_header_name : Bool → List ℕ → Found
 found_header_name false text = None
 found_header_name true text = header_name_over (header_name_length text) (string_length text)
 
+-- a token with this spelling, if there is a kind for it
 abbrev pub found_spelling : Option TokenKind → List ℕ → Found
 found_spelling None spelling = None
 found_spelling (Some kind) spelling = Some (kind, length spelling)
@@ -137,6 +148,7 @@ found_punctuator text =
     (or_else (found_punctuator_of 3 text)
     (or_else (found_punctuator_of 2 text) (found_punctuator_of 1 text)))
 
+-- the first byte by itself, if it can be a token
 abbrev pub found_stray : List ℕ → Found
 found_stray [] = None
 found_stray (b ∷ text) = found_where (is_stray_byte b) Stray 1

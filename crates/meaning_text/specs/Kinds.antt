@@ -12,11 +12,13 @@ use Rattle.meaning_text.specs.Punctuators.{punctuator_of}
 abbrev pub is_stray_byte : ℕ → Bool
 is_stray_byte b = not (is_white b || is_quotation_mark b)
 
+-- the text is one such byte
 abbrev pub is_stray : List ℕ → Bool
 is_stray [] = false
 is_stray (b ∷ []) = is_stray_byte b
 is_stray (b ∷ c ∷ text) = false
 
+-- the punctuator, where the text is one, and else a byte by itself
 abbrev pub punctuator_or_stray : Option TokenKind → List ℕ → Option TokenKind
 punctuator_or_stray (Some kind) text = Some kind
 punctuator_or_stray None text = if is_stray text then Some Stray else None

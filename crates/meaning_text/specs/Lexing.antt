@@ -5,6 +5,7 @@ use Rattle.meaning_text.specs.Logical.{SourceByte, bytes_of, logical_text}
 use Rattle.meaning_text.specs.Tokens.{Tok, Context, AtLineStart, allows_header_name, is_line_start, behind_token, LexFault, OpenComment, OpenLiteral}
 use Rattle.meaning_text.specs.Fronts.{Front, AtEnd, AtNewLine, AtBlank, AtComment, AtToken, AtOpenComment, AtOpenLiteral, front_of}
 
+-- the tokens of a text, or the fault for which it has none
 pub data Lexed : Type 0 where
   Tokens : List Tok → Lexed
   Refused : LexFault → Lexed
@@ -45,6 +46,7 @@ lexed_within (suc fronts) context space (first ∷ rest) =
 abbrev pub lexed_behind : Context → Bool → List SourceByte → Lexed
 lexed_behind context space text = lexed_within (length text) context space text
 
+-- the tokens of a text that has no white space directly before it, or its first fault
 abbrev pub lexed : Context → List SourceByte → Lexed
 lexed context text = lexed_behind context false text
 

@@ -9,6 +9,7 @@ pub record SourceByte : Type 0 where
   pub byte : ℕ
   pub at : At
 
+-- the bytes of a text, without their places
 abbrev pub bytes_of : List SourceByte → List ℕ
 bytes_of text = map (λ (b : SourceByte). b.byte) text
 

@@ -2,6 +2,7 @@
 use Rattle.std.specs.Prelude.{ℕ, ◌==◌, ◌+◌, if◌then◌else◌}
 use Rattle.meaning_text.specs.Bytes.{new_line}
 
+-- a place: the number of a file, a line and a column
 pub record At : Type 0 where
   pub file : ℕ
   pub line : ℕ

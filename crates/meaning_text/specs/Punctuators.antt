@@ -61,9 +61,11 @@ pub record PunctuatorRow : Type 0 where
   pub spelling : List ℕ
   pub kind : TokenKind
 
+-- the row of a punctuator with its own spelling
 abbrev pub plain : TokenKind → PunctuatorRow
 plain kind = record { spelling = unwrap_or (own_spelling kind) []; kind = kind }
 
+-- the row of a digraph, with the punctuator that it behaves as
 abbrev pub digraph : List ℕ → TokenKind → PunctuatorRow
 digraph spelling kind = record { spelling = spelling; kind = kind }
 
@@ -79,6 +81,7 @@ punctuator_kinds =
     ∷ AndAssign ∷ XorAssign ∷ OrAssign
     ∷ Comma ∷ Hash ∷ HashHash ∷ []
 
+-- the rows of the 48
 unfoldable pub plain_punctuators : List PunctuatorRow
 plain_punctuators = map plain punctuator_kinds
 
@@ -89,9 +92,11 @@ digraphs =
     ∷ digraph (codes "<%") LeftBrace ∷ digraph (codes "%>") RightBrace
     ∷ digraph (codes "%:") Hash ∷ digraph (codes "%:%:") HashHash ∷ []
 
+-- the rows of all 54 spellings (p1)
 unfoldable pub punctuators : List PunctuatorRow
 punctuators = plain_punctuators ++ digraphs
 
+-- the punctuator of the first row with this spelling
 abbrev pub punctuator_among : List PunctuatorRow → List ℕ → Option TokenKind
 punctuator_among [] text = None
 punctuator_among (row ∷ rows) text = if bytes_eq row.spelling text then Some row.kind else punctuator_among rows text

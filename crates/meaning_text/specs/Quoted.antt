@@ -3,6 +3,7 @@
 use Rattle.std.specs.Prelude.{ℕ, Bool, true, false, not, ◌==◌, ◌&&◌, ◌||◌, List, [], ◌∷◌, drop, if◌then◌else◌}
 use Rattle.meaning_text.specs.Bytes.{new_line, double_quote, single_quote, digit_8, less, greater, lower_u, backslash, is_prefix_letter}
 
+-- the text has no bytes
 abbrev pub is_empty : List ℕ → Bool
 is_empty [] = true
 is_empty (b ∷ text) = false
@@ -16,6 +17,7 @@ ends_quoted quote escaped (b ∷ text) =
     && (if b == quote && not escaped then is_empty text
     else ends_quoted quote (b == backslash && not escaped) text)
 
+-- the text opens with this quotation mark, and ends with the one that closes it
 abbrev pub is_quoted : ℕ → List ℕ → Bool
 is_quoted quote [] = false
 is_quoted quote (b ∷ text) = b == quote && ends_quoted quote false text
@@ -35,6 +37,7 @@ string_prefix (b ∷ c ∷ text) = if b == lower_u && c == digit_8 then 2 else c
 abbrev pub is_character : List ℕ → Bool
 is_character text = is_quoted single_quote (drop (character_prefix text) text)
 
+-- a string literal, also an empty one (6.4.5)
 abbrev pub is_string : List ℕ → Bool
 is_string text = is_quoted double_quote (drop (string_prefix text) text)
 

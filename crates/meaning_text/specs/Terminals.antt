@@ -8,8 +8,10 @@ use Rattle.meaning_text.specs.Tokens.{Tok}
 abbrev pub terminal_spelled : TokenKind → List ℕ → List ℕ
 terminal_spelled kind text = unwrap_or (own_spelling kind) text
 
+-- the terminal of a token
 abbrev pub terminal_of : Tok → List ℕ
 terminal_of token = terminal_spelled token.kind token.text
 
+-- the terminals of tokens, in order
 abbrev pub terminals_of : List Tok → List (List ℕ)
 terminals_of tokens = map terminal_of tokens

@@ -10,6 +10,7 @@ use Rattle.vocabulary.specs.declared.token_kind.TokenKind.{TokenKind}
 use Rattle.vocabulary.specs.declared.token_kind.TokenKind.TheVariants.{Hash}
 use Rattle.meaning_text.specs.Kinds.{kind_in}
 
+-- a token, with how it is spelled and where it stands
 pub record Tok : Type 0 where
   pub kind : TokenKind
   -- its spelling, without the pairs of backslash and new-line that were in it
@@ -23,11 +24,13 @@ pub record Tok : Type 0 where
 
 -- What stands between tokens
 
+-- a byte of white space, or a comment (6.4 p3, 6.4.9)
 pub data Piece : Type 0 where
   White : SourceByte → Piece
   LineComment : List SourceByte → Piece
   BlockComment : List SourceByte → Piece
 
+-- the bytes of a piece
 abbrev pub piece_text : Piece → List SourceByte
 piece_text (White b) = b ∷ []
 piece_text (LineComment text) = text
@@ -45,9 +48,11 @@ ends_line (White b) = b.byte == new_line
 ends_line (LineComment text) = false
 ends_line (BlockComment text) = false
 
+-- pieces one behind the other
 abbrev pub Gap : Type 0
 Gap = List Piece
 
+-- the bytes of a gap
 abbrev pub gap_text : Gap → List SourceByte
 gap_text [] = []
 gap_text (piece ∷ gap) = piece_text piece ++ gap_text gap
@@ -57,6 +62,7 @@ abbrev pub IsGap : Gap → List SourceByte → Type 0
 IsGap [] rest = ⊤
 IsGap (piece ∷ gap) rest = (is_piece piece (gap_text gap ++ rest) ≡ true) × IsGap gap rest
 
+-- the gap has a piece
 abbrev pub is_some_gap : Gap → Bool
 is_some_gap [] = false
 is_some_gap (piece ∷ gap) = true
@@ -69,18 +75,21 @@ pub data Context : Type 0 where
   BehindInclude : Context
   Elsewhere : Context
 
+-- header names exist in this context
 abbrev pub allows_header_name : Context → Bool
 allows_header_name AtLineStart = false
 allows_header_name BehindHash = false
 allows_header_name BehindInclude = true
 allows_header_name Elsewhere = false
 
+-- a token in this context is the first of its line
 abbrev pub is_line_start : Context → Bool
 is_line_start AtLineStart = true
 is_line_start BehindHash = false
 is_line_start BehindInclude = false
 is_line_start Elsewhere = false
 
+-- the context behind a gap: a new line begins where the gap ends one
 abbrev pub behind_gap : Context → Gap → Context
 behind_gap context gap = if list_any ends_line gap then AtLineStart else context
 
@@ -89,6 +98,7 @@ abbrev pub is_hash : TokenKind → Bool
 is_hash Hash = true
 is_hash kind = false
 
+-- the context behind a token of this kind and spelling
 abbrev pub behind_token : Context → TokenKind → List ℕ → Context
 behind_token AtLineStart kind text = if is_hash kind then BehindHash else Elsewhere
 behind_token BehindHash kind text = if bytes_eq text (codes "include") then BehindInclude else Elsewhere
@@ -100,6 +110,7 @@ abbrev pub IsLongest : Bool → List ℕ → List ℕ → Type 0
 IsLongest allowed text rest =
     (k : ℕ) → 0 < k → k ≤ length rest → kind_in allowed (text ++ take k rest) ≡ None
 
+-- where the first byte of a text stands
 abbrev pub place_of : List SourceByte → Option At
 place_of [] = None
 place_of (b ∷ text) = Some b.at
@@ -125,6 +136,7 @@ TokensUpTo End context text (token ∷ tokens) =
     (gap : Gap) × (spelled rest : List SourceByte) × BeginsWith context text gap token spelled rest
     × TokensUpTo End (behind_token (behind_gap context gap) token.kind token.text) rest tokens
 
+-- nothing is left of the text
 abbrev pub IsEnd : Context → List SourceByte → Type 0
 IsEnd context rest = rest ≡ []
 
@@ -156,5 +168,6 @@ Opens context text fault = (tokens : List Tok) × TokensUpTo (IsFaultAt fault) c
 abbrev pub LexesFile : ℕ → List ℕ → List Tok → Type 0
 LexesFile file bytes tokens = Lexes AtLineStart (logical_text file bytes) tokens
 
+-- a file with this number has this fault
 abbrev pub OpensFile : ℕ → List ℕ → LexFault → Type 0
 OpensFile file bytes fault = Opens AtLineStart (logical_text file bytes) fault

@@ -18,6 +18,7 @@ universal_length (b ∷ c ∷ text) =
     if b == backslash && c == lower_u && begins_hexadecimal 4 text then 6
     else (if b == backslash && c == upper_u && begins_hexadecimal 8 text then 10 else 0)
 
+-- the text begins with a universal character name (6.4.3)
 abbrev pub begins_universal : List ℕ → Bool
 begins_universal text = nat_lt 0 (universal_length text)
 
@@ -27,6 +28,7 @@ abbrev pub word_goes_on : List ℕ → Bool
 word_goes_on [] = false
 word_goes_on (b ∷ text) = is_word_byte b || begins_universal (b ∷ text)
 
+-- each byte of the text goes on with an identifier
 abbrev pub is_word : List ℕ → Bool
 is_word [] = true
 is_word (b ∷ text) = word_goes_on (b ∷ text) && is_word text
@@ -36,9 +38,11 @@ abbrev pub begins_identifier : List ℕ → Bool
 begins_identifier [] = false
 begins_identifier (b ∷ text) = is_nondigit b || begins_universal (b ∷ text)
 
+-- the text is an identifier (6.4.2.1)
 abbrev pub is_identifier : List ℕ → Bool
 is_identifier text = begins_identifier text && is_word text
 
+-- the text begins with a digit
 abbrev pub begins_digit : List ℕ → Bool
 begins_digit [] = false
 begins_digit (b ∷ text) = is_ascii_digit b
@@ -67,6 +71,7 @@ is_number_tail sign left [] = true
 is_number_tail sign left (b ∷ text) =
     number_goes_on sign (b ∷ text) && is_number_tail (sign_behind left b) (universal_left left (b ∷ text)) text
 
+-- the text is a preprocessing number (6.4.8)
 abbrev pub is_number : List ℕ → Bool
 is_number [] = false
 is_number (b ∷ text) = begins_number (b ∷ text) && is_number_tail false 0 text

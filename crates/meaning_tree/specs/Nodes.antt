@@ -27,12 +27,14 @@ HasNode list handle node = (list.first ≤ handle) × (slice_get list.nodes (han
 
 -- The node with this handle makes this tree with its children, and children make these parts.
 abbrev mutual
+  -- the list has the tree's node at the handle, and its children make the tree's parts
   pub StandsFor : {Spelling : Type 0} → NodeList Spelling → ℕ → Tree Spelling → Type 0
   StandsFor list handle (Node kind token name number parts) =
       (children : List (ℕ × ℕ))
       × HasNode list handle (record { kind = kind; token = token; name = name; number = number; children = children })
       × StandFor list children parts
 
+  -- each child, in order, makes a tree, and its tag keeps the role of the part
   pub StandFor : {Spelling : Type 0} → NodeList Spelling → List (ℕ × ℕ) → Parts Spelling → Type 0
   StandFor list [] NoParts = Unit {0}
   StandFor list (child ∷ children) (Part role tree parts) =

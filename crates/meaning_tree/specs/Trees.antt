@@ -6,9 +6,11 @@ use Rattle.vocabulary.specs.declared.role.Role.{Role}
 
 -- The type of names is left open: a spelling, or the number of one.
 mutual
+  -- a node with all that is below it
   pub data Tree (Spelling : Type 0) : Type 0 where
     Node : (kind : NodeKind) → (token : ℕ) → (name : Spelling) → (number : ℕ) → (parts : Parts Spelling) → Tree Spelling
 
+  -- the parts of a node, each with its role
   pub data Parts (Spelling : Type 0) : Type 0 where
     NoParts : Parts Spelling
     Part : (role : Role) → Tree Spelling → Parts Spelling → Parts Spelling

@@ -9,28 +9,33 @@ pub record RangeRow : Type 0 where
   pub least : ℤ
   pub greatest : ℤ
 
-abbrev pub range_row : (width : ℕ) → (least greatest : ℤ) → RangeRow
-range_row width least greatest = record { width = width; least = least; greatest = greatest }
+-- a row of the table
+abbrev pub spanning : (width : ℕ) → (least greatest : ℤ) → RangeRow
+spanning width least greatest = record { width = width; least = least; greatest = greatest }
 
+-- the row of a kind
 abbrev pub range_of : IntKind → RangeRow
-range_of Bool = range_row 1 (pos 0) (pos 1)
-range_of Char = range_row 8 (negsuc 127) (pos 127)
-range_of SChar = range_row 8 (negsuc 127) (pos 127)
-range_of UChar = range_row 8 (pos 0) (pos 255)
-range_of Short = range_row 16 (negsuc 32767) (pos 32767)
-range_of UShort = range_row 16 (pos 0) (pos 65535)
-range_of Int = range_row 32 (negsuc 2147483647) (pos 2147483647)
-range_of UInt = range_row 32 (pos 0) (pos 4294967295)
-range_of Long = range_row 64 (negsuc 9223372036854775807) (pos 9223372036854775807)
-range_of ULong = range_row 64 (pos 0) (pos 18446744073709551615)
-range_of LLong = range_row 64 (negsuc 9223372036854775807) (pos 9223372036854775807)
-range_of ULLong = range_row 64 (pos 0) (pos 18446744073709551615)
+range_of Bool = spanning 1 (pos 0) (pos 1)
+range_of Char = spanning 8 (negsuc 127) (pos 127)
+range_of SChar = spanning 8 (negsuc 127) (pos 127)
+range_of UChar = spanning 8 (pos 0) (pos 255)
+range_of Short = spanning 16 (negsuc 32767) (pos 32767)
+range_of UShort = spanning 16 (pos 0) (pos 65535)
+range_of Int = spanning 32 (negsuc 2147483647) (pos 2147483647)
+range_of UInt = spanning 32 (pos 0) (pos 4294967295)
+range_of Long = spanning 64 (negsuc 9223372036854775807) (pos 9223372036854775807)
+range_of ULong = spanning 64 (pos 0) (pos 18446744073709551615)
+range_of LLong = spanning 64 (negsuc 9223372036854775807) (pos 9223372036854775807)
+range_of ULLong = spanning 64 (pos 0) (pos 18446744073709551615)
 
+-- the width of a kind in bits
 abbrev pub width : IntKind → ℕ
 width kind = (range_of kind).width
 
+-- the least number that a kind holds
 abbrev pub least : IntKind → ℤ
 least kind = (range_of kind).least
 
+-- the greatest number that a kind holds
 abbrev pub greatest : IntKind → ℤ
 greatest kind = (range_of kind).greatest

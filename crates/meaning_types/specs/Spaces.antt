@@ -6,6 +6,7 @@ use Rattle.meaning_types.specs.Types.{TypeTree, Typed, BaseTree, IntegerTree, Po
 abbrev pub TargetsMixSpaces : TypeTree → TypeTree → Type 0
 TargetsMixSpaces t u = (flags_of t ≢ flags_of u) ⊎ ((bare t ≢ bare u) × (without_flags (bare t) ≡ without_flags (bare u)))
 
+-- both bases are pointers, and their targets mix spaces
 abbrev pub BasesMixSpaces : BaseTree → BaseTree → Type 0
 BasesMixSpaces (PointerTree t) (PointerTree u) = TargetsMixSpaces t u
 BasesMixSpaces (PointerTree t) (IntegerTree kind) = ⊥

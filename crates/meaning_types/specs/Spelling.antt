@@ -5,6 +5,7 @@ use Rattle.vocabulary.specs.declared.int_kind.IntKind.{IntKind}
 use Rattle.vocabulary.specs.declared.int_kind.IntKind.TheVariants.{Bool, Char, SChar, UChar, Short, UShort, Int, UInt, Long, ULong, LLong, ULLong}
 use Rattle.meaning_types.specs.Types.{Space, NoSpace, NumberedSpace, NamedSpace, Qualifiers, Flags, TypeTree, Typed, BaseTree, IntegerTree, PointerTree}
 
+-- how an integer type is spelled
 abbrev pub kind_spelling : IntKind → List ℕ
 kind_spelling Bool = codes "_Bool"
 kind_spelling Char = codes "char"
@@ -25,11 +26,13 @@ space_spelling NoSpace = []
 space_spelling (NumberedSpace number) = decimal number
 space_spelling (NamedSpace name) = name
 
+-- what a space adds behind a type
 abbrev pub space_mark : Space → List ℕ
 space_mark NoSpace = []
 space_mark (NumberedSpace number) = codes " address_space(" ++ decimal number ++ codes ")"
 space_mark (NamedSpace name) = codes " address_space(" ++ name ++ codes ")"
 
+-- what flags add behind a type
 abbrev pub flag_marks : Flags → List ℕ
 flag_marks flags = (if flags.noderef then codes " noderef" else []) ++ space_mark flags.space
 
@@ -41,9 +44,11 @@ marks qualifiers flags =
     ++ flag_marks flags
 
 abbrev mutual
+  -- a type, with what follows it
   pub spelling : TypeTree → List ℕ
   spelling (Typed base qualifiers flags) = base_spelling base ++ marks qualifiers flags
 
+  -- a base: the integer type, or the target and a star
   pub base_spelling : BaseTree → List ℕ
   base_spelling (IntegerTree kind) = kind_spelling kind
   base_spelling (PointerTree target) = spelling target ++ codes " *"

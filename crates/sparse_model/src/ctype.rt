@@ -1,6 +1,6 @@
 use crate::ids::Restrict;
-use vocabulary::IntKind;
 use crate::space::Space;
+use vocabulary::IntKind;
 
 /// A type of C with its qualifiers and flags (C11 6.2.5, 6.7.3).
 #[derive(Debug, Drop)]

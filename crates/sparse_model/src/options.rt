@@ -1,5 +1,5 @@
-use vocabulary::Class;
 use crate::seq::Seq;
+use vocabulary::Class;
 
 /// A text or a path, as bytes.
 pub type Bytes = Seq<u8>;

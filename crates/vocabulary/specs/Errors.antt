@@ -14,9 +14,11 @@ pub record ErrorRow : Type 0 where
 abbrev pub plain : ℕ → List ℕ → ErrorRow
 plain number text = record { number = number; front = text; back = [] }
 
+-- a text that names a word between its two parts
 abbrev pub named : ℕ → List ℕ → List ℕ → ErrorRow
 named number front back = record { number = number; front = front; back = back }
 
+-- the row of an error
 abbrev pub error_row : ErrorKind → ErrorRow
 error_row NoSuchFile = named 1 (codes "no such file: ") []
 error_row IncludeNotFound = named 2 (codes "include not found: ") []

@@ -3,6 +3,7 @@ use Rattle.std.specs.Prelude.{ℕ, List, ◌++◌, codes}
 use Rattle.vocabulary.specs.declared.limit.LimitKind.{LimitKind}
 use Rattle.vocabulary.specs.declared.limit.LimitKind.TheVariants.{FileSize, AllFiles, IncludeDepth, MacroReplacements, MacroTokens, UnitTokens, ParseStack, Nodes, Parameters, ContextStep, ObjectSize, Steps, Cells}
 
+-- the name of a quantity
 abbrev pub limit_name : LimitKind → List ℕ
 limit_name FileSize = codes "file size"
 limit_name AllFiles = codes "all files"

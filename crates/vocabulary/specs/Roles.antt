@@ -3,6 +3,7 @@ use Rattle.std.specs.Prelude.{◌≡◌, ℕ, suc, zero}
 use Rattle.vocabulary.specs.declared.role.Role.{Role}
 use Rattle.vocabulary.specs.declared.role.Role.TheVariants.{Evaluated, Condition, TypePart, Unevaluated}
 
+-- the tag of a role
 abbrev pub role_tag : Role → ℕ
 role_tag Evaluated = 0
 role_tag Condition = 1

@@ -11,6 +11,7 @@ WordTable = List (record { now : List ℕ })
 abbrev pub in_a_line : WordTable → List ℕ
 in_a_line words = flat_map (λ word. word.now ++ codes " ") words
 
+-- what each table holds, word by word
 pub record WordExamples : Type 0 where
   -- C11 6.4.1
   pub keywords :

@@ -185,8 +185,8 @@ stored_to_address =
     (one_part (assignment_tree 5 (address_tree 3 (name_tree 4 (codes "x"))) (name_tree 6 (codes "y"))))
 
 -- the left side designates no place: whatever is declared, the third step is a fault there
-abbrev pub AddressIsNoPlace : Type 0
-AddressIsNoPlace =
+abbrev pub AddressIsNoLvalue : Type 0
+AddressIsNoLvalue =
     (scope : List Binding) (blocks : List Block) (statements : List ValueCode)
     → outcome_behind 2 scope (step scope blocks (EnterStatement (statement_code stored_to_address) statements)) ≡ Fault ShapeFault 3
 

@@ -4,10 +4,10 @@ use Rattle.meaning_types.specs.Types.{Flags}
 use Rattle.meaning_rules.specs.Bindings.{Binding, pointer_to}
 use Rattle.meaning_rules.specs.Typing.{int_with}
 use Rattle.meaning_rules.specs.examples.Failures.{noderef_flags}
-use Rattle.meaning_machine.specs.Values.{Null, Foreign, Value, Pointer, Place, ForObject, Block}
+use Rattle.meaning_machine.specs.Values.{Null, Foreign, Value, Pointer, Lvalue, ForObject, Block}
 use Rattle.meaning_machine.specs.Outcomes.{NullPointer, AccessFault, ShapeFault}
 use Rattle.meaning_machine.specs.Code.{Named}
-use Rattle.meaning_machine.specs.Machine.{ThenLoad, AfterValue, ThenStore, ThenGoOn, EnterBody, EnterPlace, Load, Move, Store, Leave, Finished, Next, Done, Undefined, Fault, step}
+use Rattle.meaning_machine.specs.Machine.{ThenLoad, AfterValue, ThenStore, ThenGoOn, EnterBody, EnterLvalue, Load, Move, Store, Leave, Finished, Next, Done, Undefined, Fault, step}
 use Rattle.meaning_machine.specs.examples.Runs.{plain_int, int_of, object_spot}
 use Rattle.meaning_machine.specs.examples.Rows.{living, space_flags}
 
@@ -28,21 +28,21 @@ pointer_block value =
 abbrev pub pointer_blocks : Value → List Block
 pointer_blocks value = pointer_block value ∷ pointer_block (Pointer plain_int Null) ∷ []
 
-abbrev pub p_place : Place
-p_place = record { type_ = pointer_to plain_int; spot = object_spot 0 }
+abbrev pub p_lvalue : Lvalue
+p_lvalue = record { type_ = pointer_to plain_int; spot = object_spot 0 }
 
-abbrev pub q_place : Place
-q_place = record { type_ = pointer_to plain_int; spot = object_spot 1 }
+abbrev pub q_lvalue : Lvalue
+q_lvalue = record { type_ = pointer_to plain_int; spot = object_spot 1 }
 
 -- an int that is 3, in its one block
-abbrev pub int_place : Place
-int_place = record { type_ = plain_int; spot = object_spot 0 }
+abbrev pub int_lvalue : Lvalue
+int_lvalue = record { type_ = plain_int; spot = object_spot 0 }
 
-abbrev pub null_place : Place
-null_place = record { type_ = plain_int; spot = Null }
+abbrev pub null_lvalue : Lvalue
+null_lvalue = record { type_ = plain_int; spot = Null }
 
 -- a flagged int behind a null pointer
-abbrev pub null_with : Flags → Place
+abbrev pub null_with : Flags → Lvalue
 null_with flags = record { type_ = int_with flags; spot = Null }
 
 -- the body ends behind the value
@@ -52,27 +52,27 @@ then_end = ThenGoOn []
 pub record StepExamples : Type 0 where
   -- a body is left behind its last statement, in a step of its own; then the activity is done, and stays so
   pub empty_body : (scope : List Binding) (blocks : List Block) → step scope blocks (EnterBody []) ≡ Next blocks Leave
-  pub last_statement : (scope : List Binding) → step scope living (Load int_place 4 then_end) ≡ Next living Leave
+  pub last_statement : (scope : List Binding) → step scope living (Load int_lvalue 4 then_end) ≡ Next living Leave
   pub left : (scope : List Binding) (blocks : List Block) → step scope blocks Leave ≡ Done
   pub finished : (scope : List Binding) (blocks : List Block) → step scope blocks Finished ≡ Done
   -- the object of a name, the first of two, and names that have none
   pub object_entered :
-      (blocks : List Block) → step two_pointers blocks (EnterPlace (Named 3 (codes "q")) (ThenLoad 3 then_end)) ≡ Next blocks (Load q_place 3 then_end)
+      (blocks : List Block) → step two_pointers blocks (EnterLvalue (Named 3 (codes "q")) (ThenLoad 3 then_end)) ≡ Next blocks (Load q_lvalue 3 then_end)
   pub first_entered :
       (blocks : List Block)
-      → step (two_pointers ++ two_pointers) blocks (EnterPlace (Named 3 (codes "q")) (ThenLoad 3 then_end)) ≡ Next blocks (Load q_place 3 then_end)
+      → step (two_pointers ++ two_pointers) blocks (EnterLvalue (Named 3 (codes "q")) (ThenLoad 3 then_end)) ≡ Next blocks (Load q_lvalue 3 then_end)
   pub function_entered :
-      (blocks : List Block) → step two_pointers blocks (EnterPlace (Named 3 (codes "f")) (ThenLoad 3 then_end)) ≡ Fault ShapeFault 3
+      (blocks : List Block) → step two_pointers blocks (EnterLvalue (Named 3 (codes "f")) (ThenLoad 3 then_end)) ≡ Fault ShapeFault 3
   pub unknown_entered :
-      (blocks : List Block) → step two_pointers blocks (EnterPlace (Named 3 (codes "x")) (ThenLoad 3 then_end)) ≡ Fault ShapeFault 3
+      (blocks : List Block) → step two_pointers blocks (EnterLvalue (Named 3 (codes "x")) (ThenLoad 3 then_end)) ≡ Fault ShapeFault 3
   -- `*` gives the place behind a null pointer too (6.5.3.2 p4), and a number is no pointer
   pub null_moved :
       (scope : List Binding) (blocks : List Block)
-      → step scope blocks (Move (Pointer plain_int Null) 4 (ThenLoad 4 then_end)) ≡ Next blocks (Load null_place 4 then_end)
+      → step scope blocks (Move (Pointer plain_int Null) 4 (ThenLoad 4 then_end)) ≡ Next blocks (Load null_lvalue 4 then_end)
   pub number_moved :
       (scope : List Binding) (blocks : List Block) → step scope blocks (Move (int_of 0) 4 (ThenLoad 4 then_end)) ≡ Fault ShapeFault 4
   -- but a null pointer's place isn't loaded
-  pub null_loaded : (scope : List Binding) (blocks : List Block) → step scope blocks (Load null_place 4 then_end) ≡ Undefined NullPointer 4
+  pub null_loaded : (scope : List Binding) (blocks : List Block) → step scope blocks (Load null_lvalue 4 then_end) ≡ Undefined NullPointer 4
   -- a store to a flagged place is a fault at the place, whatever the value
   pub noderef_stored :
       (scope : List Binding) (blocks : List Block) → step scope blocks (Store (null_with noderef_flags) 3 (int_of 0) 4 then_end) ≡ Fault AccessFault 3
@@ -81,5 +81,5 @@ pub record StepExamples : Type 0 where
   -- `q = p = 0`: the value of an assignment is the stored one, a null pointer here (6.5.16 p3)
   pub assignment_valued :
       (scope : List Binding)
-      → step scope (pointer_blocks (Pointer plain_int Foreign)) (Store p_place 5 (int_of 0) 6 (ThenStore q_place 3 4 then_end))
-      ≡ Next (pointer_blocks (Pointer plain_int Null)) (Store q_place 3 (Pointer plain_int Null) 4 then_end)
+      → step scope (pointer_blocks (Pointer plain_int Foreign)) (Store p_lvalue 5 (int_of 0) 6 (ThenStore q_lvalue 3 4 then_end))
+      ≡ Next (pointer_blocks (Pointer plain_int Null)) (Store q_lvalue 3 (Pointer plain_int Null) 4 then_end)

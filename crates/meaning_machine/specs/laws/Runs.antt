@@ -14,7 +14,7 @@ use Rattle.meaning_machine.specs.Conversion.{number_count, converted}
 use Rattle.meaning_machine.specs.Outcomes.{Gives}
 use Rattle.meaning_machine.specs.Memory.{adopt, content_at}
 use Rattle.meaning_machine.specs.Code.{statement_code}
-use Rattle.meaning_machine.specs.Machine.{Control, EnterBody, Finished, Next, Done, place_of, step}
+use Rattle.meaning_machine.specs.Machine.{Control, EnterBody, Finished, Next, Done, lvalue_of, step}
 use Rattle.meaning_machine.specs.Runs.{World, opening, Move, Start, Step, Write, Moves, Runs, IsSafe, bindings_in}
 use Rattle.meaning_machine.specs.laws.Soundness.{Last, AreSoundBlocks, IsSoundControl, IsSoundOutcome, IsSoundWorld}
 
@@ -111,5 +111,5 @@ abbrev pub NamesDesignate : Type 0
 NamesDesignate =
     (unit : SyntaxTree) (form : IsInFirstForm unit)
     (number : ℕ) (words : List Word) (stars : ℕ) (name : List ℕ) → slice_get form.items number ≡ Some (Object words stars name)
-    → place_of (bindings_in unit) name
+    → lvalue_of (bindings_in unit) name
     ≡ Some (record { type_ = declared_type (record { words = words; stars = stars }); spot = In number [] 0 1 })

@@ -1,20 +1,16 @@
 -- The plain program beside the listing: it judges the items of the first form statement by statement, by how
 -- objects are declared.
-use Rattle.std.specs.Prelude.{ℕ, suc, ◌-◌, Bool, true, false, ◌+◌, ◌&&◌, List, [], ◌∷◌, ◌++◌, Option, Some, None, not, nat_eq, nat_lt, if◌then◌else◌}
+use Rattle.std.specs.Prelude.{ℕ, Bool, true, false, ◌+◌, ◌&&◌, List, [], ◌∷◌, ◌++◌, Option, Some, None, not, nat_eq, nat_lt, if◌then◌else◌}
 use Rattle.std.specs.List.{flat_map}
 use Rattle.std.specs.Str.{bytes_eq}
-use Rattle.meaning_types.specs.Types.{Flags, no_flags, has_flag, value_type}
+use Rattle.meaning_types.specs.Types.{has_flag, value_type}
 use Rattle.meaning_types.specs.Equality.{are_equal_flags}
 use Rattle.meaning_syntax.specs.Items.{Statement, Assign, AssignThrough, AssignAddress, Item}
 use Rattle.meaning_syntax.specs.Binding.{Declared, object_of}
-use Rattle.meaning_rules.specs.Typing.{flagged, declared_type}
+use Rattle.meaning_rules.specs.Typing.{int_flags, declared_type, behind_pointer, address_of}
 use Rattle.meaning_rules.specs.Evaluation.{InAssignment}
 use Rattle.meaning_rules.specs.Placed.{Placed, placed_in}
 use Rattle.meaning_rules.specs.Failures.{Failure, SpacesMixed, FlaggedAccess}
-
--- the flags of the int that is declared, or behind the stars
-abbrev pub int_flags : Declared → Flags
-int_flags declared = flagged no_flags declared.words
 
 -- the object itself is an int with a flag
 abbrev pub is_flagged_int : Declared → Bool
@@ -31,14 +27,6 @@ judged_assignment token target source =
     if nat_lt 0 target.stars && not (are_equal_flags (int_flags target) (int_flags source))
     then record { token = token; part = 0; cause = SpacesMixed InAssignment (declared_type target) (value_type (declared_type source)) } ∷ []
     else []
-
--- what a pointer points to, as if it were declared
-abbrev pub behind_pointer : Declared → Declared
-behind_pointer pointer = record pointer { stars = pointer.stars - 1 }
-
--- an object's address, as if it were declared
-abbrev pub address_of : Declared → Declared
-address_of object = record object { stars = suc object.stars }
 
 -- of `target = source ;`
 abbrev pub judged_assign : ℕ → Declared → Declared → List Failure

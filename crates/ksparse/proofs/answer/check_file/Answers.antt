@@ -11,3 +11,11 @@ returns-in-Whole-clause-right g c =
 pub returns-in-Whole-clause-loading : goal.returns-in-Whole-clause-loading
 returns-in-Whole-clause-loading g c =
     loading_once c.told_map_agrees.ensures _ _ _ c.args.path.now _ _ _ c.in-Whole.ensures.trace c.in-Whole.ensures.answer
+
+pub returns-in-Missing-clause-loading : goal.returns-in-Missing-clause-loading
+returns-in-Missing-clause-loading g c =
+    loading_once c.told_map_agrees.ensures _ _ _ c.args.path.now _ _ _ c.in-Missing.ensures.trace c.in-Missing.ensures.answer
+
+pub returns-in-TooLong-clause-loading : goal.returns-in-TooLong-clause-loading
+returns-in-TooLong-clause-loading g c =
+    loading_once c.told_map_agrees.ensures _ _ _ c.args.path.now _ _ _ c.in-TooLong.ensures.trace c.in-TooLong.ensures.answer

@@ -3,10 +3,10 @@
 
 usage: bench.py PROGRAM
 
-Prints for each file its bytes and tokens, the processor time of a check, also by the token, and the peak memory, also
-by the token where it is large. Where valgrind is installed, a column has the instructions by the token, above
-those of a check of an empty file: they don't depend on what else the machine does. They are counted on a
-smaller file of the same kind. A second table has those of each stage of a check.
+Prints for each file its bytes and tokens, the processor time of a check, also by the token, and the peak
+memory, also by the token where it is large. Where valgrind is installed, a column has the instructions by the
+token, above those of a check of an empty file: they don't depend on what else the machine does. They are
+counted on a smaller file of the same kind. A second table has those of each stage of a check.
 
 Exits 1 where a file of the first form takes more than a tenth longer by the token than a smaller one does,
 once the smaller one takes long enough to be measured, or where a largest file takes more than five seconds.

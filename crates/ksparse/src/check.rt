@@ -77,6 +77,8 @@ fn check(alloc: Global, path: &[u8], text: &[u8]) -> Result<Written, Unchecked>
         return Err(Unchecked::Refused(Refusal::NotBuilt));
     };
     let unit = build(alloc, &names, &items)?;
+    // The tree has all of them: the memory is free for what comes.
+    drop(items);
     let Some(failures) = judge(alloc, &names, &unit)? else {
         return Err(Unchecked::Refused(Refusal::NotBuilt));
     };

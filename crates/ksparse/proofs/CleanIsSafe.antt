@@ -43,7 +43,7 @@ module _ (law : SilenceIsSafe) where
             (subst (λ (u : SyntaxTree). IsListing u []) (one_unit text tokens others unit other checked.lexes checked.derives lexes derives) checked.is_listing);
       }
 
-  text_safe : (path text : List ℕ) (reply : Reply) → IsTextReply path text reply → reply.ending ≡ Clean → IsSafeText text
+  pub text_safe : (path text : List ℕ) (reply : Reply) → IsTextReply path text reply → reply.ending ≡ Clean → IsSafeText text
   text_safe path text reply (inl tells) is =
       let none : tells.2 ≡ [] = no_failures path tells.0 tells.2 (sym (ap (λ (r : Reply). r.ending) tells.5) ∙ is) in
       checked_safe text tells.0 tells.1 (subst (λ (failures : List Failure). IsChecked text tells.0 tells.1 failures) none tells.3)

@@ -3,6 +3,7 @@ pub mod CleanIsSafe
 pub mod Counts
 pub mod Endings
 pub mod Loads
+pub mod SafeTexts
 pub mod SecondWord
 pub mod Taken
 pub mod TextReplies

@@ -7,6 +7,7 @@ pub mod Words
 pub mod Safe
 pub mod Sinks
 pub mod Written
+pub mod examples
 pub use Rattle.meaning_answer.specs.Reply
 pub use Rattle.meaning_answer.specs.Command
 pub use Rattle.meaning_answer.specs.Answer

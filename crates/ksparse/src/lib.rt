@@ -7,6 +7,7 @@
 mod answer;
 mod check;
 mod command;
+mod examples;
 mod exit;
 mod refusal;
 mod reply;
@@ -15,6 +16,7 @@ mod write;
 
 pub use check::check_text;
 pub use command::{Command, WordFault, read_words};
+pub use examples::worked_examples;
 pub use exit::Exit;
 pub use refusal::Refusal;
 pub use reply::Written;

@@ -4,3 +4,4 @@ mod Usage
 mod Written
 mod Told
 pub mod Delivered
+mod Completions

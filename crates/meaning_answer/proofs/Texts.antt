@@ -56,7 +56,7 @@ unit_answered path text tokens items checked false few =
     inr (inl (tokens, unit_tree items, checked.lexes, checked.derives, leb-false _ _ few, refl))
 
 -- a text whose tokens aren't read as a unit has no others, so isn't in the form
-not_in_form :
+pub not_in_form :
     (text : List ℕ) (tokens : List Tok) → LexesFile main_file text tokens → read_unit (terminals_of tokens) ≡ None → IsInForm text → ⊥
 not_in_form text tokens lexes none in_form =
     let here = tokens_are_unique AtLineStart (logical_text main_file text) tokens lexes in

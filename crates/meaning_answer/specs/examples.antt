@@ -1,2 +1,3 @@
 -- Worked examples.
 pub mod Answers
+pub mod Completion

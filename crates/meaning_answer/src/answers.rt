@@ -1,5 +1,6 @@
 // What is proved of answers and outcomes, and examples of them.
 ghost use Rattle.meaning_answer.specs.examples.Answers.{AnswerExamples, LimitExamples, RequestExamples};
+ghost use Rattle.meaning_answer.specs.examples.Completion.{CompletionExamples};
 ghost use Rattle.meaning_answer.specs.laws.Answers.{AnswersAreShaped, AnswersAreUnique, AnswersExist, AnswersTellUsage, EndingsTellWhatIsWritten, OutcomesAreTold};
 
 /// Each command has exactly one answer over given files, with the shape of its ending. It is a usage line
@@ -16,6 +17,11 @@ pub fn worked_examples()
     ensures answers { AnswerExamples }
     ensures requests { RequestExamples }
     ensures limits { LimitExamples }
+{}
+
+/// Commands of no word, one and more, and what completes them.
+pub fn worked_completions()
+    ensures { CompletionExamples }
 {}
 
 /// What the sinks of a command have taken, by its ending alone, whatever the files hold.

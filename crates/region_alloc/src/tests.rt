@@ -1,19 +1,37 @@
 // Regions as their callers meet them: they are filled, joined, written, released and dropped.
 use crate::{Mark, Region};
+use chunk_list::Chunks;
 use std::alloc::{AllocError, Global};
 use std::cell::Cell;
 use std::process::Abort;
 use std::test::Fail;
 
-// Counts one more where it is dropped.
+// Which values were made, and how often each was dropped, in hexadecimal digits: each value has its own.
+#[derive(Drop)]
+struct Counts {
+    made: Cell<u64>,
+    dropped: Cell<u64>,
+}
+
+// A value that counts one more at its digit where it is dropped.
 struct Counted<'a> {
-    drops: &'a Cell<u32>,
+    digit: u64,
+    counts: &'a Counts,
+}
+
+impl<'a> Counted<'a> {
+    fn new(digit: u64, counts: &'a Counts) -> Counted<'a> {
+        counts.made.set(counts.made.get().saturating_add(digit));
+        Counted { digit, counts }
+    }
 }
 
 impl Drop for Counted<'_> {
     fn drop(self) {
-        let Counted { drops } = self;
-        drops.set(drops.get().saturating_add(1));
+        let Counted { digit, counts } = self;
+        counts
+            .dropped
+            .set(counts.dropped.get().saturating_add(digit));
     }
 }
 
@@ -54,23 +72,104 @@ fn has(region: &Region<u32>, want: &[u32]) -> bool {
             .all(|(h, v)| region.get(h as u32) == v)
 }
 
-// Five values are counted where they are dropped: all but one by the release, the last with its region.
-fn drop_each_once(rt: &impl Abort, alloc: Global) -> Result<(), AllocError> {
-    let drops = Cell::new(0);
-    {
-        let mut region = Region::new(alloc);
-        for made in 1..6 {
-            if let Err(error) = add(rt, &mut region, Counted { drops: &drops }) {
-                drop(region);
-                assert_eq!(rt; drops.get(), made, "a refused value is dropped once");
-                return Err(error);
-            }
-        }
-        release(rt, &mut region, Mark { len: 1 });
-        assert_eq!(rt; drops.get(), 4, "a release drops what came after the mark");
+// What is done with counted values, and how often each has been dropped then, before the region ends.
+struct Dropping {
+    case: &'static str,
+    put: &'static [u64],
+    absorbed: &'static [u64],
+    // the place that is written over, and the value that comes there
+    over: Option<(u32, u64)>,
+    mark: Option<u32>,
+    dropped: u64,
+}
+
+#[rattlefmt::skip]
+const DROPPINGS: [Dropping; 8] = [
+    Dropping { case: "nothing is dropped before its end", put: &[0x1, 0x10], absorbed: &[], over: None, mark: None, dropped: 0 },
+    Dropping { case: "a release drops what came after the mark", put: &[0x1, 0x10, 0x100, 0x1000, 0x10000], absorbed: &[], over: None, mark: Some(1), dropped: 0x11110 },
+    Dropping { case: "a region ends behind an absorb", put: &[0x1, 0x10], absorbed: &[0x100, 0x1000], over: None, mark: None, dropped: 0 },
+    Dropping { case: "a release sheds a whole vector", put: &[0x1, 0x10], absorbed: &[0x100, 0x1000], over: None, mark: Some(2), dropped: 0x1100 },
+    Dropping { case: "and a part of the one before it", put: &[0x1, 0x10], absorbed: &[0x100, 0x1000], over: None, mark: Some(1), dropped: 0x1110 },
+    Dropping { case: "a release sheds all vectors", put: &[0x1, 0x10], absorbed: &[0x100, 0x1000], over: None, mark: Some(0), dropped: 0x1111 },
+    Dropping { case: "a write drops the old value, and the region ends parted", put: &[0x1, 0x10], absorbed: &[0x100, 0x1000], over: Some((2, 0x10000)), mark: None, dropped: 0x100 },
+    Dropping { case: "a parted region sheds the value that was written", put: &[0x1, 0x10], absorbed: &[0x100, 0x1000], over: Some((3, 0x10000)), mark: Some(3), dropped: 0x11000 },
+];
+
+// A region of values with these digits. Where memory is wanting, those that came before are dropped with it.
+fn counted_region<'a>(
+    rt: &impl Abort,
+    alloc: Global,
+    digits: &[u64],
+    counts: &'a Counts,
+) -> Result<Region<Counted<'a>>, AllocError> {
+    let mut region = Region::new(alloc);
+    for digit in digits {
+        add(rt, &mut region, Counted::new(*digit, counts))?;
     }
-    assert_eq!(rt; drops.get(), 5, "a region's end drops the rest");
+    Ok(region)
+}
+
+fn drop_values(
+    rt: &impl Abort,
+    alloc: Global,
+    row: &Dropping,
+    counts: &Counts,
+) -> Result<(), AllocError> {
+    let case = row.case;
+    let mut region = counted_region(rt, alloc, row.put, counts)?;
+    let other = counted_region(rt, alloc, row.absorbed, counts)?;
+    absorb(rt, &mut region, other);
+    if let Some((place, digit)) = row.over {
+        assert!(rt; place < region.len());
+        *region.get_mut(place) = Counted::new(digit, counts);
+    }
+    if let Some(len) = row.mark {
+        release(rt, &mut region, Mark { len });
+    }
+    assert_eq!(rt; counts.dropped.get(), row.dropped, "{case}");
     Ok(())
+}
+
+// A value that is set in a list of vectors drops the one that stood there.
+#[tactic(auto, using(crate::proofs::RegionLemmas::joined))]
+fn set_over_a_value(rt: &impl Abort, alloc: Global, counts: &Counts) -> Result<(), AllocError> {
+    let mut chunks = Chunks::new(alloc);
+    if let Err((error, _)) = chunks.push(Counted::new(0x1, counts)) {
+        return Err(error);
+    }
+    chunks.set(0, Counted::new(0x10, counts));
+    assert_eq!(rt; counts.dropped.get(), 0x1, "set drops the old value");
+    Ok(())
+}
+
+fn no_counts() -> Counts {
+    Counts {
+        made: Cell::new(0),
+        dropped: Cell::new(0),
+    }
+}
+
+// Each value that was made is dropped once, also where memory is wanting.
+fn drop_each_once(rt: &impl Abort, alloc: Global) -> Result<(), AllocError> {
+    for row in &DROPPINGS {
+        let case = row.case;
+        let counts = no_counts();
+        let ended = drop_values(rt, alloc, row, &counts);
+        assert_eq!(rt;
+            counts.dropped.get(),
+            counts.made.get(),
+            "{case}: at the end"
+        );
+        ended?;
+    }
+    let counts = no_counts();
+    let ended = set_over_a_value(rt, alloc, &counts);
+    assert_eq!(rt;
+        counts.dropped.get(),
+        counts.made.get(),
+        "a set: at the end"
+    );
+    ended
 }
 
 // A region of many links, each of one value.

@@ -1,0 +1,12 @@
+ghost use Rattle.ksparse.specs.examples.SafeTexts.{SafeTextExamples};
+
+use meaning_machine::{faults_are_unsafe, silence_is_safe, worked_runs};
+
+/// Short texts, safe and unsafe.
+pub fn worked_examples()
+    ensures { SafeTextExamples }
+{
+    silence_is_safe();
+    faults_are_unsafe();
+    worked_runs();
+}

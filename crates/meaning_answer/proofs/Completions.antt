@@ -1,0 +1,75 @@
+-- A command is complete where the answer that the plain program computes was taken whole, and only there.
+use Rattle.std.proofs.Common.{◌≡◌, ◌≢◌, ℕ, List, [], ◌∷◌, ◌⊎◌, None, sym, ◌∙◌, ap, subst, refl, inl, inr, codes, get_or, arith}
+use Rattle.std.specs.Cmp.Lexicographic.{slice_cmp}
+use Rattle.std.specs.FinMap as map
+use Rattle.std.specs.Fmt.{digits}
+use Rattle.std.specs.Ordering.{nat_cmp}
+use Rattle.meaning_outside.specs.Files.{FileMap, file_at}
+use Rattle.meaning_outside.specs.Loads.{Loaded, AgreesWith}
+use Rattle.meaning_answer.specs.Reply.{Ending, Usage, NoMemory, Reply, line}
+use Rattle.meaning_answer.specs.Answer.{IsAnswer}
+use Rattle.meaning_answer.specs.Delivery.{Sinks, Delivers, Completes}
+use Rattle.meaning_answer.specs.plain.Answering.{file_reply, reply_to}
+use Rattle.meaning_answer.specs.examples.Completion.{taken, CompletionExamples, no_file, two_paths, three_words}
+use Rattle.meaning_answer.proofs.Texts.{answers_exist, answers_are_unique}
+
+-- it is complete with a reply that writes nothing to `out`, whichever map agrees with the loads
+completed : (words : List (List ℕ)) (loads : List Loaded) (ending : Ending) (err : List ℕ)
+    → ((files : FileMap) → AgreesWith files loads → reply_to words files ≡ record { out = []; err = err; ending = ending })
+    → Completes words loads ⊥ ending (taken err)
+completed words loads ending err is files agrees reply answers none =
+    let same : record { out = []; err = err; ending = ending } ≡ reply = sym (answers_are_unique words files reply answers ∙ is files agrees) in
+    inr (ap (λ (r : Reply). r.ending) same, subst (λ (r : Reply). Delivers r (taken err)) same (record { out = refl; err = refl }))
+
+-- and not where, over one such map, the ending or what was taken is another
+incomplete : (words : List (List ℕ)) (loads : List Loaded) (files : FileMap) (reply : Reply) (ending : Ending) (sinks : Sinks) → AgreesWith files loads
+    → reply_to words files ≡ reply → ((ending ≡ NoMemory) ⊎ ((ending ≡ reply.ending) × Delivers reply sinks) → ⊥)
+    → Completes words loads ⊥ ending sinks → ⊥
+incomplete words loads files reply ending sinks agrees is differs complete =
+    differs (complete files agrees reply (subst (IsAnswer words files) is (answers_exist words files)) (λ none. none))
+
+-- another ending than want of memory and that of the answer
+another_ending : {ending wanted : Ending} {Taken : Type 0} → ending ≢ NoMemory → ending ≢ wanted → (ending ≡ NoMemory) ⊎ ((ending ≡ wanted) × Taken) → ⊥
+another_ending memory other (inl is) = memory is
+another_ending memory other (inr both) = other both.0
+
+-- another text
+another_text : {ending wanted : Ending} (reply : Reply) (err : List ℕ) → ending ≢ NoMemory → err ≢ reply.err
+    → (ending ≡ NoMemory) ⊎ ((ending ≡ wanted) × Delivers reply (taken err)) → ⊥
+another_text reply err memory other (inl is) = memory is
+another_text reply err memory other (inr both) = other both.1.err
+
+without_memory : (words : List (List ℕ)) (sinks : Sinks) → Completes words [] ⊥ NoMemory sinks
+without_memory words sinks files agrees reply answers none = inl refl
+
+no_files : FileMap
+no_files = map.empty
+
+none_there : file_at no_files (codes "t.c") ≡ None
+unfolding no_files
+none_there = map.get-empty (slice_cmp nat_cmp) (codes "t.c")
+
+-- the lines differ in a letter
+line_of_another_word : codes "ksparse: bad word: -x\n" ≢ codes "ksparse: bad word: -E\n"
+line_of_another_word is = let letter : 120 ≡ 69 = ap (λ (line : List ℕ). get_or line 20 0) is in omega (arith, letter)
+
+pub completion_examples : CompletionExamples
+unfolding digits
+completion_examples = record {
+  no_word = completed [] [] _ _ (λ files agrees. refl);
+  no_word_in_silence = incomplete [] [] no_files _ _ _ tt refl (another_ending (λ is. cc) (λ is. cc));
+  no_word_with_silent_usage = incomplete [] [] no_files _ _ _ tt refl (another_text _ [] (λ is. cc) (λ is. cc));
+  no_word_without_memory = without_memory [] (taken []);
+  one_word = completed (codes "t.c" ∷ []) no_file _ _ (λ files agrees. ap (file_reply (codes "t.c")) agrees.0);
+  one_word_in_silence =
+      incomplete (codes "t.c" ∷ []) no_file no_files (file_reply (codes "t.c") None) _ _ (none_there, tt) (ap (file_reply (codes "t.c")) none_there)
+      (another_ending (λ is. cc) (λ is. cc));
+  two_words = completed two_paths [] _ _ (λ files agrees. refl);
+  two_words_in_silence = incomplete two_paths [] no_files _ _ _ tt refl (another_ending (λ is. cc) (λ is. cc));
+  two_words_without_memory = without_memory two_paths (taken []);
+  three_words_tell_the_first_bad_one = completed three_words [] _ _ (λ files agrees. refl);
+  three_words_tell_another =
+      incomplete three_words [] no_files _ _ _ tt refl
+      (another_text (line Usage (codes "ksparse: bad word: -E")) (codes "ksparse: bad word: -x\n") (λ is. cc) line_of_another_word);
+  behind_a_fault = λ words loads ending sinks files agrees reply answers none. absurd (none tt);
+}

@@ -10,10 +10,10 @@ use std::process::Abort;
 use std::test::Fail;
 use tag_list::TagList;
 
-// So many values are put in a row.
+// How many values are put in a row.
 const COUNTS: [u32; 6] = [1, 16, 17, 1_000, 65_536, 70_000];
 
-// So many bytes have a text.
+// How many bytes a text has.
 const LENGTHS: [usize; 8] = [1, 255, 256, 4_095, 4_096, 5_000, 65_536, 70_000];
 
 // The values that come first are still there behind the last one.

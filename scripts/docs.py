@@ -3,7 +3,8 @@
 
 What stands in backquotes is a citation. A path is sought from the top, in crates/, and in the crates that its row, its paragraph
 or its heading names. A word with an underscore, or with a capital inside, has to stand in the code. In a table row that names a
-file, the names in the cell of the file, or in the column of definitions, have to stand in that file.
+file, the names in the cell of the file, or in the column of definitions, have to stand in that file. The table of wrong
+programs says how many there are.
 """
 import fnmatch
 import functools
@@ -131,6 +132,19 @@ def row_findings(told, header, near):
                     yield f"`{it}` doesn't stand in {', '.join(paths)}"
 
 
+def count_findings(told, header):
+    """Numbers of wrong programs in a row, which have to be those of its folders."""
+    cells, heads = ([it.strip() for it in line.split("|")[1:-1]] for line in (told, header))
+    crate = CITED.match(cells[0])
+    if "In `edits/`" not in heads or not crate:
+        return
+    for head, folder in ("Tried by the gate", "must-fail"), ("In `edits/`", "edits"):
+        said = int(cells[heads.index(head)] or 0)
+        count = len(fnmatch.filter(files(), f"crates/{crate[1]}/{folder}/*.edit"))
+        if said != count:
+            yield f"`{crate[1]}` has {count} in {folder}/, not {said}"
+
+
 def findings_of(file):
     with open(os.path.join(TOP, file), encoding="utf-8") as text:
         whole = text.read()
@@ -154,7 +168,7 @@ def findings_of(file):
                     if is_name(name) and name not in KNOWN and name not in words_of_code():
                         yield f"{file}:{line}: `{cited}`: no such name"
         if header and told != header:
-            for it in row_findings(told, header, near):
+            for it in [*row_findings(told, header, near), *count_findings(told, header)]:
                 yield f"{file}:{line}: {it}"
     for link in re.findall(r"\]\(([^)#:]+)[^)]*\)", whole):
         if not os.path.exists(os.path.join(TOP, os.path.dirname(file), link)):

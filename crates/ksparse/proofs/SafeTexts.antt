@@ -19,8 +19,9 @@ use Rattle.meaning_answer.proofs.Texts.{answered, not_in_form}
 use Rattle.meaning_machine.specs.Outcomes.{FaultKind}
 use Rattle.meaning_machine.specs.Machine.{Fault}
 use Rattle.meaning_machine.specs.Runs.{Move}
-use Rattle.meaning_machine.specs.plain.Playing.{FaultsAreUnsafe, onto}
+use Rattle.meaning_machine.specs.plain.Playing.{onto}
 use Rattle.meaning_machine.specs.examples.Runs.{Meets}
+use Rattle.meaning_machine.specs.laws.Playing.{FaultsAreUnsafe}
 use Rattle.meaning_machine.specs.laws.Runs.{SilenceIsSafe}
 use Rattle.ksparse.specs.Safe.{IsSafeText}
 use Rattle.ksparse.proofs.CleanIsSafe.{text_safe}

@@ -11,8 +11,6 @@ mod bytes;
 #[cfg(test)]
 mod faults;
 #[cfg(test)]
-mod growth;
-#[cfg(test)]
 mod model;
 #[cfg(test)]
 mod pairs;

@@ -4,7 +4,7 @@ use sparse_outside::{HonestFiles, MemorySink, Words};
 use std::alloc::{AllocError, Global};
 use std::process::Abort;
 
-/// Room for each text of a test, besides what is expected there.
+/// Room for each text of a test.
 pub const ROOM: usize = 4096;
 
 /// The answer to a text that has tokens and isn't in the form.
@@ -27,13 +27,13 @@ pub fn list(alloc: Global, words: &[&str]) -> Result<Words, AllocError> {
     Ok(list)
 }
 
-// Checks the one file `t.c` with this text, with so much room for what is told.
-fn check(alloc: Global, text: &[u8], room: usize) -> Result<Ran, AllocError> {
+// Checks the one file `t.c` with this text.
+fn check(alloc: Global, text: &[u8]) -> Result<Ran, AllocError> {
     let words = list(alloc, &["t.c"])?;
     let mut files = HonestFiles::new(alloc);
     files.add(b"t.c", text)?;
     let mut out = MemorySink::new(alloc, ROOM)?;
-    let mut err = MemorySink::new(alloc, room)?;
+    let mut err = MemorySink::new(alloc, ROOM)?;
     let exit = ksparse(alloc, &words, &mut files, &mut out, &mut err);
     Ok(Ran { exit, out, err })
 }
@@ -53,8 +53,7 @@ pub fn assert_check(
     exit: Exit,
     err: &str,
 ) -> Result<(), AllocError> {
-    let room = err.len().saturating_add(ROOM);
-    let ran = check(rt.alloc(), text, room)?;
+    let ran = check(rt.alloc(), text)?;
     assert_ran(rt, case, &ran, exit, err.as_bytes());
     Ok(())
 }

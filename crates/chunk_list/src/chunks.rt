@@ -1,7 +1,6 @@
 // A chain of vectors that holds one list.
 use std::alloc::{AllocError, Global};
 use std::collections::LinkedList;
-use std::collections::linked_list::Iter;
 
 /// A list in a chain of vectors, of which none is empty.
 ///
@@ -15,7 +14,7 @@ pub struct Chunks<T> {
 impl<T> Chunks<T> {
     ghost use Rattle.std.specs.Prelude.{◌≡◌, ◌+◌, ◌^◌, ◌<◌, ◌≤◌, [], ◌∷◌, ◌++◌, length, take, drop, slice_get, IfErr, OnErr, OnOk, MatchResult};
     ghost use Rattle.std.specs.Borrow.{sem};
-    ghost use Rattle.chunk_list.specs.Chunks.{AllFilled, IsPlaceInFront, contents};
+    ghost use Rattle.chunk_list.specs.Chunks.{AllFilled, IsPlaceInFront, contents, items_of};
     ghost use Rattle.chunk_list.specs.LentFront.{LendsFrontItem};
 
     /// A chain of no vectors, which takes no memory.
@@ -33,13 +32,6 @@ impl<T> Chunks<T> {
     {
         let Chunks { list } = self;
         list.destroy_empty();
-    }
-
-    /// The vectors in order.
-    pub fn iter(&self) -> Iter<'_, Vec<T>>
-        ensures { result ≡ self.now.list }
-    {
-        self.list.iter()
     }
 
     /// Puts the vectors of the other chain behind those of this one.
@@ -69,11 +61,11 @@ impl<T> Chunks<T> {
     /// Appends a value to the last vector, or begins the first one with it. A refused value comes back.
     #[tactic(auto, using(crate::proofs::ChunkLemmas::last_grows))]
     pub fn push(&mut self, v: T) -> Result<(), (AllocError, T)>
-        requires { AllFilled self.old.list }
-        ensures ok { OnOk result (contents self.new.list ≡ contents self.old.list ++ v ∷ []) }
-        ensures err { OnErr result (contents self.new.list ≡ contents self.old.list) }
+        requires { AllFilled items_of self.old.list }
+        ensures ok { OnOk result (contents items_of self.new.list ≡ contents items_of self.old.list ++ v ∷ []) }
+        ensures err { OnErr result (contents items_of self.new.list ≡ contents items_of self.old.list) }
         ensures back { IfErr result (λ e. e.1 ≡ v) }
-        ensures filled { AllFilled self.new.list }
+        ensures filled { AllFilled items_of self.new.list }
     {
         if self.list.is_empty() {
             return self.begin(v);
@@ -88,10 +80,10 @@ impl<T> Chunks<T> {
     // Begins the first vector with a value.
     fn begin(&mut self, v: T) -> Result<(), (AllocError, T)>
         requires { self.old.list ≡ [] }
-        ensures ok { OnOk result (contents self.new.list ≡ v ∷ []) }
+        ensures ok { OnOk result (contents items_of self.new.list ≡ v ∷ []) }
         ensures err { OnErr result (self.new.list ≡ []) }
         ensures back { IfErr result (λ e. e.1 ≡ v) }
-        ensures filled { AllFilled self.new.list }
+        ensures filled { AllFilled items_of self.new.list }
     {
         let mut first = Vec::new(*self.list.allocator());
         if let Err(refused) = first.push(v) {
@@ -112,8 +104,8 @@ impl<T> Chunks<T> {
     /// The value at a place of the whole list, or how far behind the end the place is.
     pub fn find(&self, place: usize) -> Result<&T, usize>
         ensures { MatchResult result
-            (λ v. slice_get (contents self.now.list) place ≡ Some v.now)
-            (λ beyond. place ≡ length (contents self.now.list) + beyond) }
+            (λ v. slice_get (contents items_of self.now.list) place ≡ Some v.now)
+            (λ beyond. place ≡ length (contents items_of self.now.list) + beyond) }
     {
         let mut beyond = place;
         for chunk in self.list.iter() {
@@ -128,10 +120,10 @@ impl<T> Chunks<T> {
     /// Which vector has a place of the whole list, and at which place of its own.
     #[tactic(auto, using(crate::proofs::ChunkLemmas::one_on))]
     pub fn locate(&self, place: usize) -> (usize, usize)
-        requires { place < length (contents self.now.list) }
+        requires { place < length (contents items_of self.now.list) }
         ensures chunk { result.0 ≤ length self.now.list }
-        ensures within { IsPlaceInFront (drop result.0 self.now.list) result.1 }
-        ensures sum { place ≡ length (contents (take result.0 self.now.list)) + result.1 }
+        ensures within { IsPlaceInFront items_of (drop result.0 self.now.list) result.1 }
+        ensures sum { place ≡ length (contents items_of (take result.0 self.now.list)) + result.1 }
     {
         let mut within = place;
         for (index, chunk) in self.list.iter().enumerate() {
@@ -145,9 +137,9 @@ impl<T> Chunks<T> {
 
     /// The value at a place of the first vector.
     pub fn front_item_mut(&mut self, place: usize) -> &mut T
-        requires { IsPlaceInFront self.old.list place }
+        requires { IsPlaceInFront items_of self.old.list place }
         ensures* writes_back { sem 𝓛 (LendsFrontItem T.row self.entry place result) }
-        ensures value { slice_get (contents self.old.list) place ≡ Some result.now }
+        ensures value { slice_get (contents items_of self.old.list) place ≡ Some result.now }
     {
         let first = self.list.front_mut().unwrap();
         &mut first[place]
@@ -155,61 +147,15 @@ impl<T> Chunks<T> {
 }
 
 impl<T: Drop> Chunks<T> {
-    ghost use Rattle.std.specs.Prelude.{◌≡◌, ◌-◌, ◌^◌, ◌<◌, ◌≤◌, ◌↔◌, [], ◌∷◌, ◌++◌, length, take, slice_set, IsSome, IfNone, IfSome};
-    ghost use Rattle.chunk_list.specs.Chunks.{AllFilled, IsPlaceInFront, contents};
-
-    /// Puts a value in the place of another.
-    #[tactic(auto, using(crate::proofs::ChunkLemmas::replaced))]
-    pub fn set(&mut self, place: usize, v: T)
-        requires within { place < length (contents self.old.list) }
-        requires few { length self.old.list < 2 ^ 63 }
-        requires was_filled { AllFilled self.old.list }
-        ensures after { contents self.new.list ≡ slice_set (contents self.old.list) place v }
-        ensures filled { AllFilled self.new.list }
-    {
-        let (index, within) = self.locate(place);
-        let mut tail = Chunks::new(*self.list.allocator());
-        self.split_off(index, &mut tail);
-        tail.set_front_item(within, v);
-        self.append(&mut tail);
-    }
-
-    // Puts a value in the place of another in the first vector.
-    #[tactic(auto, using(crate::proofs::ChunkLemmas::replaced))]
-    fn set_front_item(&mut self, place: usize, v: T)
-        requires within { IsPlaceInFront self.old.list place }
-        requires was_filled { AllFilled self.old.list }
-        ensures after { contents self.new.list ≡ slice_set (contents self.old.list) place v }
-        ensures vectors { length self.new.list ≡ length self.old.list }
-        ensures filled { AllFilled self.new.list }
-    {
-        let first = self.list.front_mut().unwrap();
-        first[place] = v;
-    }
-
-    /// Takes the last value. A vector that would be left empty goes with it.
-    #[tactic(auto, using(crate::proofs::ChunkLemmas::last_shrinks))]
-    pub fn pop(&mut self) -> Option<T>
-        requires { AllFilled self.old.list }
-        ensures found { IsSome result ↔ (0 < length (contents self.old.list)) }
-        ensures last { IfSome result (λ v. contents self.old.list ≡ contents self.new.list ++ v ∷ []) }
-        ensures empty { IfNone result (contents self.new.list ≡ []) }
-        ensures filled { AllFilled self.new.list }
-    {
-        if self.list.back()?.len() == 1 {
-            let mut last = self.list.pop_back()?;
-            return last.pop();
-        }
-        let last = self.list.back_mut()?;
-        last.pop()
-    }
+    ghost use Rattle.std.specs.Prelude.{◌≡◌, ◌-◌, ◌<◌, ◌≤◌, length, take};
+    ghost use Rattle.chunk_list.specs.Chunks.{AllFilled, contents, items_of};
 
     /// Drops the last values.
     pub fn shed(&mut self, surplus: usize)
-        requires within { surplus ≤ length (contents self.old.list) }
-        requires was_filled { AllFilled self.old.list }
-        ensures after { contents self.new.list ≡ take (length (contents self.old.list) - surplus) (contents self.old.list) }
-        ensures filled { AllFilled self.new.list }
+        requires within { surplus ≤ length (contents items_of self.old.list) }
+        requires was_filled { AllFilled items_of self.old.list }
+        ensures after { contents items_of self.new.list ≡ take (length (contents items_of self.old.list) - surplus) (contents items_of self.old.list) }
+        ensures filled { AllFilled items_of self.new.list }
     {
         let mut left = surplus;
         while left > 0 {
@@ -221,12 +167,12 @@ impl<T: Drop> Chunks<T> {
     #[tactic(auto, using(crate::proofs::ChunkLemmas::last_is_cut))]
     fn shed_last(&mut self, most: usize) -> usize
         requires some { 0 < most }
-        requires within { most ≤ length (contents self.old.list) }
-        requires was_filled { AllFilled self.old.list }
+        requires within { most ≤ length (contents items_of self.old.list) }
+        requires was_filled { AllFilled items_of self.old.list }
         ensures some { 0 < result }
         ensures up_to { result ≤ most }
-        ensures after { contents self.new.list ≡ take (length (contents self.old.list) - result) (contents self.old.list) }
-        ensures filled { AllFilled self.new.list }
+        ensures after { contents items_of self.new.list ≡ take (length (contents items_of self.old.list) - result) (contents items_of self.old.list) }
+        ensures filled { AllFilled items_of self.new.list }
     {
         let count = self.list.back().unwrap().len();
         if most < count {

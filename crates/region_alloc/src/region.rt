@@ -26,12 +26,12 @@ pub struct Region<T> {
 
 impl<T> Model for Region<T> {
     ghost use Rattle.std.specs.Prelude.{List, ◌++◌};
-    ghost use Rattle.chunk_list.specs.Chunks.{contents};
+    ghost use Rattle.chunk_list.specs.Chunks.{contents, items_of};
     ghost use Rattle.region_alloc.specs.Region.{IsCounted};
 
     ghost Value = { List T };
 
-    ghost view = { λ r. contents r.before.list ++ contents r.after.list };
+    ghost view = { λ r. contents items_of r.before.list ++ contents items_of r.after.list };
 
     ghost invariant = { λ r. IsCounted r.before.list r.after.list r.len };
 }

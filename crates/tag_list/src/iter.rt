@@ -1,4 +1,5 @@
 // The walk over a list of tagged handles, from both ends.
+use crate::chain::Few;
 use crate::tagged::{Handle, Tagged};
 use std::collections::linked_list;
 use std::marker::Model;
@@ -8,32 +9,32 @@ use std::marker::Model;
 pub struct TagIter<'a> {
     // What is left of the vector that the walk from the front has begun, and of the one from the back.
     front: &'a [Tagged],
-    middle: linked_list::Iter<'a, Vec<Tagged>>,
+    middle: linked_list::Iter<'a, Few>,
     back: &'a [Tagged],
 }
 
 impl<'a> Model for TagIter<'a> {
     ghost use Rattle.std.specs.Prelude.{List, ℕ, ◌++◌};
-    ghost use Rattle.chunk_list.specs.Chunks.{AllFilled, contents};
+    ghost use Rattle.tag_list.specs.Chain.{AllFilled, entries};
 
     ghost Value = { List (ℕ × ℕ) };
 
-    ghost view = { λ rest. rest.front.now ++ (contents rest.middle ++ rest.back.now) };
+    ghost view = { λ rest. rest.front.now ++ (entries rest.middle ++ rest.back.now) };
 
     ghost invariant = { λ rest. AllFilled rest.middle };
 }
 
 impl<'a> TagIter<'a> {
     ghost use Rattle.std.specs.Prelude.{◌≡◌};
-    ghost use Rattle.chunk_list.specs.Chunks.{AllFilled, contents};
+    ghost use Rattle.tag_list.specs.Chain.{AllFilled, entries};
 
-    pub(crate) fn new(chunks: linked_list::Iter<'a, Vec<Tagged>>) -> TagIter<'a>
-        requires { AllFilled chunks }
-        ensures { result ≡ contents chunks.entry }
+    pub(crate) fn new(chain: linked_list::Iter<'a, Few>) -> TagIter<'a>
+        requires { AllFilled chain }
+        ensures { result ≡ entries chain.entry }
     {
         TagIter {
             front: &[],
-            middle: chunks,
+            middle: chain,
             back: &[],
         }
     }
@@ -53,9 +54,9 @@ impl<'a> Iterator for TagIter<'a> {
             self.front = others;
             return Some(first.unpack());
         }
-        if let Some(chunk) = self.middle.next() {
+        if let Some(few) = self.middle.next() {
             // No vector of the chain is empty.
-            let (first, others) = chunk.split_first().unwrap();
+            let (first, others) = few.as_slice().split_first().unwrap();
             self.front = others;
             return Some(first.unpack());
         }
@@ -76,9 +77,9 @@ impl<'a> DoubleEndedIterator for TagIter<'a> {
             self.back = others;
             return Some(last.unpack());
         }
-        if let Some(chunk) = self.middle.next_back() {
+        if let Some(few) = self.middle.next_back() {
             // No vector of the chain is empty.
-            let (last, others) = chunk.split_last().unwrap();
+            let (last, others) = few.as_slice().split_last().unwrap();
             self.back = others;
             return Some(last.unpack());
         }

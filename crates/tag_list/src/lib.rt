@@ -4,6 +4,7 @@
 //! names and what a tag means is the caller's. Start reading at [`TagList`].
 #![tactic(auto)]
 
+mod chain;
 mod iter;
 mod list;
 mod tagged;

@@ -1,7 +1,7 @@
 // A list of tagged handles.
+use crate::chain::Chain;
 use crate::iter::TagIter;
 use crate::tagged::{Handle, Tagged};
-use chunk_list::Chunks;
 use std::alloc::{AllocError, Global};
 use std::marker::Model;
 
@@ -12,20 +12,20 @@ use std::marker::Model;
 /// a list, take `iter`.
 #[derive(Drop)]
 pub struct TagList {
-    chunks: Chunks<Tagged>,
+    chain: Chain,
     len: u32,
 }
 
 impl Model for TagList {
     ghost use Rattle.std.specs.Prelude.{List, ℕ};
-    ghost use Rattle.chunk_list.specs.Chunks.{contents};
+    ghost use Rattle.tag_list.specs.Chain.{entries};
     ghost use Rattle.tag_list.specs.TagList.{IsTagList};
 
     ghost Value = { List (ℕ × ℕ) };
 
-    ghost view = { λ entries. contents entries.chunks.list };
+    ghost view = { λ tags. entries tags.chain.list };
 
-    ghost invariant = { λ entries. IsTagList entries.chunks.list entries.len };
+    ghost invariant = { λ tags. IsTagList tags.chain.list tags.len };
 }
 
 impl TagList {
@@ -38,7 +38,7 @@ impl TagList {
         ensures empty { result ≡ [] }
     {
         TagList {
-            chunks: Chunks::new(alloc),
+            chain: Chain::new(alloc),
             len: 0,
         }
     }
@@ -59,9 +59,7 @@ impl TagList {
         ensures ok { OnOk result (self.new ≡ self.old ++ (h, t) ∷ []) }
         ensures err { OnErr result (self.new ≡ self.old) }
     {
-        if let Err((error, _)) = self.chunks.push(Tagged::pack(h, t)) {
-            return Err(error);
-        }
+        self.chain.push(Tagged::pack(h, t))?;
         self.len += 1;
         Ok(())
     }
@@ -72,8 +70,8 @@ impl TagList {
         requires { length self.old + length other ≤ 2 ^ 30 }
         ensures after { self.new ≡ self.old ++ other }
     {
-        let TagList { mut chunks, len } = other;
-        self.chunks.append(&mut chunks);
+        let TagList { mut chain, len } = other;
+        self.chain.append(&mut chain);
         self.len += len;
     }
 
@@ -83,7 +81,7 @@ impl TagList {
         ensures value { slice_get self.now i ≡ Some result }
         ensures tagged { IsTagged result }
     {
-        self.chunks.find(i as usize).unwrap().unpack()
+        self.chain.locate(i as usize).entry.unpack()
     }
 
     /// Changes the tag of the pair at a place.
@@ -93,8 +91,9 @@ impl TagList {
         requires tag { t < 4 }
         ensures after { self.new ≡ with_tag self.old i t }
     {
-        let (handle, _) = self.chunks.find(i as usize).unwrap().unpack();
-        self.chunks.set(i as usize, Tagged::pack(handle, t));
+        let spot = self.chain.locate(i as usize);
+        let (handle, _) = spot.entry.unpack();
+        self.chain.set(spot, Tagged::pack(handle, t));
     }
 
     /// Takes the last pair.
@@ -105,7 +104,7 @@ impl TagList {
         ensures rest { self.new ≡ take (length self.old - 1) self.old }
         ensures tagged { IfSome result IsTagged }
     {
-        let entry = self.chunks.pop()?;
+        let entry = self.chain.pop()?;
         self.len -= 1;
         Some(entry.unpack())
     }
@@ -120,6 +119,6 @@ impl TagList {
         ensures runs { GivesInOrder (ℕ × ℕ) }
         ensures runs_back { GivesInReverse (ℕ × ℕ) }
     {
-        TagIter::new(self.chunks.iter())
+        TagIter::new(self.chain.list.iter())
     }
 }

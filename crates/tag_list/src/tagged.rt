@@ -26,6 +26,13 @@ impl Model for Tagged {
     ghost inverse = { λ entry. record { bits = entry.0 * 4 + entry.1 } };
 }
 
+// What fills the places of a link that aren't used.
+impl Default for Tagged {
+    fn default() -> Tagged {
+        Tagged { bits: 0 }
+    }
+}
+
 impl Tagged {
     pub fn pack(handle: Handle, tag: u8) -> Tagged
         requires handle { handle < 2 ^ 30 }

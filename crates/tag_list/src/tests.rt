@@ -1,87 +1,80 @@
-// Lists as their callers meet them: they are pushed to, joined, and walked from both ends.
-use crate::{Handle, TagList};
+// Lists as their callers meet them: they are joined of lists that fit in their link and of others, walked from both
+// ends, changed and shortened.
+use crate::TagList;
 use std::alloc::{AllocError, Global};
 use std::process::Abort;
 use std::test::Fail;
 
-fn push(rt: &impl Abort, list: &mut TagList, h: Handle, t: u8) -> Result<(), AllocError> {
-    let fits = h < 1 << 30 && t < 4 && list.len() < 1 << 30;
-    assert!(rt; fits);
-    list.push(h, t)
+// The handles count down from the greatest one, and the tags go round.
+const MOST_HANDLE: u32 = 1_073_741_823;
+
+fn pair(i: u32) -> (u32, u8) {
+    (MOST_HANDLE.saturating_sub(i), (i % 4) as u8)
 }
 
-fn list_of(rt: &impl Abort, alloc: Global, pairs: &[(Handle, u8)]) -> Result<TagList, AllocError> {
+// The pairs from the first place on, joined of lists with so many.
+fn joined(rt: &impl Abort, alloc: Global, lengths: &[u32]) -> Result<TagList, AllocError> {
     let mut list = TagList::new(alloc);
-    for (h, t) in pairs {
-        push(rt, &mut list, *h, *t)?;
+    for length in lengths {
+        let mut piece = TagList::new(alloc);
+        for _ in 0..*length {
+            let (h, t) = pair(list.len() + piece.len());
+            let fits = h < 1 << 30 && t < 4 && piece.len() < 1 << 30;
+            assert!(rt; fits);
+            piece.push(h, t)?;
+        }
+        let room = list.len() <= 1 << 29 && piece.len() <= 1 << 29;
+        assert!(rt; room);
+        list.join(piece);
     }
     Ok(list)
 }
 
-fn join(rt: &impl Abort, list: &mut TagList, other: TagList) {
-    let room = list.len() <= 1 << 29 && other.len() <= 1 << 29;
-    assert!(rt; room);
-    list.join(other);
-}
-
-// A thousand lists of one pair become one list, which is walked from both ends at once.
-fn walk_a_chain(rt: &impl Abort, alloc: Global) -> Result<(), AllocError> {
-    let tag = |h: u32| (h % 4) as u8;
-    let mut list = TagList::new(alloc);
-    for h in 0..1_000 {
-        let link = list_of(rt, alloc, &[(h, tag(h))])?;
-        join(rt, &mut list, link);
-    }
+// From both ends at once, and by place, the pairs are those from the first place on.
+fn is_whole(list: &TagList, len: u32) -> bool {
     let mut pairs = list.iter();
-    for h in 0..500 {
-        assert_eq!(rt; pairs.next(), Some((h, tag(h))));
-        assert_eq!(rt; pairs.next_back(), Some((999 - h, tag(999 - h))));
+    for i in 0..len / 2 {
+        if pairs.next() != Some(pair(i)) || pairs.next_back() != Some(pair(len - 1 - i)) {
+            return false;
+        }
     }
-    assert_eq!(rt; pairs.next(), None);
-    assert_eq!(rt; pairs.next_back(), None);
-    assert_eq!(rt; list.len(), 1_000);
-    list.set_tag(500, 3);
-    assert_eq!(rt; list.get(499), (499, 3));
-    assert_eq!(rt; list.get(500), (500, 3));
-    assert_eq!(rt; list.get(501), (501, 1));
-    Ok(())
+    pairs.next().is_some() == (len % 2 == 1)
+        && pairs.next_back().is_none()
+        && list.len() == len
+        && (0..list.len()).all(|i| list.get(i) == pair(i))
 }
 
 #[test]
 fn pairs_come_from_both_ends(rt: HostRuntime) -> Result<(), Fail> {
     let cases = [
-        ("no pair", [].as_slice(), [].as_slice(), None, 0),
+        ("no pair", [].as_slice(), 0),
+        ("two pairs, in their link", [2].as_slice(), 2),
+        ("as many as a link has room for", [6].as_slice(), 6),
+        ("one more", [7].as_slice(), 7),
+        ("many more", [100].as_slice(), 100),
+        ("an empty list joined", [2, 0].as_slice(), 2),
         (
-            "two pairs",
-            [(7, 1), (9, 3)].as_slice(),
-            [].as_slice(),
-            Some((9, 3)),
-            1,
+            "lists in their links and others",
+            [2, 7, 6, 20, 1].as_slice(),
+            36,
         ),
-        (
-            "two lists",
-            [(7, 1), (9, 3)].as_slice(),
-            [(1_073_741_823, 0), (0, 2)].as_slice(),
-            Some((0, 2)),
-            3,
-        ),
+        ("a thousand lists of one pair", [1; 1_000].as_slice(), 1_000),
     ];
-    for (case, first, second, last, left) in cases {
-        let mut list = list_of(&rt, rt.alloc(), first)?;
-        let other = list_of(&rt, rt.alloc(), second)?;
-        join(&rt, &mut list, other);
-        let mut pairs = list.iter();
-        for pair in first {
-            assert_eq!(rt; pairs.next(), Some(*pair), "{case}");
+    for (case, lengths, len) in cases {
+        let mut list = joined(&rt, rt.alloc(), lengths)?;
+        assert!(rt; is_whole(&list, len), "{case}");
+        let middle = len / 2;
+        if middle < list.len() {
+            list.set_tag(middle, 3);
+            assert_eq!(rt; list.get(middle), (pair(middle).0, 3), "{case}");
+            list.set_tag(middle, (middle % 4) as u8);
+            assert!(rt; is_whole(&list, len), "{case}, a tag set");
         }
-        for pair in second {
-            assert_eq!(rt; pairs.next(), Some(*pair), "{case}");
-        }
-        assert_eq!(rt; pairs.next(), None, "{case}");
-        assert_eq!(rt; list.iter().next_back(), last, "{case}");
-        assert_eq!(rt; list.pop(), last, "{case}");
-        assert_eq!(rt; list.len(), left, "{case}");
+        assert_eq!(rt; list.pop().is_some(), len > 0, "{case}");
+        assert!(rt;
+            is_whole(&list, len.saturating_sub(1)),
+            "{case}, one popped"
+        );
     }
-    walk_a_chain(&rt, rt.alloc())?;
     Ok(())
 }

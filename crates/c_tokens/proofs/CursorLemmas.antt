@@ -1,6 +1,6 @@
 -- What a cursor stands before.
 use Rattle.std.proofs.Common.{◌≡◌, ◌==◌, ℕ, zero, suc, ◌+◌, ◌-◌, ◌<◌, Bool, true, false, not, if◌then◌else◌, List, [], ◌∷◌, ◌++◌, length, take, drop, Some, refl, sym, ap, ◌∙◌, subst, arith, ⊎_elim, length-drop, append_assoc}
-use Rattle.std.proofs.lemmas.Bool.{cases_Bool}
+use Rattle.std.proofs.lemmas.Bool.{cases_Bool, ne_eqb}
 use Rattle.std.proofs.lemmas.List.{nil_from_length}
 use Rattle.std.proofs.Math.Seq.{drop-nil}
 use Rattle.std.proofs.lemmas.Option.{none-some, same_Some}
@@ -10,9 +10,9 @@ use Rattle.meaning_text.specs.Logical.{SourceByte, bytes_of}
 use Rattle.sparse_model.specs.declared.place.Place.{Place}
 use Rattle.c_tokens.specs.declared.cursor.Cursor.{Cursor}
 use Rattle.c_tokens.specs.Seen.{at_of}
-use Rattle.c_tokens.specs.Remaining.{begins_splice, first_of, remaining_at}
+use Rattle.c_tokens.specs.Remaining.{begins_splice, first_of, is_plain, remaining_at}
 use Rattle.c_tokens.specs.Cursor.{remaining, ahead}
-use Rattle.c_tokens.proofs.RemainingLemmas.{remaining_at-byte, remaining_at-open, remaining_at-closed}
+use Rattle.c_tokens.proofs.RemainingLemmas.{remaining_at-byte, remaining_at-open, remaining_at-closed, remaining_at-plain}
 
 -- before a byte
 remaining_at-first :
@@ -133,3 +133,14 @@ drop-more [] rest (suc left) some behind = ap (drop (suc left - 1)) behind ∙ d
 drop-more (x ∷ text) rest (suc left) some behind =
     let fewer : suc left - 1 ≡ left = omega arith in
     λ i. drop (fewer i) (behind i)
+
+-- bytes that stand side by side are the next of the text, and what is behind them is left
+pub plain-front :
+    (cursor : Cursor) (after : Place) (front rest : List ℕ) (count : ℕ) → cursor.bytes.now ≡ front ++ rest → length front ≡ count → (count ≡ 0 → ⊥) →
+    is_plain front ≡ true → after ≡ record { file = cursor.place.file; line = cursor.place.line; column = cursor.place.column + count } →
+    (front ≡ take count (ahead cursor)) × (remaining_at true after rest ≡ drop count (remaining cursor))
+plain-front cursor after front rest count split counted some plain is =
+    let found = remaining_at-plain cursor.line_is_open cursor.place after front rest (ne_eqb (length front) 0 (λ none. some (sym counted ∙ none))) plain (is ∙ (λ i. record { file = cursor.place.file; line = cursor.place.line; column = cursor.place.column + sym counted i })) in (
+      sym found.0 ∙ (λ i. take (counted i) (bytes_of (remaining_at cursor.line_is_open cursor.place (sym split i)))),
+      sym found.1 ∙ (λ i. drop (counted i) (remaining_at cursor.line_is_open cursor.place (sym split i))),
+    )

@@ -1,5 +1,7 @@
 pub mod AnswerLemmas
 pub mod CursorLemmas
+pub mod FrontLemmas
+pub mod JoinedLemmas
 pub mod LexLemmas
 pub mod PunctuatorLemmas
 pub mod RemainingLemmas

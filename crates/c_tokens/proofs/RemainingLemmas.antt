@@ -1,18 +1,18 @@
 -- The logical text that is left at a place, byte by byte.
-use Rattle.std.proofs.Common.{◌≡◌, ◌==◌, ℕ, ◌+◌, ◌≤◌, Bool, true, false, not, ◌&&◌, List, [], ◌∷◌, ◌++◌, length, take, drop, refl, sym, ap, ◌∙◌, arith, ⊎_elim, take-append-drop}
+use Rattle.std.proofs.Common.{◌≡◌, ◌==◌, ℕ, ◌+◌, ◌≤◌, Bool, true, false, not, ◌&&◌, if◌then◌else◌, List, [], ◌∷◌, ◌++◌, length, take, drop, refl, sym, ap, ◌∙◌, arith, ⊎_elim, take-append-drop}
 use Rattle.std.specs.Str.{bytes_eq}
 use Rattle.std.proofs.lemmas.Slice.Eq.{bytes_eq-Decides}
 use Rattle.std.proofs.lemmas.List.{length-map}
-use Rattle.std.proofs.lemmas.Bool.{cases_Bool, and_parts, both_ways, eqb-true}
+use Rattle.std.proofs.lemmas.Bool.{cases_Bool, and_parts, both_ways, eqb-true, true≢false}
 use Rattle.meaning_text.specs.Bytes.{new_line, backslash}
 use Rattle.meaning_text.specs.Places.{At, behind_byte}
 use Rattle.meaning_text.specs.Logical.{SourceByte, bytes_of, logical_from, closing_line}
 use Rattle.sparse_model.specs.declared.place.Place.{Place}
 use Rattle.c_tokens.specs.Seen.{at_of}
-use Rattle.c_tokens.specs.Remaining.{begins_splice, remaining_at}
+use Rattle.c_tokens.specs.Remaining.{begins_splice, is_plain, remaining_at}
 
 -- bytes that begin with no splice begin with a byte of the logical text
-logical_from-byte :
+pub logical_from-byte :
     (open_line : Bool) (at : At) (b : ℕ) (rest : List ℕ) → begins_splice (b ∷ rest) ≡ false →
     logical_from open_line at (b ∷ rest) ≡ record { byte = b; at = at } ∷ logical_from (not (b == new_line)) (behind_byte at b) rest
 logical_from-byte open_line at b [] settled = refl
@@ -96,3 +96,57 @@ begins_splice-none (b ∷ c ∷ bytes) none =
     (λ i. eqb-true b backslash parts.0 i ∷ eqb-true c new_line parts.1 i ∷ []))))
     (λ settled. settled)
     (cases_Bool (b == backslash && c == new_line))
+
+-- Bytes that stand side by side
+
+-- the place so many bytes to the right
+abbrev right_of : At → ℕ → At
+right_of at count = record { file = at.file; line = at.line; column = at.column + count }
+
+logical_from-next :
+    (open_line : Bool) (at : At) (b : ℕ) (rest : List ℕ) → (not (b == backslash) && not (b == new_line)) ≡ true →
+    logical_from open_line at (b ∷ rest) ≡ record { byte = b; at = at } ∷ logical_from true (right_of at 1) rest
+logical_from-next open_line at b rest plain =
+    let parts = and_parts (not (b == backslash)) (not (b == new_line)) plain in
+    let settled : begins_splice (b ∷ rest) ≡ false = no_splice rest (not-true (b == backslash) parts.0) in
+    let same : (b == new_line) ≡ false = not-true (b == new_line) parts.1 in
+    logical_from-byte open_line at b rest settled
+    ∙ ap (λ ends. record { byte = b; at = at } ∷ logical_from (not ends) (if ends then record { file = at.file; line = at.line + 1; column = 1 } else right_of at 1) rest) same
+  where
+    not-true : (a : Bool) → not a ≡ true → a ≡ false
+    not-true true is = sym is
+    not-true false is = refl
+
+    no_splice : (rest : List ℕ) → (b == backslash) ≡ false → begins_splice (b ∷ rest) ≡ false
+    no_splice [] other = refl
+    no_splice (c ∷ rest) other = ap (λ here. here && c == new_line) other
+
+-- they are the first of the logical text, and the rest goes on behind them
+logical_from-plain :
+    (open_line : Bool) (at : At) (b : ℕ) (front rest : List ℕ) → is_plain (b ∷ front) ≡ true →
+    (take (length (b ∷ front)) (bytes_of (logical_from open_line at (b ∷ front ++ rest))) ≡ b ∷ front)
+    × (drop (length (b ∷ front)) (logical_from open_line at (b ∷ front ++ rest)) ≡ logical_from true (right_of at (length (b ∷ front))) rest)
+logical_from-plain open_line at b [] rest plain =
+    let parts = and_parts (not (b == backslash) && not (b == new_line)) true plain in
+    let next = logical_from-next open_line at b rest parts.0 in
+    (ap (λ text. take 1 (bytes_of text)) next, ap (drop 1) next)
+logical_from-plain open_line at b (c ∷ front) rest plain =
+    let parts = and_parts (not (b == backslash) && not (b == new_line)) (is_plain (c ∷ front)) plain in
+    let next = logical_from-next open_line at b (c ∷ front ++ rest) parts.0 in
+    let later = logical_from-plain true (right_of at 1) c front rest parts.1 in
+    let column : at.column + 1 + length (c ∷ front) ≡ at.column + length (b ∷ c ∷ front) = omega arith in (
+      ap (λ text. take (length (b ∷ c ∷ front)) (bytes_of text)) next ∙ ap (λ text. b ∷ text) later.0,
+      ap (drop (length (b ∷ c ∷ front))) next ∙ later.1
+          ∙ ap (λ n. logical_from true (record { file = at.file; line = at.line; column = n }) rest) column,
+    )
+
+pub remaining_at-plain :
+    (open_line : Bool) (place after : Place) (front rest : List ℕ) → (length front == 0) ≡ false → is_plain front ≡ true →
+    after ≡ record place { column = place.column + length front } →
+    (take (length front) (bytes_of (remaining_at open_line place (front ++ rest))) ≡ front)
+    × (drop (length front) (remaining_at open_line place (front ++ rest)) ≡ remaining_at true after rest)
+unfolding remaining_at
+remaining_at-plain open_line place after [] rest some plain is = absurd (true≢false some)
+remaining_at-plain open_line place after (b ∷ front) rest some plain is =
+    let found = logical_from-plain open_line (at_of place) b front rest plain in
+    (found.0, found.1 ∙ ap (λ (p : Place). logical_from true (at_of p) rest) (sym is))

@@ -1,5 +1,5 @@
 -- The keys of the table of names, seen as their spellings.
-use Rattle.std.proofs.Common.{◌≡◌, ℕ, ◌<◌, Bool, true, false, ◌||◌, if◌then◌else◌, List, [], ◌∷◌, ◌++◌, length, map, slice_get, position, get_or, Some, refl, sym, ap, ◌∙◌, subst, ⊎_elim, arith}
+use Rattle.std.proofs.Common.{◌≡◌, ℕ, zero, suc, ◌<◌, Bool, true, false, ◌||◌, if◌then◌else◌, List, [], ◌∷◌, ◌++◌, length, map, slice_get, position, get_or, Some, refl, sym, ap, ◌∙◌, subst, ⊎_elim, arith}
 use Rattle.std.specs.List.{list_any}
 use Rattle.std.specs.Str.{bytes_eq}
 use Rattle.std.specs.Option.{option_map}
@@ -61,6 +61,18 @@ module _ {K : Type 0} (items : K → List ℕ) where
   spellings-insert_key text keys new key spelled absent inserted =
       let absent_key : list_any (λ other. bytes_eq (items key) (items other)) keys ≡ false = subst (λ word. list_any (λ other. bytes_eq word (items other)) keys ≡ false) (sym spelled) absent in
       ap (map items) (inserted ∙ ap (λ found. if found then keys else keys ++ key ∷ []) absent_key) ∙ map-append items keys (key ∷ []) ∙ ap (λ word. map items keys ++ word ∷ []) spelled
+
+-- what stands in the table is a spelling of it
+pub is_among-stands : (text : List ℕ) (names : List (List ℕ)) (i : ℕ) → slice_get names i ≡ Some text → is_among text names ≡ true
+is_among-stands text [] i stands = absurd (none-some text stands)
+is_among-stands text (name ∷ names) zero stands =
+    ap (λ found. found || is_among text names) ((bytes_eq-Decides text name).1 (sym (same_Some _ _ stands)))
+is_among-stands text (name ∷ names) (suc i) stands =
+    ap (λ found. bytes_eq text name || found) (is_among-stands text names i stands) ∙ or_true (bytes_eq text name)
+  where
+    or_true : (a : Bool) → (a || true) ≡ true
+    or_true true = refl
+    or_true false = refl
 
 -- a spelling of the table leaves it as it is
 pub with_spelling-known : (names : List (List ℕ)) (text : List ℕ) → is_among text names ≡ true → with_spelling names text ≡ names

@@ -13,6 +13,10 @@ use Rattle.c_tokens.specs.declared.fault.LexFault.TheVariants.{OpenComment, Open
 abbrev pub text_of : List (List ℕ) → NameId → List ℕ
 text_of names id = unwrap_or (slice_get names id.0) []
 
+-- the spellings of two ids, the one directly behind the other
+abbrev pub joined_text : List (List ℕ) → NameId → NameId → List ℕ
+joined_text names left right = text_of names left ++ text_of names right
+
 -- a place
 abbrev pub at_of : Place → At
 at_of place = record { file = place.file; line = place.line; column = place.column }

@@ -1,10 +1,10 @@
 // The bytes of a file in, those of its logical text out, with their places. Tokens aren't known here.
-ghost use Rattle.std.specs.Prelude.{◌≡◌, ◌+◌, ◌-◌, ◌^◌, ◌≤◌, ◌<◌, ◌++◌, length, take, drop, false, get_or, IsSome, IsNone, IfOk, OnOk};
+ghost use Rattle.std.specs.Prelude.{◌≡◌, ◌+◌, ◌-◌, ◌^◌, ◌≤◌, ◌<◌, ◌++◌, length, take, drop, false, get_or, IsSome, IsNone, IfSome, IfOk, OnOk};
 ghost use Rattle.meaning_text.specs.Bytes.{new_line};
 ghost use Rattle.meaning_text.specs.Places.{behind_byte};
 ghost use Rattle.meaning_text.specs.Logical.{bytes_of, logical_text};
 ghost use Rattle.c_tokens.specs.Seen.{at_of};
-ghost use Rattle.c_tokens.specs.Remaining.{begins_splice, first_of, remaining_at};
+ghost use Rattle.c_tokens.specs.Remaining.{begins_splice, first_of, is_plain, remaining_at};
 
 use sparse_model::Place;
 use std::alloc::AllocError;
@@ -119,6 +119,28 @@ impl<'t> Cursor<'t> {
         cursor
     }
 
+    /// The next so many bytes and the cursor behind them, where the file has them side by side: no
+    /// splice and no new-line is among them.
+    pub(crate) fn plain(&self, count: usize) -> Option<(&'t [u8], Cursor<'t>)>
+        ensures bytes { IfSome result (λ found. found.0.now ≡ take count (ahead self.now)) }
+        ensures behind { IfSome result (λ found. remaining found.1 ≡ drop count (remaining self.now)) }
+        ensures shorter { IfSome result (λ found. length found.1.bytes.now ≤ length self.now.bytes.now - count) }
+        ensures file { IfSome result (λ found. found.1.place.file ≡ self.now.place.file) }
+    {
+        if count == 0 || count > self.bytes.len() {
+            return None;
+        }
+        let (front, rest) = self.bytes.split_at(count);
+        if !is_plain(front) {
+            return None;
+        }
+        let place = Place {
+            column: self.place.column + count as u32,
+            ..self.place
+        };
+        Some((front, Cursor::over_splices(rest, place, true)))
+    }
+
     /// The cursor behind so many bytes, which are appended to the spelling.
     pub(crate) fn spell(
         &self,
@@ -142,6 +164,13 @@ impl<'t> Cursor<'t> {
         }
         Ok(cursor)
     }
+}
+
+// Neither a backslash nor a new-line is among the bytes.
+fn is_plain(bytes: &[u8]) -> bool
+    ensures { result ≡ is_plain bytes.now }
+{
+    bytes.iter().all(|&byte| byte != b'\\' && byte != b'\n')
 }
 
 // The place behind a byte.

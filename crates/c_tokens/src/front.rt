@@ -2,17 +2,19 @@
 //! closed.
 ghost use Rattle.std.specs.Prelude.{◌≡◌, ◌<◌, length, drop, true, false};
 ghost use Rattle.meaning_text.specs.Bytes.{is_blank};
-ghost use Rattle.meaning_text.specs.Fronts.{block_front, block_tail_length, found_header_name, found_stray, found_token, front_of, string_length};
+ghost use Rattle.meaning_text.specs.Fronts.{block_front, block_tail_length, found_header_name, found_punctuator, found_stray, found_token, front_of, or_else, string_length};
 ghost use Rattle.meaning_text.specs.Fronts as fronts;
 ghost use Rattle.vocabulary.specs.declared.token_kind.TokenKind.TheVariants.{HeaderName};
-ghost use Rattle.c_tokens.specs.Front.{front_seen};
+ghost use Rattle.c_tokens.specs.Front.{front_seen, opens_mark};
 ghost use Rattle.c_tokens.specs.Cursor.{ahead};
 
 use crate::comments::{begins_slash_and, block_tail_length, line_length};
 use crate::cursor::Cursor;
 use crate::punctuators::found_punctuator;
-use crate::quoted::{character_length, header_name_length, string_length};
-use crate::words::{begins_identifier, begins_number, number_tail_length, word_length};
+use crate::quoted::{character_length, header_name_length, is_prefix_letter, string_length};
+use crate::words::{
+    begins_identifier, begins_number, is_nondigit, is_word_byte, number_tail_length, word_length,
+};
 use sparse_model::TokenKind;
 
 /// What stands at the front of a text. A number is how many bytes are of it.
@@ -70,8 +72,48 @@ fn block_comment(cursor: &Cursor<'_>) -> Front
     }
 }
 
-// The token with which the text begins.
-fn found_token(cursor: &Cursor<'_>, header_names_allowed: bool) -> Option<(TokenKind, usize)>
+/// The token with which the text begins. Mostly its first byte tells which kinds it can't be of.
+pub(crate) fn found_token(
+    cursor: &Cursor<'_>,
+    header_names_allowed: bool,
+) -> Option<(TokenKind, usize)>
+    requires { 0 < length (ahead cursor.now) }
+    ensures { result ≡ found_token header_names_allowed (ahead cursor.now) }
+{
+    let first = cursor.byte();
+    if is_nondigit(first) && !is_prefix_letter(first) {
+        return Some((TokenKind::Identifier, word_length(cursor)));
+    }
+    if opens_mark(first) {
+        return found_mark(cursor);
+    }
+    // A copy, so that the cursor of the usual ways can stay in registers.
+    let here = *cursor;
+    found_in_turn(&here, header_names_allowed)
+}
+
+// No token but a punctuator or a byte by itself begins with the byte.
+fn opens_mark(byte: u8) -> bool
+    ensures { result ≡ opens_mark byte }
+{
+    !is_word_byte(byte) && !matches!(byte, b'"' | b'\'' | b'<' | b'.' | b'\\')
+}
+
+// The punctuator with which the text begins, or its first byte by itself.
+#[inline(always)]
+fn found_mark(cursor: &Cursor<'_>) -> Option<(TokenKind, usize)>
+    requires { 0 < length (ahead cursor.now) }
+    ensures { result ≡ or_else (found_punctuator (ahead cursor.now)) (found_stray (ahead cursor.now)) }
+{
+    if let Some(found) = found_punctuator(cursor) {
+        return Some(found);
+    }
+    stray(cursor)
+}
+
+// The token with which the text begins, where each kind is tried in turn.
+#[inline(never)]
+fn found_in_turn(cursor: &Cursor<'_>, header_names_allowed: bool) -> Option<(TokenKind, usize)>
     requires { 0 < length (ahead cursor.now) }
     ensures { result ≡ found_token header_names_allowed (ahead cursor.now) }
 {
@@ -93,10 +135,7 @@ fn found_token(cursor: &Cursor<'_>, header_names_allowed: bool) -> Option<(Token
     if begins_number(cursor) {
         return Some((TokenKind::Number, 1 + number_tail_length(&cursor.next())));
     }
-    if let Some(found) = found_punctuator(cursor) {
-        return Some(found);
-    }
-    stray(cursor)
+    found_mark(cursor)
 }
 
 // The length of a header name, unless a string literal that begins here is longer.
@@ -112,6 +151,7 @@ fn header_name(cursor: &Cursor<'_>, string: Option<usize>) -> Option<usize>
 }
 
 // A byte that is a token where no other token has it.
+#[inline(never)]
 fn stray(cursor: &Cursor<'_>) -> Option<(TokenKind, usize)>
     requires { 0 < length (ahead cursor.now) }
     ensures { result ≡ found_stray (ahead cursor.now) }

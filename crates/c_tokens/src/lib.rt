@@ -10,6 +10,7 @@ mod context;
 mod cursor;
 mod fault;
 mod front;
+mod joined;
 mod names;
 #[cfg(test)]
 mod pairs;
@@ -22,8 +23,9 @@ mod token;
 mod words;
 
 pub use fault::LexFault;
+pub use joined::one_token;
 pub use names::Names;
 pub use punctuators::punctuator;
 pub use scanner::lex;
-pub use token::Token;
+pub use token::{Token, TokenList};
 pub use words::{is_nondigit, is_word_byte};

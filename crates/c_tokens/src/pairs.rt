@@ -1,11 +1,7 @@
 // Punctuators side by side, as `lex` and a second, plain scanner find them.
-ghost use Rattle.std.specs.Prelude.{◌^◌, ◌<◌, All, length};
-ghost use Rattle.c_tokens.specs.Seen.{IsKnown};
-
-use super::{LexFault, Names, Token, lex};
+use super::{Names, lex};
 use sparse_model::TokenKind;
-use std::alloc::{AllocError, Global};
-use std::fmt::Write;
+use std::alloc::Global;
 use std::process::Abort;
 use std::test::Fail;
 
@@ -85,71 +81,28 @@ fn longest(text: &[u8]) -> Option<&'static Row> {
     best
 }
 
-// A token on a line: its kind and its spelling.
-fn write_token(lines: &mut String, kind: TokenKind, spelling: &str) -> Result<(), AllocError> {
-    writeln!(lines, "{kind:?} {spelling}")?;
-    Ok(())
-}
-
-// What a plain scanner finds in a text of punctuators: each on a line, its kind and its spelling, or
-// else that a comment opens and is never closed.
-fn plain(alloc: Global, text: &[u8]) -> Result<String, AllocError> {
-    let mut lines = String::new(alloc);
-    let mut rest = text;
-    for _byte in text {
-        if rest.starts_with(b"//") {
-            return Ok(lines);
-        }
-        if rest.starts_with(b"/*") {
-            return String::from_str(alloc, "open comment");
-        }
-        let Some(row) = longest(rest) else {
-            return Ok(lines);
-        };
-        write_token(&mut lines, row.kind, row.spelling)?;
-        rest = rest.strip_prefix(row.spelling.as_bytes()).unwrap_or(b"");
-    }
-    Ok(lines)
-}
-
-// The tokens in the same form.
-fn token_lines(alloc: Global, names: &Names, tokens: &[Token]) -> Result<String, AllocError>
-    requires { All (λ token. IsKnown names.now token.name) tokens.now }
-{
-    let mut lines = String::new(alloc);
-    for token in tokens {
-        let spelling = str::from_utf8(names.spelling(token.name)).unwrap_or("?");
-        write_token(&mut lines, token.kind, spelling)?;
-    }
-    Ok(lines)
-}
-
-fn fault_line(fault: LexFault) -> &'static str {
-    match fault {
-        LexFault::OpenComment(_) => "open comment",
-        LexFault::OpenLiteral(_) => "open literal",
-        LexFault::Memory => "memory",
-    }
-}
-
-// What `lex` finds, in the same form.
-fn found(alloc: Global, text: &[u8]) -> Result<String, AllocError>
-    requires { length text.now < 2 ^ 30 }
-{
-    let mut names = Names::new(alloc)?;
-    match lex(alloc, &mut names, 1, text) {
-        Ok(tokens) => token_lines(alloc, &names, &tokens),
-        Err(fault) => String::from_str(alloc, fault_line(fault)),
-    }
-}
-
-// Both find the same in these two side by side.
+// What `lex` finds in these two side by side is what this finds: at each place the longest row, and
+// nothing in a comment.
 fn assert_pair(rt: &impl Abort, alloc: Global, left: &str, right: &str) -> Result<(), Fail> {
     let text = format!(in alloc; "{left}{right}")?;
-    let fits = text.len() < 16;
-    assert!(rt; fits);
-    let expected = plain(alloc, text.as_bytes())?;
-    assert_eq!(rt; found(alloc, text.as_bytes())?, expected, "{text}");
+    let mut rest = text.as_bytes();
+    assert!(rt; rest.len() < 16);
+    let opens_comment = rest.starts_with(b"/*");
+    let mut names = Names::new(alloc)?;
+    let Ok(tokens) = lex(alloc, &mut names, 1, rest) else {
+        assert!(rt; opens_comment, "{text}");
+        return Ok(());
+    };
+    assert!(rt; !opens_comment, "{text}");
+    for token in &tokens {
+        assert!(rt; !rest.starts_with(b"//"), "{text}");
+        let row = longest(rest);
+        assert!(rt; row.map(|found| found.kind) == Some(token.kind), "{text}");
+        let spelling = row.map_or(b"".as_slice(), |found| found.spelling.as_bytes());
+        assert!(rt; names.spelling(token.name) == spelling, "{text}");
+        rest = rest.strip_prefix(spelling).unwrap_or(b"");
+    }
+    assert!(rt; rest.is_empty() || rest.starts_with(b"//"), "{text}");
     Ok(())
 }
 

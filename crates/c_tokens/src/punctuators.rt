@@ -1,11 +1,12 @@
 //! The punctuators and their digraphs (C11 6.4.6).
 #![tactic(auto, unfolding(meaning_text::specs::Punctuators::punctuator_of, meaning_text::specs::Punctuators::punctuators, meaning_text::specs::Punctuators::plain_punctuators, meaning_text::specs::Punctuators::digraphs))]
 
-ghost use Rattle.std.specs.Prelude.{◌≡◌, ◌<◌, ◌∷◌, [], length};
+ghost use Rattle.std.specs.Prelude.{◌≡◌, ◌<◌, ◌∷◌, [], length, IsTrue, true};
 ghost use Rattle.std.specs.Option.{option_map};
 ghost use Rattle.meaning_text.specs.Punctuators.{own_spelling, punctuator_of};
 ghost use Rattle.meaning_text.specs.Fronts.{found_punctuator};
 ghost use Rattle.c_tokens.specs.Cursor.{ahead};
+ghost use Rattle.c_tokens.specs.Front.{are_shorter};
 
 use crate::cursor::Cursor;
 use sparse_model::TokenKind;
@@ -48,17 +49,44 @@ pub fn punctuator(kind: TokenKind) -> Option<&'static [u8]>
 }
 
 /// The longest punctuator with which the text begins, and how many bytes it has.
+#[inline(always)]
 pub(crate) fn found_punctuator(cursor: &Cursor<'_>) -> Option<(TokenKind, usize)>
     requires { 0 < length (ahead cursor.now) }
     ensures { result ≡ found_punctuator (ahead cursor.now) }
 {
+    let first = cursor.byte();
+    if is_alone(first) {
+        let kind = of_one(first)?;
+        return Some((kind, 1));
+    }
     let second = cursor.next();
+    if is_in_two(first) {
+        return longest(first, second.byte(), b'\n', b'\n');
+    }
     let third = second.next();
     let fourth = third.next();
-    longest(cursor.byte(), second.byte(), third.byte(), fourth.byte())
+    longest(first, second.byte(), third.byte(), fourth.byte())
+}
+
+// No punctuator of two bytes begins with the byte.
+fn is_alone(byte: u8) -> bool
+    ensures { IsTrue result → are_shorter 2 byte ≡ true }
+{
+    matches!(
+        byte,
+        b'(' | b')' | b'[' | b']' | b'{' | b'}' | b';' | b',' | b'?' | b'~'
+    )
+}
+
+// No punctuator of three bytes begins with the byte.
+fn is_in_two(byte: u8) -> bool
+    ensures { IsTrue result → are_shorter 3 byte ≡ true }
+{
+    !matches!(byte, b'.' | b'<' | b'>' | b'%')
 }
 
 // The longest with which these four bytes begin.
+#[inline(always)]
 fn longest(first: u8, second: u8, third: u8, fourth: u8) -> Option<(TokenKind, usize)>
     ensures { result ≡ found_punctuator (first ∷ second ∷ third ∷ fourth ∷ []) }
 {

@@ -41,8 +41,8 @@ fn quoted_length(cursor: &Cursor<'_>, quote: u8) -> Option<usize>
     Some(1 + count)
 }
 
-// A prefix that is one letter.
-fn is_prefix_letter(byte: u8) -> bool
+/// A prefix that is one letter.
+pub(crate) fn is_prefix_letter(byte: u8) -> bool
     ensures { result ≡ is_prefix_letter byte }
 {
     matches!(byte, b'L' | b'u' | b'U')

@@ -1,10 +1,11 @@
 // A file's bytes in, all its tokens out, front by front. The grammar isn't known here.
-ghost use Rattle.std.specs.Prelude.{◌≡◌, ◌^◌, ◌<◌, ◌≤◌, List, All, IfOk, IfErr, IfSome, length, vec_len};
+ghost use Rattle.std.specs.Prelude.{◌≡◌, ◌^◌, ◌<◌, ◌≤◌, ◌-◌, List, All, IfOk, IfErr, IfSome, OnOk, length, take, drop, slice_get, vec_len};
 ghost use Rattle.meaning_text.specs.Tokens.{Tok, LexesFile, OpensFile};
 ghost use Rattle.meaning_text.specs.Tokens as tokens;
 ghost use Rattle.meaning_text.specs.Lexing.{lexed_file, Tokens, Refused};
 ghost use Rattle.c_tokens.specs.Seen.{Extends, IsKnown, fault_of, spellings_of, toks_of};
-ghost use Rattle.c_tokens.specs.Spellings.{with_spellings};
+ghost use Rattle.c_tokens.specs.Spellings.{with_spelling, with_spellings};
+ghost use Rattle.c_tokens.specs.Cursor.{ahead, remaining};
 
 use crate::context::Context;
 use crate::cursor::Cursor;
@@ -12,7 +13,8 @@ use crate::fault::LexFault;
 use crate::front::{Front, front_of};
 use crate::names::Names;
 use crate::token::Token;
-use std::alloc::Global;
+use sparse_model::NameId;
+use std::alloc::{AllocError, Global};
 
 /// The tokens of a text (C11 6.4), or the first comment or literal that opens and is never closed.
 /// Their spellings join the table of names, which may have grown before a fault too.
@@ -93,9 +95,7 @@ fn scan(alloc: Global, names: &mut Names, file: u32, text: &[u8]) -> Result<Vec<
             Front::OpenLiteral => return Err(LexFault::OpenLiteral(cursor.place)),
             Front::Token(kind, count) => (kind, count),
         };
-        spelling.clear();
-        let behind = cursor.spell(count, &mut spelling)?;
-        let name = names.intern(&spelling)?;
+        let (name, behind) = named(&cursor, count, names, &mut spelling)?;
         tokens.push(Token {
             kind,
             name,
@@ -103,8 +103,34 @@ fn scan(alloc: Global, names: &mut Names, file: u32, text: &[u8]) -> Result<Vec<
             space_before,
             line_start: context.is_line_start(),
         })?;
-        context = context.behind(kind, &spelling);
+        context = context.behind(kind, names.spelling(name));
         space_before = false;
         cursor = behind;
     }
+}
+
+// The id of the next so many bytes, and the cursor behind them. The buffer is for those that have a
+// splice among them.
+fn named<'t>(
+    cursor: &Cursor<'t>,
+    count: usize,
+    names: &mut Names,
+    spelling: &mut Vec<u8>,
+) -> Result<(NameId, Cursor<'t>), AllocError>
+    ensures stands { IfOk result (λ found. slice_get names.new found.0.0 ≡ Some (take count (ahead cursor.now))) }
+    ensures table { OnOk result (names.new ≡ with_spelling names.old (take count (ahead cursor.now))) }
+    ensures known { IfOk result (λ found. IsKnown names.new found.0) }
+    ensures keeps { Extends names.old names.new }
+    ensures behind { IfOk result (λ found. remaining found.1 ≡ drop count (remaining cursor.now)) }
+    ensures shorter { IfOk result (λ found. length found.1.bytes.now ≤ length cursor.now.bytes.now - count) }
+    ensures file { IfOk result (λ found. found.1.place.file ≡ cursor.now.place.file) }
+{
+    if let Some((front, behind)) = cursor.plain(count) {
+        let name = names.intern(front)?;
+        return Ok((name, behind));
+    }
+    spelling.clear();
+    let behind = cursor.spell(count, spelling)?;
+    let name = names.intern(spelling)?;
+    Ok((name, behind))
 }

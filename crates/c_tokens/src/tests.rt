@@ -2,7 +2,7 @@
 ghost use Rattle.std.specs.Prelude.{◌^◌, ◌<◌, All, length};
 ghost use Rattle.c_tokens.specs.Seen.{IsKnown};
 
-use super::{LexFault, Names, Token, lex, punctuator};
+use super::{LexFault, Names, Token, lex, one_token, punctuator};
 use sparse_model::{Place, TokenKind};
 use std::alloc::Global;
 use std::fmt::Write;
@@ -212,4 +212,50 @@ fn a_spelling_has_one_id(rt: HostRuntime) -> Result<(), Fail> {
     assert_id(&rt, &mut names, b"if", 1)?;
     assert_id(&rt, &mut names, b"", 0)?;
     assert_id(&rt, &mut names, b"if", 1)
+}
+
+// Two spellings, and the kind of the one token that they are side by side.
+struct Pair {
+    left: &'static [u8],
+    right: &'static [u8],
+    kind: Option<TokenKind>,
+}
+
+#[rattlefmt::skip]
+const PAIRS: [Pair; 16] = [
+    Pair { left: b"+", right: b"+", kind: Some(TokenKind::PlusPlus) },
+    Pair { left: b"+", right: b"*", kind: None },
+    Pair { left: b"/", right: b"/", kind: None },
+    Pair { left: b"/", right: b"*", kind: None },
+    Pair { left: b"L", right: b"'a'", kind: Some(TokenKind::Character) },
+    Pair { left: b"u8", right: b"'a'", kind: None },
+    Pair { left: b"u8", right: b"\"a\"", kind: Some(TokenKind::String) },
+    Pair { left: b".", right: b".", kind: None },
+    Pair { left: b"%:", right: b"%:", kind: Some(TokenKind::HashHash) },
+    Pair { left: b"1.", right: b"5e+", kind: Some(TokenKind::Number) },
+    Pair { left: b"x", right: b"1", kind: Some(TokenKind::Identifier) },
+    Pair { left: b"", right: b"x", kind: Some(TokenKind::Identifier) },
+    Pair { left: b"", right: b"", kind: None },
+    Pair { left: b"<a", right: b">", kind: None },
+    Pair { left: b"\"a\\\n", right: b"b\"", kind: None },
+    Pair { left: b"a\\", right: b"\n", kind: None },
+];
+
+// The two are one token of this kind, or none.
+fn assert_joined(rt: &impl Abort, alloc: Global, pair: &Pair) -> Result<(), Fail> {
+    let mut names = Names::new(alloc)?;
+    let left = names.intern(pair.left)?;
+    let right = names.intern(pair.right)?;
+    let found = one_token(alloc, &mut names, left, right)?;
+    let kind = found.map(|one| one.0);
+    assert!(rt; kind == pair.kind);
+    Ok(())
+}
+
+#[test]
+fn two_spellings_are_one_token_or_none(rt: HostRuntime) -> Result<(), Fail> {
+    for pair in &PAIRS {
+        assert_joined(&rt, rt.alloc(), pair)?;
+    }
+    Ok(())
 }

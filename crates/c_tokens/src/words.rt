@@ -1,9 +1,10 @@
 //! Identifiers and preprocessing numbers (C11 6.4.2.1, 6.4.8), by the bytes that go on with one.
-ghost use Rattle.std.specs.Prelude.{◌≡◌, ◌^◌, ◌<◌, ◌≤◌, length, IsTrue, false};
-ghost use Rattle.meaning_text.specs.Bytes.{is_exponent, is_nondigit, is_sign, is_word_byte};
+ghost use Rattle.std.specs.Prelude.{◌≡◌, ◌^◌, ◌<◌, ◌≤◌, ◌==◌, length, get_or, IsTrue, false};
+ghost use Rattle.meaning_text.specs.Bytes.{backslash, is_exponent, is_nondigit, is_sign, is_word_byte};
 ghost use Rattle.meaning_text.specs.Words.{begins_hexadecimal, begins_identifier, begins_number, number_goes_on, sign_behind, universal_left, universal_length, word_goes_on};
 ghost use Rattle.meaning_text.specs.Fronts.{number_tail_length, word_length};
 ghost use Rattle.c_tokens.specs.Cursor.{ahead};
+ghost use Rattle.c_tokens.specs.Remaining.{plain_word_length};
 
 use crate::cursor::Cursor;
 
@@ -73,7 +74,47 @@ pub(crate) fn begins_identifier(cursor: &Cursor<'_>) -> bool
 }
 
 /// How many bytes go on with an identifier.
+#[inline(always)]
 pub(crate) fn word_length(start: &Cursor<'_>) -> usize
+    ensures { result ≡ word_length (ahead start.now) }
+{
+    let count = plain_word_length(start.bytes);
+    // Only a backslash can make more of the word, by a splice or a universal character name.
+    if is_backslash(start.bytes, count) {
+        let here = *start;
+        long_word_length(&here)
+    } else {
+        count
+    }
+}
+
+// A backslash is the byte of this number.
+fn is_backslash(bytes: &[u8], index: usize) -> bool
+    ensures { result ≡ (get_or bytes.now index 0 == backslash) }
+{
+    if index < bytes.len() {
+        bytes[index] == b'\\'
+    } else {
+        false
+    }
+}
+
+// How many of the bytes are letters, underscores and digits, before another one.
+#[inline(always)]
+fn plain_word_length(bytes: &[u8]) -> usize
+    ensures length { result ≡ plain_word_length bytes.now }
+    ensures within { result ≤ length bytes.now }
+{
+    let mut count = 0;
+    while count < bytes.len() && is_word_byte(bytes[count]) {
+        count += 1;
+    }
+    count
+}
+
+// How many bytes go on with an identifier, byte by byte.
+#[inline(never)]
+fn long_word_length(start: &Cursor<'_>) -> usize
     ensures { result ≡ word_length (ahead start.now) }
 {
     let mut cursor = *start;

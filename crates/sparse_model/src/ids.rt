@@ -1,8 +1,12 @@
 // The ids by which values name what a table keeps.
+use crate::seq::Seq;
 
 /// The number of a spelling in the table of names. Number 0 is the empty spelling.
 #[derive(Clone, Copy, Debug, PartialEq, Eq, PartialOrd, Ord, Hash)]
 pub struct NameId(pub u32);
+
+/// Spellings in their order.
+pub type NameList = Seq<NameId>;
 
 /// The number of a type in the table of types.
 #[derive(Clone, Copy, Debug, PartialEq, Eq, PartialOrd, Ord, Hash)]

@@ -14,7 +14,7 @@ mod space;
 mod tree;
 
 pub use ctype::{CBase, CType};
-pub use ids::{NameId, Restrict, TypeId};
+pub use ids::{NameId, NameList, Restrict, TypeId};
 pub use int_const::IntConst;
 pub use options::{Bytes, ClassSet, Options, PathList};
 pub use place::Place;

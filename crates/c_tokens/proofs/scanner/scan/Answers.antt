@@ -1,6 +1,7 @@
-use Rattle.std.proofs.Common.{◌≡◌, ◌++◌, ◌∷◌, [], Some, false, true, length, take, refl, sym, ap, ◌∙◌, arith}
+use Rattle.std.proofs.Common.{◌≡◌, ◌++◌, ◌∷◌, [], false, true, length, take, refl, sym, ap, ◌∙◌, arith}
 use Rattle.std.proofs.lemmas.List.{append-nil, map-append}
 use Rattle.std.proofs.lemmas.List.Elements.{All-push, All-same}
+use Rattle.std.proofs.lemmas.Option.{same_Some}
 use Rattle.meaning_text.specs.Fronts.{AtEnd, AtNewLine, AtBlank, AtComment, AtToken, AtOpenComment, AtOpenLiteral}
 use Rattle.meaning_text.specs.Tokens.{Tok, AtLineStart, OpenComment, OpenLiteral, behind_token}
 use Rattle.meaning_text.specs.Lexing.{lexed_behind}
@@ -63,7 +64,7 @@ fronts-smaller-in-Comment c =
 
 pub fronts-smaller : goal.fronts-smaller
 fronts-smaller c =
-    front-shorter c.allows_header_name.result (remaining c.fronts.cursor) (remaining c.in_ok-behind.behind) (AtToken c.in-Token.kind c.in-Token.count) c.in-Token.ensures refl c.in_ok-behind.ensures.behind
+    front-shorter c.allows_header_name.result (remaining c.fronts.cursor) (remaining c.in_ok-name.behind) (AtToken c.in-Token.kind c.in-Token.count) c.in-Token.ensures refl c.in_ok-name.ensures.behind
 
 pub fronts-preserved-in-Comment : goal.fronts-preserved-in-Comment
 fronts-preserved-in-Comment c =
@@ -94,25 +95,26 @@ fronts-preserved c =
     let named = c.in_ok-name.ensures in
     let pushed = c.in_ok-push.ensures.items in
     let token : Token = record { kind = c.in-Token.kind; name = c.in_ok-name.name; place = cursor.place; space_before = c.fronts.space_before; line_start = c.is_line_start.result } in
-    let spelled = c.spell.new.spelling.items in
+    let spelled = take count (ahead cursor) in
+    let after = c.named.new.names in
     let front = front-taken c.allows_header_name.result (remaining cursor) (AtToken kind count) c.in-Token.ensures refl in
     let bytes = token-has_byte cursor c.allows_header_name.result kind count c.in-Token.ensures in
     let grows =
-    ap (toks_of c.intern.new.self) pushed
-    ∙ toks_of-push old c.intern.new.self c.fronts.tokens.items token spelled named.keeps before.known (named.stands ∙ ap Some c.deref.ensures.value)
+    ap (toks_of after) pushed
+    ∙ toks_of-push old after c.fronts.tokens.items token spelled named.keeps before.known named.stands
     ∙ ap (λ starts. found ++ record { kind = kind; text = spelled; at = at_of cursor.place; space_before = c.fronts.space_before; line_start = starts } ∷ []) c.is_line_start.ensures in
     record {
-      done = found-over_token _ found _ context _ c.fronts.space_before (at_of cursor.place) (remaining cursor) (remaining c.in_ok-behind.behind) kind count spelled
+      done = found-over_token _ found _ context _ c.fronts.space_before (at_of cursor.place) (remaining cursor) (remaining c.in_ok-name.behind) kind count spelled
           (found-before_front _ found context c.fronts.space_before c.allows_header_name.result cursor (AtToken kind count) c.allows_header_name.ensures c.in-Token.ensures before.done)
-          (c.in_ok-behind.ensures.spelled ∙ ap (λ text. text ++ take count (ahead cursor)) c.clear.ensures.items)
+          refl
           grows
-          (c.behind-context.ensures ∙ ap (λ text. behind_token context kind text) c.deref-in-fronts.ensures.value)
-          c.in_ok-behind.ensures.behind;
-      count = omega (arith, before.count, c.in_ok-push.ensures.len, c.in_ok-behind.ensures.shorter, front.0, bytes);
-      file = c.in_ok-behind.ensures.file ∙ before.file;
+          (c.behind-context.ensures ∙ ap (λ text. behind_token context kind text) (same_Some _ _ (sym c.spelling.ensures.stands ∙ named.stands)))
+          named.behind;
+      count = omega (arith, before.count, c.in_ok-push.ensures.len, named.shorter, front.0, bytes);
+      file = named.file ∙ before.file;
       files = All-same (λ (t : Token). t.place.file ≡ c.args.file) _ _ pushed (All-push (λ (t : Token). t.place.file ≡ c.args.file) c.fronts.tokens.items token before.files before.file);
-      known = All-same (λ (t : Token). IsKnown c.intern.new.self t.name) _ _ pushed (AreKnown-push old _ c.fronts.tokens.items token named.keeps before.known named.known);
-      joined = named.table ∙ ap (with_spelling old) c.deref.ensures.value
+      known = All-same (λ (t : Token). IsKnown after t.name) _ _ pushed (AreKnown-push old _ c.fronts.tokens.items token named.keeps before.known named.known);
+      joined = named.table
           ∙ ap (λ names. with_spelling names spelled) before.joined
           ∙ sym (with_spellings-push c.args.names.now (spellings_of found) spelled)
           ∙ sym (ap (λ toks. with_spellings c.args.names.now (spellings_of toks)) grows

@@ -1,7 +1,7 @@
 use Rattle.std.proofs.Common.{◌≡◌, ◌+◌, ◌≤◌, ◌^◌, length}
 use Rattle.meaning_text.specs.Fronts.{word_length}
 use Rattle.c_tokens.specs.Cursor.{ahead}
-use Rattle.c_tokens.proofs.words.word_length.Given as goal
+use Rattle.c_tokens.proofs.words.long_word_length.Given as goal
 
 abbrev pub invariant-loop-cursor : goal.invariant-loop-cursor
 invariant-loop-cursor l =

@@ -1,5 +1,5 @@
 -- Lemmas on lists.
-use Rattle.std.proofs.Common.{◌≡◌, ℕ, zero, suc, ◌+◌, ◌<◌, Bool, true, false, if◌then◌else◌, List, [], ◌∷◌, ◌++◌, All, length, length-append, map, Some, slice_get, slice_index_or, refl, sym, ap, subst, ◌∙◌, ⊎_elim, arith}
+use Rattle.std.proofs.Common.{◌≡◌, ℕ, zero, suc, ◌+◌, ◌<◌, Bool, true, false, if◌then◌else◌, List, [], ◌∷◌, ◌++◌, All, length, length-append, map, take, Some, slice_get, slice_index_or, refl, sym, ap, subst, ◌∙◌, ⊎_elim, arith}
 use Rattle.std.specs.List.{list_all}
 use Rattle.std.proofs.lemmas.Bool.{both_ways, cases_Bool}
 use Rattle.std.proofs.lemmas.List.{get_or-map, length-map}
@@ -52,3 +52,18 @@ pub mapped-Some : {X Y : Type 0} (f : X → Y) (xs : List X) (i : ℕ) (y : Y) �
 mapped-Some f [] i y is = absurd (omega (arith, slice_get_within [] i y is))
 mapped-Some f (x ∷ xs) zero y is = (x, refl, same_Some (f x) y is)
 mapped-Some f (x ∷ xs) (suc i) y is = mapped-Some f xs i y is
+
+-- the images of the first elements, and of the next one
+map-take-next : {X Y : Type 0} (f : X → Y) (xs : List X) (n : ℕ) (x : X) → slice_get xs n ≡ Some x → map f (take n xs) ++ f x ∷ [] ≡ map f (take (n + 1) xs)
+map-take-next f [] n x at = absurd (omega (arith, slice_get_within [] n x at))
+map-take-next f (x ∷ xs) zero y at = ap (λ z. f z ∷ []) (sym (same_Some x y at))
+map-take-next f (x ∷ xs) (suc n) y at =
+    let later : suc n + 1 ≡ suc (n + 1) = omega arith in
+    rw later (ap (λ ys. f x ∷ ys) (map-take-next f xs n y at))
+
+-- images so far that the next one joins
+pub map-take-pushed :
+    {X Y : Type 0} (f : X → Y) (xs : List X) (images more : List Y) (n : ℕ) (x : X) (y : Y) → slice_get xs n ≡ Some x → y ≡ f x
+    → images ≡ map f (take n xs) → more ≡ images ++ y ∷ [] → more ≡ map f (take (n + 1) xs)
+map-take-pushed f xs images more n x y at image so_far pushed =
+    pushed ∙ ap (λ z. images ++ z ∷ []) image ∙ ap (λ ys. ys ++ f x ∷ []) so_far ∙ map-take-next f xs n x at

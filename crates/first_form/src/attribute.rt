@@ -17,14 +17,15 @@ ghost use Rattle.std.specs.Prelude.{◌≡◌, ◌∷◌, IfOk, IfSome, map};
 
 use crate::front::{space_id, text};
 use crate::item::Word;
-use c_tokens::{Names, Token};
+use crate::name_table::NameTable;
+use c_tokens::Token;
 use std::alloc::{AllocError, Global};
 
 // The words of an attribute, or no words where there is none.
 #[tactic(auto, unfolding(meaning_syntax::specs::plain::Reading::read_attribute))]
 pub(crate) fn attribute<'t>(
     alloc: Global,
-    names: &Names,
+    names: &NameTable,
     tokens: &'t [Token],
 ) -> Result<Option<(Vec<Word>, &'t [Token])>, AllocError>
     requires { AreKnownTokens names.now tokens.now }
@@ -44,7 +45,7 @@ pub(crate) fn attribute<'t>(
 #[tactic(auto, unfolding(meaning_syntax::specs::plain::Reading::read_word_list))]
 fn word_list<'t>(
     alloc: Global,
-    names: &Names,
+    names: &NameTable,
     tokens: &'t [Token],
 ) -> Result<Option<(Vec<Word>, &'t [Token])>, AllocError>
     requires { AreKnownTokens names.now tokens.now }
@@ -76,7 +77,7 @@ fn word_list<'t>(
 // The first word and the further ones.
 fn words_from<'t>(
     alloc: Global,
-    names: &Names,
+    names: &NameTable,
     first: Word,
     tokens: &'t [Token],
 ) -> Result<(Vec<Word>, &'t [Token]), AllocError>
@@ -100,7 +101,7 @@ fn words_from<'t>(
 }
 
 #[tactic(auto, unfolding(meaning_syntax::specs::plain::Reading::read_further_word))]
-fn further_word<'t>(names: &Names, tokens: &'t [Token]) -> Option<(Word, &'t [Token])>
+fn further_word<'t>(names: &NameTable, tokens: &'t [Token]) -> Option<(Word, &'t [Token])>
     requires { AreKnownTokens names.now tokens.now }
     ensures seen { option_map (found_of names.now (word_of names.now)) result
         ≡ read_further_word (spellings_of names.now tokens.now) }
@@ -111,17 +112,20 @@ fn further_word<'t>(names: &Names, tokens: &'t [Token]) -> Option<(Word, &'t [To
 }
 
 #[tactic(auto, unfolding(meaning_syntax::specs::plain::Reading::read_word))]
-fn word<'t>(names: &Names, tokens: &'t [Token]) -> Option<(Word, &'t [Token])>
+fn word<'t>(names: &NameTable, tokens: &'t [Token]) -> Option<(Word, &'t [Token])>
     requires { AreKnownTokens names.now tokens.now }
     ensures seen { option_map (found_of names.now (word_of names.now)) result
         ≡ read_word (spellings_of names.now tokens.now) }
     ensures known { IfSome result (IsKnownFound names.now (IsKnownWord names.now)) }
 {
-    noderef(names, tokens).or_else(|| space(names, tokens))
+    if let Some(found) = noderef(names, tokens) {
+        return Some(found);
+    }
+    space(names, tokens)
 }
 
 #[tactic(auto, unfolding(meaning_syntax::specs::plain::Reading::read_noderef))]
-fn noderef<'t>(names: &Names, tokens: &'t [Token]) -> Option<(Word, &'t [Token])>
+fn noderef<'t>(names: &NameTable, tokens: &'t [Token]) -> Option<(Word, &'t [Token])>
     requires { AreKnownTokens names.now tokens.now }
     ensures seen { option_map (found_of names.now (word_of names.now)) result
         ≡ read_noderef (spellings_of names.now tokens.now) }
@@ -132,7 +136,7 @@ fn noderef<'t>(names: &Names, tokens: &'t [Token]) -> Option<(Word, &'t [Token])
 }
 
 #[tactic(auto, unfolding(meaning_syntax::specs::plain::Reading::read_space))]
-fn space<'t>(names: &Names, tokens: &'t [Token]) -> Option<(Word, &'t [Token])>
+fn space<'t>(names: &NameTable, tokens: &'t [Token]) -> Option<(Word, &'t [Token])>
     requires { AreKnownTokens names.now tokens.now }
     ensures seen { option_map (found_of names.now (word_of names.now)) result
         ≡ read_space (spellings_of names.now tokens.now) }

@@ -9,13 +9,14 @@ ghost use Rattle.std.specs.Option.{option_map};
 ghost use Rattle.std.specs.Str.{bytes_eq};
 ghost use Rattle.std.specs.Prelude.{◌≡◌, IfSome};
 
-use crate::words::{is_name, is_space_id};
-use c_tokens::{Names, Token, punctuator};
+use crate::name_table::NameTable;
+use crate::words::is_space_id;
+use c_tokens::{Token, punctuator};
 use sparse_model::NameId;
 
 // Whether the grammar sees a token as this text: a digraph is the punctuator that it stands for
 // (C11 6.4.6 p3).
-fn is_seen_as(names: &Names, token: Token, wanted: &[u8]) -> bool
+fn is_seen_as(names: &NameTable, token: Token, wanted: &[u8]) -> bool
     requires { IsKnown names.now token.name }
     ensures { result ≡ bytes_eq (terminal_of (tok_of names.now token)) wanted.now }
 {
@@ -26,7 +27,7 @@ fn is_seen_as(names: &Names, token: Token, wanted: &[u8]) -> bool
 }
 
 // The tokens behind this text.
-pub(crate) fn text<'t>(names: &Names, tokens: &'t [Token], wanted: &[u8]) -> Option<&'t [Token]>
+pub(crate) fn text<'t>(names: &NameTable, tokens: &'t [Token], wanted: &[u8]) -> Option<&'t [Token]>
     requires { AreKnownTokens names.now tokens.now }
     ensures seen { option_map (λ rest. spellings_of names.now rest.now) result
         ≡ read_text wanted.now (spellings_of names.now tokens.now) }
@@ -41,7 +42,7 @@ pub(crate) fn text<'t>(names: &Names, tokens: &'t [Token], wanted: &[u8]) -> Opt
 }
 
 // A token that can name an object or a function.
-pub(crate) fn name<'t>(names: &Names, tokens: &'t [Token]) -> Option<(NameId, &'t [Token])>
+pub(crate) fn name<'t>(names: &NameTable, tokens: &'t [Token]) -> Option<(NameId, &'t [Token])>
     requires { AreKnownTokens names.now tokens.now }
     ensures seen { option_map (found_of names.now (text_of names.now)) result
         ≡ read_passing is_name (spellings_of names.now tokens.now) }
@@ -51,7 +52,7 @@ pub(crate) fn name<'t>(names: &Names, tokens: &'t [Token]) -> Option<(NameId, &'
     if punctuator(first.kind).is_some() {
         return None;
     }
-    if is_name(names.spelling(first.name)) {
+    if names.can_name(first.name) {
         Some((first.name, rest))
     } else {
         None
@@ -59,7 +60,7 @@ pub(crate) fn name<'t>(names: &Names, tokens: &'t [Token]) -> Option<(NameId, &'
 }
 
 // A token that can stand for an address space.
-pub(crate) fn space_id<'t>(names: &Names, tokens: &'t [Token]) -> Option<(NameId, &'t [Token])>
+pub(crate) fn space_id<'t>(names: &NameTable, tokens: &'t [Token]) -> Option<(NameId, &'t [Token])>
     requires { AreKnownTokens names.now tokens.now }
     ensures seen { option_map (found_of names.now (text_of names.now)) result
         ≡ read_passing is_space_id (spellings_of names.now tokens.now) }

@@ -23,6 +23,7 @@ ghost use Rattle.std.specs.Prelude.{◌≡◌, IfOk, IfSome, if◌then◌else◌
 use crate::attribute::attribute;
 use crate::front::{name, text};
 use crate::item::{Item, Statement};
+use crate::name_table::NameTable;
 use c_tokens::{Names, Token};
 use std::alloc::{AllocError, Global};
 
@@ -30,13 +31,28 @@ use std::alloc::{AllocError, Global};
 const MOST_STARS: usize = 3;
 
 /// The items that the tokens are, or None where they are no items of the first form.
-#[tactic(auto, unfolding(meaning_syntax::specs::plain::Reading::read_items))]
 pub fn read_items(
     alloc: Global,
     names: &Names,
     tokens: &[Token],
 ) -> Result<Option<Vec<Item>>, AllocError>
     requires { All (λ token. IsKnown names.now token.name) tokens.now }
+    ensures items { IfOk result
+        (λ found. option_map (λ items. items_of names.now items.items) found
+        ≡ read_items (spellings_of names.now tokens.now)) }
+    ensures known { IfOk result (λ found. IfSome found (λ items. AreKnown names.now items.items)) }
+{
+    let table = NameTable::new(alloc, names)?;
+    all_items(alloc, &table, tokens)
+}
+
+#[tactic(auto, unfolding(meaning_syntax::specs::plain::Reading::read_items))]
+fn all_items(
+    alloc: Global,
+    names: &NameTable,
+    tokens: &[Token],
+) -> Result<Option<Vec<Item>>, AllocError>
+    requires { AreKnownTokens names.now tokens.now }
     ensures items { IfOk result
         (λ found. option_map (λ items. items_of names.now items.items) found
         ≡ read_items (spellings_of names.now tokens.now)) }
@@ -58,7 +74,7 @@ pub fn read_items(
 #[tactic(auto, unfolding(meaning_syntax::specs::plain::Reading::read_item))]
 fn item<'t>(
     alloc: Global,
-    names: &Names,
+    names: &NameTable,
     tokens: &'t [Token],
 ) -> Result<Option<(Item, &'t [Token])>, AllocError>
     requires { AreKnownTokens names.now tokens.now }
@@ -76,7 +92,7 @@ fn item<'t>(
 #[tactic(auto, unfolding(meaning_syntax::specs::plain::Reading::read_object))]
 fn object<'t>(
     alloc: Global,
-    names: &Names,
+    names: &NameTable,
     tokens: &'t [Token],
 ) -> Result<Option<(Item, &'t [Token])>, AllocError>
     requires { AreKnownTokens names.now tokens.now }
@@ -107,7 +123,7 @@ fn object<'t>(
 }
 
 // The stars here, if they are no more than an object can have.
-fn few_stars<'t>(names: &Names, tokens: &'t [Token]) -> Option<(u32, &'t [Token])>
+fn few_stars<'t>(names: &NameTable, tokens: &'t [Token]) -> Option<(u32, &'t [Token])>
     requires { AreKnownTokens names.now tokens.now }
     ensures seen { let stars = read_stars (spellings_of names.now tokens.now) in
         option_map (found_of names.now (λ count. count)) result
@@ -122,7 +138,7 @@ fn few_stars<'t>(names: &Names, tokens: &'t [Token]) -> Option<(u32, &'t [Token]
     }
 }
 
-fn stars<'t>(names: &Names, tokens: &'t [Token]) -> (usize, &'t [Token])
+fn stars<'t>(names: &NameTable, tokens: &'t [Token]) -> (usize, &'t [Token])
     requires { AreKnownTokens names.now tokens.now }
     ensures seen { found_of names.now (λ count. count) result ≡ read_stars (spellings_of names.now tokens.now) }
     ensures known { AreKnownTokens names.now result.1.now }
@@ -139,7 +155,7 @@ fn stars<'t>(names: &Names, tokens: &'t [Token]) -> (usize, &'t [Token])
 #[tactic(auto, unfolding(meaning_syntax::specs::plain::Reading::read_function))]
 fn function<'t>(
     alloc: Global,
-    names: &Names,
+    names: &NameTable,
     tokens: &'t [Token],
 ) -> Result<Option<(Item, &'t [Token])>, AllocError>
     requires { AreKnownTokens names.now tokens.now }
@@ -166,7 +182,7 @@ fn function<'t>(
 
 // What stands behind `( void ) {`.
 #[tactic(auto, unfolding(meaning_syntax::specs::plain::Reading::read_opening))]
-fn opening<'t>(names: &Names, tokens: &'t [Token]) -> Option<&'t [Token]>
+fn opening<'t>(names: &NameTable, tokens: &'t [Token]) -> Option<&'t [Token]>
     requires { AreKnownTokens names.now tokens.now }
     ensures seen { option_map (λ rest. spellings_of names.now rest.now) result
         ≡ read_opening (spellings_of names.now tokens.now) }
@@ -180,7 +196,7 @@ fn opening<'t>(names: &Names, tokens: &'t [Token]) -> Option<&'t [Token]>
 
 fn statements<'t>(
     alloc: Global,
-    names: &Names,
+    names: &NameTable,
     tokens: &'t [Token],
 ) -> Result<(Vec<Statement>, &'t [Token]), AllocError>
     requires { AreKnownTokens names.now tokens.now }
@@ -201,20 +217,24 @@ fn statements<'t>(
 
 // At most one of the three stands here.
 #[tactic(auto, unfolding(meaning_syntax::specs::plain::Reading::read_statement))]
-fn statement<'t>(names: &Names, tokens: &'t [Token]) -> Option<(Statement, &'t [Token])>
+fn statement<'t>(names: &NameTable, tokens: &'t [Token]) -> Option<(Statement, &'t [Token])>
     requires { AreKnownTokens names.now tokens.now }
     ensures seen { option_map (found_of names.now (statement_of names.now)) result
         ≡ read_statement (spellings_of names.now tokens.now) }
     ensures known { IfSome result (IsKnownFound names.now (IsKnownStatement names.now)) }
 {
-    assignment(names, tokens)
-        .or_else(|| assignment_through(names, tokens))
-        .or_else(|| address_assignment(names, tokens))
+    if let Some(found) = assignment(names, tokens) {
+        return Some(found);
+    }
+    if let Some(found) = assignment_through(names, tokens) {
+        return Some(found);
+    }
+    address_assignment(names, tokens)
 }
 
 // `target = source;`
 #[tactic(auto, unfolding(meaning_syntax::specs::plain::Reading::read_assignment))]
-fn assignment<'t>(names: &Names, tokens: &'t [Token]) -> Option<(Statement, &'t [Token])>
+fn assignment<'t>(names: &NameTable, tokens: &'t [Token]) -> Option<(Statement, &'t [Token])>
     requires { AreKnownTokens names.now tokens.now }
     ensures seen { option_map (found_of names.now (statement_of names.now)) result
         ≡ read_assignment (spellings_of names.now tokens.now) }
@@ -229,7 +249,10 @@ fn assignment<'t>(names: &Names, tokens: &'t [Token]) -> Option<(Statement, &'t 
 
 // `*pointer = source;`
 #[tactic(auto, unfolding(meaning_syntax::specs::plain::Reading::read_assignment_through))]
-fn assignment_through<'t>(names: &Names, tokens: &'t [Token]) -> Option<(Statement, &'t [Token])>
+fn assignment_through<'t>(
+    names: &NameTable,
+    tokens: &'t [Token],
+) -> Option<(Statement, &'t [Token])>
     requires { AreKnownTokens names.now tokens.now }
     ensures seen { option_map (found_of names.now (statement_of names.now)) result
         ≡ read_assignment_through (spellings_of names.now tokens.now) }
@@ -245,7 +268,10 @@ fn assignment_through<'t>(names: &Names, tokens: &'t [Token]) -> Option<(Stateme
 
 // `target = &object;`
 #[tactic(auto, unfolding(meaning_syntax::specs::plain::Reading::read_address_assignment))]
-fn address_assignment<'t>(names: &Names, tokens: &'t [Token]) -> Option<(Statement, &'t [Token])>
+fn address_assignment<'t>(
+    names: &NameTable,
+    tokens: &'t [Token],
+) -> Option<(Statement, &'t [Token])>
     requires { AreKnownTokens names.now tokens.now }
     ensures seen { option_map (found_of names.now (statement_of names.now)) result
         ≡ read_address_assignment (spellings_of names.now tokens.now) }

@@ -4,8 +4,8 @@ use Rattle.first_form.proofs.PunctuatorLemmas.{read_passing-punctuator}
 use Rattle.first_form.proofs.KnownLemmas.{AreKnownTokens-parts}
 use Rattle.first_form.proofs.front.name.Goals as goal
 
-pub returns-then-is_name-clause-known : goal.returns-then-is_name-clause-known
-returns-then-is_name-clause-known c = AreKnownTokens-parts _ _ _ _ c.in_ok-first.ensures.cases.0 c.requires
+pub returns-then-can_name-clause-known : goal.returns-then-can_name-clause-known
+returns-then-can_name-clause-known c = AreKnownTokens-parts _ _ _ _ c.in_ok-first.ensures.cases.0 c.requires
 
 pub returns-then-is_some-clause-seen : goal.returns-then-is_some-clause-seen
 returns-then-is_some-clause-seen c =

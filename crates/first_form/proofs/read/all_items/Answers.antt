@@ -9,7 +9,7 @@ use Rattle.first_form.specs.Reader.{IsKnownFound, found_of}
 use Rattle.first_form.specs.Known.{IsKnownItem}
 use Rattle.first_form.specs.Seen.{item_of}
 use Rattle.first_form.proofs.ManyLemmas.{LeadsTo-more, LeadsTo-end, if_whole-all, if_whole-left}
-use Rattle.first_form.proofs.read.read_items.Goals as goal
+use Rattle.first_form.proofs.read.all_items.Goals as goal
 use Rattle.first_form.proofs.ListLemmas.{All-pushed}
 
 pub items-preserved : goal.items-preserved

@@ -5,7 +5,7 @@ use Rattle.first_form.specs.Known.{AreKnown}
 use Rattle.first_form.specs.Reader.{AreKnownTokens}
 use Rattle.first_form.specs.Seen.{items_of, spellings_of}
 use Rattle.first_form.proofs.ManyLemmas.{LeadsTo}
-use Rattle.first_form.proofs.read.read_items.Given as goal
+use Rattle.first_form.proofs.read.all_items.Given as goal
 
 abbrev pub invariant-items : goal.invariant-items
 invariant-items l =

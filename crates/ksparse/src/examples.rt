@@ -1,3 +1,4 @@
+// Worked examples of what silence means: short texts, safe and unsafe. No code is called here.
 ghost use Rattle.ksparse.specs.examples.SafeTexts.{SafeTextExamples};
 
 use meaning_machine::{faults_are_unsafe, silence_is_safe, worked_runs};

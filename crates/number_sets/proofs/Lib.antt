@@ -1,0 +1,5 @@
+pub mod BranchLemmas
+pub mod MadeLemmas
+pub mod PairLemmas
+pub mod PushLemmas
+pub mod TableLemmas

@@ -1,0 +1,4 @@
+pub mod Budgets
+pub mod Cases
+pub mod PlainTokens
+pub mod Agreeing

@@ -1,0 +1,12 @@
+pub mod Signs
+pub mod Macros
+pub mod Agreement
+pub mod Bodies
+pub mod WellFormed
+pub mod Hiding
+pub mod Stringizing
+pub mod Substitution
+pub mod Calls
+pub mod Expansion
+pub mod examples
+pub mod laws

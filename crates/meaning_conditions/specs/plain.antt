@@ -1,0 +1,2 @@
+-- The plain program.
+pub mod Reading

@@ -1,0 +1,10 @@
+pub mod Lines
+pub mod DefinitionLines
+pub mod State
+pub mod ConditionLines
+pub mod Search
+pub mod Groups
+pub mod Directives
+pub mod Unit
+pub mod laws
+pub mod examples

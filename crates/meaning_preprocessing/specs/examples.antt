@@ -1,0 +1,5 @@
+-- Worked examples.
+pub mod Rows
+pub mod DirectiveRows
+pub mod MacroRows
+pub mod IncludeRows

@@ -1,0 +1,4 @@
+-- What is proved of the definitions.
+pub mod Units
+pub mod Lines
+pub mod Macros

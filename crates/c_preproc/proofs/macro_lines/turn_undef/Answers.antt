@@ -1,0 +1,8 @@
+use Rattle.c_tokens.specs.Seen.{toks_of}
+use Rattle.c_preproc.proofs.MacroLineLemmas.{undefined}
+use Rattle.c_preproc.proofs.macro_lines.turn_undef.Goals as goal
+
+pub returns : goal.returns
+returns c = λ hash groups s has.
+    undefined c.args.names.now c.apart.ensures.apart hash (toks_of c.args.names.now c.args.line.now) groups s c.args.macros.now c.undef.new.self c.in-Some.name
+    (c.in-Some.ensures.name c.args.names.now) (c.in-Some.ensures.known c.args.names.now c.requires) has c.undef.ensures.dropped c.undef.ensures.others

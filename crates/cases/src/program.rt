@@ -1,13 +1,16 @@
 // The programs that a command can name.
 use ksparse::{Exit, ksparse};
-use sparse_outside::{HonestFiles, MemorySink, Words};
+use sparse_outside::{HonestFiles, MemorySink, Sink, Words};
 use std::alloc::{AllocError, Global};
+use workbench::{Stop, workbench};
 
 /// A program, each over a public call. A further one has its variant here, its name and its call.
 #[derive(Clone, Copy)]
 pub enum Program {
     /// The checker, over its top call.
     Ksparse,
+    /// Calls of libraries that no command of the checker makes yet. Why there is no text isn't written.
+    Workbench,
 }
 
 /// What a command left.
@@ -31,6 +34,7 @@ impl Program {
     pub fn named(name: &str) -> Option<Self> {
         match name {
             "ksparse" => Some(Program::Ksparse),
+            "workbench" => Some(Program::Workbench),
             _ => None,
         }
     }
@@ -46,6 +50,7 @@ impl Program {
         let mut err = MemorySink::new(alloc, ROOM)?;
         let exit = match self {
             Program::Ksparse => ksparse(alloc, words, files, &mut out, &mut err),
+            Program::Workbench => run_workbench(alloc, words, files, &mut out),
         };
         Ok(Ran {
             exit,
@@ -53,5 +58,26 @@ impl Program {
             out,
             err,
         })
+    }
+}
+
+// Runs a command of the workbench, and says how it ended as the checker would.
+fn run_workbench(
+    alloc: Global,
+    words: &Words,
+    files: &mut HonestFiles,
+    out: &mut MemorySink,
+) -> Exit {
+    match workbench(alloc, words, files) {
+        Ok(text) => {
+            if !text.is_empty() {
+                out.put(text.as_slice());
+            }
+            Exit::Clean
+        }
+        Err(Stop::Usage) => Exit::Usage,
+        Err(Stop::NoFile) => Exit::Refused,
+        Err(Stop::ReadFault) => Exit::ReadFault,
+        Err(Stop::NoMemory) => Exit::NoMemory,
     }
 }

@@ -5,6 +5,7 @@ PYTHON ?= python3
 export PYTHONDONTWRITEBYTECODE = 1
 
 PROGRAM := build/ksparse
+WORKBENCH := build/workbench
 # Names with spaces, which a program's own run reads, are none for make.
 SOURCES := $(shell find crates crates.txt HANDLES -name out -prune -o -type f ! -name '* *' -print)
 
@@ -22,6 +23,12 @@ $(PROGRAM): $(SOURCES) | kit
 	$(PYTHON) scripts/build.py $(RT) ksparse_cli /dev/null
 	mkdir -p build
 	cp crates/ksparse_cli/out/ksparse_cli $@
+
+# Calls that no command makes yet, for bench alone.
+$(WORKBENCH): $(SOURCES) | kit
+	$(PYTHON) scripts/build.py $(RT) workbench_cli if_value /dev/null
+	mkdir -p build
+	cp crates/workbench_cli/out/workbench_cli $@
 
 # The example has a warning, so the status of the check is 1.
 run: $(PROGRAM)
@@ -49,8 +56,8 @@ docs:
 costs: | kit
 	$(PYTHON) scripts/costs.py $(RT)
 
-bench: $(PROGRAM)
-	$(PYTHON) scripts/bench.py $(PROGRAM)
+bench: $(PROGRAM) $(WORKBENCH)
+	$(PYTHON) scripts/bench.py $(PROGRAM) $(WORKBENCH)
 
 fuzz: $(PROGRAM)
 	$(PYTHON) scripts/fuzz.py $(PROGRAM)

@@ -1,15 +1,18 @@
 #!/usr/bin/env python3
-"""Measures the program on files of several kinds, and sparse and tcc beside it where they are installed.
+"""Measures the program on files of several kinds, and sparse and tcc beside it where they are installed; then calls of
+libraries that no command makes yet.
 
-usage: bench.py PROGRAM
+usage: bench.py PROGRAM WORKBENCH
 
 Prints for each file its bytes and tokens, the processor time of a check, also by the token, and the peak
 memory, also by the token where it is large. Where valgrind is installed, a column has the instructions by the
 token, above those of a check of an empty file: they don't depend on what else the machine does. They are
-counted on a smaller file of the same kind. A second table has those of each stage of a check.
+counted on a smaller file of the same kind. A second table has those of each stage of a check, a third one has the calls,
+which WORKBENCH makes.
 
 Exits 1 where a file of the first form takes more than a tenth longer by the token than a smaller one does,
-once the smaller one takes long enough to be measured, or where a largest file takes more than five seconds.
+once the smaller one takes long enough to be measured, or where a largest file takes more than five seconds; and where a
+call takes more than eleven times as long with ten times as many tokens.
 """
 import os
 import re
@@ -30,6 +33,12 @@ MOST_BYTES = 8388608
 MOST_TOKENS = 2000000
 # The size of a file whose instructions are counted.
 COUNTED_BYTES = 262144
+# So many tokens have the texts of a call. Up to so many its instructions are counted.
+CALL_TOKENS = (10000, 100000, 1000000)
+COUNTED_TOKENS = 100000
+MOST_CALL_RATIO = 11
+# A call that takes less is compared as one that takes this: its start hides what it costs.
+LEAST_CALL_SECONDS = 0.01
 
 # Runs a command and prints its seconds, its peak kibibytes and its status. A process begins with the peak of the
 # one that started it, so this runs in a small process of its own.
@@ -136,9 +145,26 @@ LARGEST = (
 )
 
 
+def nested(front, between, back=b""):
+    """Lines of about so many tokens: a piece again and again, what stands between, and another one as often."""
+    each = tokens_in(front + back)
+    return lambda tokens: front * (tokens // each) + between + back * (tokens // each) + b"\n"
+
+
 def tokens_in(text):
     """How many tokens a file of the first form without comments has."""
     return len(re.findall(rb"[A-Za-z0-9_]+|[^A-Za-z0-9_\s]", text))
+
+
+# Calls with their names, the words that make them, and texts of so many tokens.
+CALLS = (
+    ("#if: parentheses", "if_value", nested(b"(", b"1", b")")),
+    ("#if: a sum of ones", "if_value", nested(b"1+", b"1")),
+    ("#if: ?: to the right", "if_value", nested(b"0?2:", b"3")),
+    ("#if: ?: in the middle", "if_value", nested(b"1?", b"3", b":2")),
+    ("#if: prefixes !", "if_value", nested(b"!", b"1")),
+    ("#if: prefixes -", "if_value", nested(b"- ", b"1")),
+)
 
 
 class Checker:
@@ -288,6 +314,18 @@ def print_stages(checker):
         before = behind
 
 
+def call_grows_in_step(workbench, name, tool, make):
+    """Whether a call takes at most eleven times as long for ten times as many tokens. Prints its lines."""
+    checker = Checker(tool, [workbench, tool], (0,))
+    before, passed = None, True
+    for tokens in CALL_TOKENS:
+        seconds = print_rows([checker], name, make(tokens), make(min(tokens, COUNTED_TOKENS)))
+        if before is not None and seconds > MOST_CALL_RATIO * max(before, LEAST_CALL_SECONDS):
+            passed = False
+        before = seconds
+    return passed
+
+
 def main():
     # A check ends with 0 or 1, and with 2 or 7 where it refuses a file.
     program = [os.path.abspath(sys.argv[1])]
@@ -295,7 +333,8 @@ def main():
     for name, command in PEERS:
         if shutil.which(command[0]):
             checkers.append(Checker(name, command, (0,)))
-    print_line(["file", "bytes", "tokens", "seconds", "peak KiB", "ns/token", "bytes/token", "instr/token"])
+    heads = ["bytes", "tokens", "seconds", "peak KiB", "ns/token", "bytes/token", "instr/token"]
+    print_line(["file", *heads])
     passed = grows_in_step(checkers)
     for name, make, has_tokens in LARGEST:
         counted = make(COUNTED_BYTES) if has_tokens else None
@@ -303,6 +342,10 @@ def main():
         if seconds > MOST_SECONDS:
             passed = False
     print_stages(checkers[0])
+    print_line(["call", *heads])
+    for name, tool, make in CALLS:
+        if not call_grows_in_step(os.path.abspath(sys.argv[2]), name, tool, make):
+            passed = False
     return 0 if passed else 1
 
 

@@ -36,6 +36,29 @@ MANY_WARNINGS = "".join(
     f"many.c:{line}:5: warning: dereference of noderef expression\n" for line in range(4, 4 + MANY)
 )
 
+# At these counts a table or a buffer might give up: 65,536 is one more than two bytes hold.
+COUNTS = [1000, 65536, 70000]
+
+LOADS = "extern int a; extern int __attribute__((noderef)) b; void f(void) {\n"
+CONVERSIONS = "extern int *p; extern int __attribute__((noderef)) *q; void f(void) {\n"
+
+LOAD_WARNING = "wide.c:{0}:5: warning: dereference of noderef expression\n"
+CONVERSION_WARNING = (
+    "wide.c:{0}:3: warning: incorrect type in assignment (different address spaces)\n"
+    "wide.c:{0}:3:    expected int *\n"
+    "wide.c:{0}:3:    got int noderef *\n"
+)
+
+# A unit of many like lines: its first line, a line where {} is its number, its last line, and what is told of each line.
+WIDE_UNITS = [
+    ("\n", "extern int a{};\n", "", ""),
+    ("extern int a;\n", "void f{}(void) {{ a = a; }}\n", "", ""),
+    ("extern int __attribute__((\n", "address_space(1),\n", "noderef)) a;", ""),
+    ("extern int a; void f(void) {\n", "a = a;\n", "}", ""),
+    (LOADS, "a = b;\n", "}", LOAD_WARNING),
+    (CONVERSIONS, "p = q;\n", "}", CONVERSION_WARNING),
+]
+
 MOST_BYTES = 8388608
 
 FILES = {
@@ -171,6 +194,20 @@ def failures_of_uses(program):
     return failures
 
 
+# With ample memory no unit is too wide.
+def failures_of_wide_units(program):
+    failures = 0
+    for front, line, end, warning in WIDE_UNITS:
+        for count in COUNTS:
+            with open("wide.c", "w", encoding="utf-8") as file:
+                file.write(front + "".join(line.format(at) for at in range(count)) + end)
+            err = "".join(warning.format(at) for at in range(2, 2 + count))
+            ran = subprocess.run([program, "wide.c"], capture_output=True, timeout=60, check=False)
+            got = (ran.stdout, ran.stderr, ran.returncode)
+            failures += differs(f"{count:,} times {line!r}", (b"", err.encode(), 1 if err else 0), got)
+    return failures
+
+
 # Warnings go to standard error alone, so nothing is amiss where standard output takes nothing.
 def failures_of_unused_output(program):
     failures = 0
@@ -296,7 +333,7 @@ def main():
         for name, text in FILES.items():
             with open(name, "w", encoding="utf-8") as file:
                 file.write(text)
-        failures = failures_of_uses(program)
+        failures = failures_of_uses(program) + failures_of_wide_units(program)
         failures += failures_of_sinks(program) + failures_of_unused_output(program)
         failures += failures_of_fronts(program) + failures_of_closed_streams(program)
         failures += failures_of_memory(program) + failures_of_permission(program)

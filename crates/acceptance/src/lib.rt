@@ -9,7 +9,13 @@
 #[cfg(test)]
 mod bytes;
 #[cfg(test)]
+mod conditions;
+#[cfg(test)]
 mod faults;
+#[cfg(test)]
+mod growth;
+#[cfg(test)]
+mod macros;
 #[cfg(test)]
 mod model;
 #[cfg(test)]

@@ -10,9 +10,9 @@ use Rattle.meaning_tree.specs.Nodes.{NodeList}
 use Rattle.meaning_syntax.specs.Items as syntax
 use Rattle.meaning_syntax.specs.Binding.{statement_binds}
 use Rattle.meaning_syntax.specs.Trees.{statement_tree, statement_trees}
-use Rattle.meaning_rules.specs.Placed.{placed_body}
-use Rattle.meaning_rules.specs.Failures as rules
-use Rattle.meaning_rules.specs.plain.Judging.{judged_placed}
+use Rattle.meaning_first_rules.specs.Placed.{placed_body}
+use Rattle.meaning_first_rules.specs.Failures as rules
+use Rattle.meaning_first_rules.specs.plain.Judging.{judged_placed}
 use Rattle.sparse_model.specs.declared.ids.NameId.{NameId}
 use Rattle.first_form.specs.declared.item.Statement.{Statement}
 use Rattle.first_form.specs.declared.failure.Failure.{Failure}

@@ -12,7 +12,7 @@ use Rattle.meaning_tree.specs.Nodes.{NodeList}
 use Rattle.meaning_syntax.specs.Trees.{SyntaxParts, attribute_trees, word_trees}
 use Rattle.meaning_syntax.specs.Words.{is_plain_identifier, is_space_id, number_of}
 use Rattle.meaning_syntax.specs.Items.{AddressSpace, Noderef, Word, word_fits, word_spelled}
-use Rattle.meaning_rules.specs.Bindings.{flagged_by, flags_behind, flags_behind_words, space_named, specified_flags}
+use Rattle.meaning_first_rules.specs.Bindings.{flagged_by, flags_behind, flags_behind_words, space_named, specified_flags}
 use Rattle.sparse_model.specs.declared.ids.NameId.{NameId}
 use Rattle.sparse_model.specs.declared.space.Space.{Space}
 use Rattle.first_form.specs.declared.object.ObjectType.{ObjectType}

@@ -7,7 +7,7 @@ use Rattle.c_tokens.specs.Seen.{IsKnown, text_of}
 use Rattle.meaning_tree.specs.Nodes.{NodeList}
 use Rattle.meaning_syntax.specs.Items as syntax
 use Rattle.meaning_syntax.specs.Binding.{is_declared, item_name, item_statements, statement_binds}
-use Rattle.meaning_rules.specs.Placed.{tokens_before_body}
+use Rattle.meaning_first_rules.specs.Placed.{tokens_before_body}
 use Rattle.sparse_model.specs.declared.ids.NameId.{NameId}
 use Rattle.first_form.specs.declared.failure.Failure.{Failure}
 use Rattle.first_form.specs.declared.object.ObjectType.{ObjectType}

@@ -7,12 +7,12 @@ use Rattle.c_tokens.specs.Spellings.{AreApart}
 use Rattle.meaning_types.specs.Types as types
 use Rattle.meaning_syntax.specs.Items as syntax
 use Rattle.meaning_syntax.specs.Binding as binding
-use Rattle.meaning_rules.specs.Evaluation.{InAssignment}
-use Rattle.meaning_rules.specs.Failures as rules
+use Rattle.meaning_first_rules.specs.Evaluation.{InAssignment}
+use Rattle.meaning_first_rules.specs.Failures as rules
 use Rattle.meaning_types.specs.Equality as equality
-use Rattle.meaning_rules.specs.Typing as typing
-use Rattle.meaning_rules.specs.plain.Judging as judging
-use Rattle.meaning_rules.specs.Typing.{behind_stars, int_with}
+use Rattle.meaning_first_rules.specs.Typing as typing
+use Rattle.meaning_first_rules.specs.plain.Judging as judging
+use Rattle.meaning_first_rules.specs.Typing.{behind_stars, int_with}
 use Rattle.sparse_model.specs.declared.ids.NameId.{NameId}
 use Rattle.sparse_model.specs.declared.space.Space.{Space}
 use Rattle.sparse_model.specs.declared.space.Space.TheVariants as spaces

@@ -9,7 +9,7 @@ use Rattle.std.proofs.lemmas.Bool.Decides.{nat_tests}
 use Rattle.std.proofs.lemmas.Str.Parse.{parse_digits}
 use Rattle.meaning_types.specs.Types.{NamedSpace, NumberedSpace}
 use Rattle.meaning_syntax.specs.Words.{is_plain_identifier, is_space_id, is_space_name, is_space_number}
-use Rattle.meaning_rules.specs.Typing.{space_of}
+use Rattle.meaning_first_rules.specs.Typing.{space_of}
 use Rattle.first_form.proofs.NumberLemmas.{digits, digits_are_text}
 
 -- A number that can stand for a space.

@@ -8,7 +8,7 @@ use Rattle.meaning_types.specs.Types.{NamedSpace, NumberedSpace}
 use Rattle.meaning_syntax.specs.Words.{is_plain_identifier, number_of}
 use Rattle.meaning_syntax.specs.Items.{AddressSpace, word_spelled}
 use Rattle.meaning_syntax.specs.Trees.{plain_node, attribute_trees, item_tree, item_trees, leaf, star_trees, statement_tree, statement_trees, word_tree, word_trees}
-use Rattle.meaning_rules.specs.Typing.{space_of}
+use Rattle.meaning_first_rules.specs.Typing.{space_of}
 use Rattle.first_form.specs.declared.item.Word.{Word}
 use Rattle.first_form.specs.declared.item.Statement.{Statement}
 use Rattle.first_form.specs.declared.item.Item.{Item}

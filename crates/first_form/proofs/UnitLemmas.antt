@@ -11,9 +11,9 @@ use Rattle.meaning_tree.specs.Nodes.{NodeList, end_of}
 use Rattle.meaning_syntax.specs.Items as syntax
 use Rattle.meaning_syntax.specs.Binding.{are_bound, item_statements}
 use Rattle.meaning_syntax.specs.Trees.{item_tree, item_trees, unit_tree}
-use Rattle.meaning_rules.specs.Placed.{placed_behind, placed_body, tokens_before_body}
-use Rattle.meaning_rules.specs.Failures as rules
-use Rattle.meaning_rules.specs.plain.Judging as judging
+use Rattle.meaning_first_rules.specs.Placed.{placed_behind, placed_body, tokens_before_body}
+use Rattle.meaning_first_rules.specs.Failures as rules
+use Rattle.meaning_first_rules.specs.plain.Judging as judging
 use Rattle.sparse_model.specs.declared.ids.NameId.{NameId}
 use Rattle.first_form.specs.declared.failure.Failure.{Failure}
 use Rattle.first_form.specs.declared.scope.Scope.{Scope}

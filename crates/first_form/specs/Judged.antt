@@ -5,8 +5,8 @@ use Rattle.meaning_tree.specs.Nodes.{NodeList}
 use Rattle.meaning_syntax.specs.Items.{Item, Statement, item_fits, item_spelled, statement_spelled}
 use Rattle.meaning_syntax.specs.Binding.{is_declared, item_name, item_statements, statement_binds}
 use Rattle.meaning_syntax.specs.Trees.{item_tree}
-use Rattle.meaning_rules.specs.Placed.{placed_body, tokens_before_body}
-use Rattle.meaning_rules.specs.plain.Judging.{judged_placed}
+use Rattle.meaning_first_rules.specs.Placed.{placed_body, tokens_before_body}
+use Rattle.meaning_first_rules.specs.plain.Judging.{judged_placed}
 use Rattle.sparse_model.specs.declared.ids.NameId.{NameId}
 use Rattle.first_form.specs.declared.failure.Failure.{Failure}
 use Rattle.first_form.specs.declared.scope.Scope.{Scope}

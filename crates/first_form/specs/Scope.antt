@@ -4,7 +4,7 @@ use Rattle.indexmap.specs.IndexMap.{get}
 use Rattle.c_tokens.specs.Seen.{IsKnown, text_of}
 use Rattle.meaning_syntax.specs.Items as syntax
 use Rattle.meaning_syntax.specs.Binding.{Declared, is_declared, object_of}
-use Rattle.meaning_rules.specs.Typing.{int_flags}
+use Rattle.meaning_first_rules.specs.Typing.{int_flags}
 use Rattle.sparse_model.specs.declared.ids.NameId.{NameId}
 use Rattle.first_form.specs.declared.object.ObjectType.{ObjectType}
 use Rattle.first_form.specs.declared.scope.Binding.{Binding}

@@ -5,9 +5,9 @@ use Rattle.c_tokens.specs.declared.token.Token.{Token}
 use Rattle.meaning_text.specs.Terminals.{terminals_of}
 use Rattle.meaning_types.specs.Types as types
 use Rattle.meaning_syntax.specs.Items as syntax
-use Rattle.meaning_rules.specs.Typing.{int_with, behind_stars}
-use Rattle.meaning_rules.specs.Evaluation.{InAssignment}
-use Rattle.meaning_rules.specs.Failures as rules
+use Rattle.meaning_first_rules.specs.Typing.{int_with, behind_stars}
+use Rattle.meaning_first_rules.specs.Evaluation.{InAssignment}
+use Rattle.meaning_first_rules.specs.Failures as rules
 use Rattle.sparse_model.specs.declared.space.Space.{Space}
 use Rattle.sparse_model.specs.declared.space.Space.TheVariants as spaces
 use Rattle.first_form.specs.declared.item.Word.{Word}

@@ -3,7 +3,7 @@ ghost use Rattle.std.specs.Prelude.{◌≡◌, ◌<◌, ◌+◌, [], ℕ, ◌++�
 ghost use Rattle.std.specs.List.{flat_map, list_all};
 ghost use Rattle.meaning_syntax.specs.Binding.{are_bound, statement_binds};
 ghost use Rattle.meaning_syntax.specs.Items as syntax;
-ghost use Rattle.meaning_rules.specs.plain.Judging as judging;
+ghost use Rattle.meaning_first_rules.specs.plain.Judging as judging;
 ghost use Rattle.first_form.specs.Found as found;
 ghost use Rattle.first_form.specs.Judged.{AreJudged, IsBodyAt, IsItemAt, IsItemJudged, is_item_bound};
 ghost use Rattle.first_form.specs.Known.{AreKnownFailures};

@@ -2,7 +2,7 @@
 //!
 //! Tokens come in; items, their tree, failures and warnings go out. `view` says what a node of the tree
 //! is. Nothing here reads files or words. The definitions are in `meaning_syntax` and
-//! `meaning_rules`; `specs/Seen.antt` says how the values of this crate are seen there. This crate goes
+//! `meaning_first_rules`; `specs/Seen.antt` says how the values of this crate are seen there. This crate goes
 //! away when the whole grammar is read.
 #![tactic(auto)]
 

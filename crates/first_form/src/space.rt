@@ -2,7 +2,7 @@
 ghost use Rattle.std.specs.Prelude.{◌≡◌, IfNone, IfSome, true};
 ghost use Rattle.meaning_types.specs.Types.{NamedSpace, NumberedSpace};
 ghost use Rattle.meaning_syntax.specs.Words as words;
-ghost use Rattle.meaning_rules.specs.Typing as typing;
+ghost use Rattle.meaning_first_rules.specs.Typing as typing;
 
 use crate::identifier::is_plain_identifier;
 use std::str;

@@ -3,7 +3,7 @@ ghost use Rattle.std.specs.Prelude.{◌≡◌, ◌<◌, ◌++◌, All, OnOk, cod
 ghost use Rattle.std.specs.Fmt.{decimal};
 ghost use Rattle.c_tokens.specs.Seen.{IsKnown, at_of, toks_of};
 ghost use Rattle.meaning_types.specs.Spelling as types;
-ghost use Rattle.meaning_rules.specs.Text as rules;
+ghost use Rattle.meaning_first_rules.specs.Text as rules;
 ghost use Rattle.first_form.specs.Known.{AreKnownFailures, IsKnownCause, IsKnownFailure, IsKnownObject, IsKnownSpace};
 ghost use Rattle.first_form.specs.Seen.{cause_of, failure_of, failures_of, flags_of, space_of, tree_of};
 

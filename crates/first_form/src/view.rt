@@ -10,7 +10,7 @@ ghost use Rattle.vocabulary.specs.declared.role.Role.TheVariants.{TypePart};
 ghost use Rattle.meaning_tree.specs.Trees.{NoParts, Node, Part, SyntaxTree, parts_of};
 ghost use Rattle.meaning_syntax.specs.Items as syntax;
 ghost use Rattle.meaning_syntax.specs.Trees.{SyntaxParts, address_tree, function_tree, indirection_tree, item_tree, name_tree, object_tree, plain_node, star_trees, statement_tree};
-ghost use Rattle.meaning_rules.specs.Bindings.{flagged_by, flags_behind, flags_behind_words, space_named, specified_flags};
+ghost use Rattle.meaning_first_rules.specs.Bindings.{flagged_by, flags_behind, flags_behind_words, space_named, specified_flags};
 ghost use Rattle.c_tree.specs.Seen.{HasNodeWith};
 ghost use Rattle.first_form.specs.Known.{IsKnownSpace, IsKnownStatement};
 ghost use Rattle.first_form.specs.Nodes.{AreKnownNodes, AreNodes, IsNode};

@@ -9,7 +9,7 @@ use Rattle.meaning_text.proofs.Lexing.{tokens_are_unique}
 use Rattle.meaning_tree.specs.Trees.{SyntaxTree}
 use Rattle.meaning_syntax.specs.Trees.{Derives}
 use Rattle.meaning_syntax.proofs.Derivations.{derived_trees_are_unique, derived_trees_are_in_first_form}
-use Rattle.meaning_rules.specs.Failures.{Failure, IsListing}
+use Rattle.meaning_first_rules.specs.Failures.{Failure, IsListing}
 use Rattle.meaning_text.specs.Places.{main_file}
 use Rattle.meaning_answer.specs.Reply.{Reply, Clean}
 use Rattle.meaning_answer.specs.Command.{Request, BadWord, MissingFile, Check, request_of}

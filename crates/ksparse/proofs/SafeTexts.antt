@@ -12,7 +12,7 @@ use Rattle.meaning_syntax.specs.Items.{Item}
 use Rattle.meaning_syntax.specs.Trees.{unit_tree}
 use Rattle.meaning_syntax.specs.plain.Reading.{read_unit}
 use Rattle.meaning_syntax.proofs.Derivations.{read_units_derive}
-use Rattle.meaning_rules.specs.Failures.{Failure}
+use Rattle.meaning_first_rules.specs.Failures.{Failure}
 use Rattle.meaning_answer.specs.Reply.{Clean}
 use Rattle.meaning_answer.specs.plain.Answering.{text_reply}
 use Rattle.meaning_answer.proofs.Texts.{answered, not_in_form}

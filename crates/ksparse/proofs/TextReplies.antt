@@ -6,8 +6,8 @@ use Rattle.meaning_text.specs.Terminals.{terminals_of}
 use Rattle.meaning_syntax.specs.Items.{Item}
 use Rattle.meaning_syntax.specs.Binding.{are_bound}
 use Rattle.meaning_syntax.specs.plain.Reading.{Texts, read_items, read_unit}
-use Rattle.meaning_rules.specs.Failures.{Failure}
-use Rattle.meaning_rules.specs.plain.Judging.{failures_of}
+use Rattle.meaning_first_rules.specs.Failures.{Failure}
+use Rattle.meaning_first_rules.specs.plain.Judging.{failures_of}
 use Rattle.meaning_text.specs.Places.{main_file}
 use Rattle.meaning_answer.specs.Reply.{Reply}
 use Rattle.meaning_answer.specs.Refusal.{Opens, NotBuilt, ManyTokens, refusal_reply}

@@ -5,8 +5,8 @@ use Rattle.meaning_text.specs.Places.{At}
 use Rattle.meaning_text.specs.Tokens.{Tok}
 use Rattle.meaning_types.specs.Types.{flags_of}
 use Rattle.meaning_types.specs.Spelling.{spelling}
-use Rattle.meaning_rules.specs.Failures.{Cause, SpacesMixed, FlaggedAccess, Failure}
-use Rattle.meaning_rules.specs.Text.{place_text, place_of, cause_text, failure_text, warnings_text, access_text}
+use Rattle.meaning_first_rules.specs.Failures.{Cause, SpacesMixed, FlaggedAccess, Failure}
+use Rattle.meaning_first_rules.specs.Text.{place_text, place_of, cause_text, failure_text, warnings_text, access_text}
 use Rattle.meaning_answer.specs.Reply.{Reply, IsLine, IsShaped}
 use Rattle.meaning_answer.specs.Refusal.{Refusal, UnknownWord, MissingOperand, NoSuchFile, LargeFile, Opens, NotBuilt, ManyTokens, refusal_text, refusal_reply}
 use Rattle.meaning_answer.specs.Command.{Request, BadWord, MissingFile, Check, request_of}

@@ -15,9 +15,9 @@ use Rattle.meaning_syntax.specs.Trees.{unit_tree, Derives, IsInForm}
 use Rattle.meaning_syntax.specs.plain.Reading.{read_unit}
 use Rattle.meaning_syntax.proofs.UnitReading.{IsUnit-read_unit}
 use Rattle.meaning_syntax.proofs.Derivations.{read_units_derive, derived_trees_are_those}
-use Rattle.meaning_rules.specs.Failures.{Failure, IsListing}
-use Rattle.meaning_rules.specs.plain.Judging.{failures_of}
-use Rattle.meaning_rules.proofs.Units.{listings_exist, listings_are_unique}
+use Rattle.meaning_first_rules.specs.Failures.{Failure, IsListing}
+use Rattle.meaning_first_rules.specs.plain.Judging.{failures_of}
+use Rattle.meaning_first_rules.proofs.Units.{listings_exist, listings_are_unique}
 use Rattle.meaning_text.specs.Places.{main_file}
 use Rattle.meaning_answer.specs.Reply.{Reply}
 use Rattle.meaning_answer.specs.Refusal.{LargeFile, Opens, NotBuilt, ManyTokens, refusal_reply}

@@ -2,7 +2,7 @@
 use Rattle.std.proofs.Common.{◌≢◌, ℕ, List, [], ◌∷◌, Option, Some, None, sym, ◌∙◌, ap, inl, inr}
 use Rattle.meaning_outside.specs.Files.{FileMap, file_at}
 use Rattle.meaning_text.specs.Tokens.{Tok}
-use Rattle.meaning_rules.specs.Failures.{Failure}
+use Rattle.meaning_first_rules.specs.Failures.{Failure}
 use Rattle.meaning_answer.specs.Reply.{Reply, Usage}
 use Rattle.meaning_answer.specs.Command.{Request, BadWord, MissingFile, Check, request_of}
 use Rattle.meaning_answer.specs.Answer.{warned, IsFileReply, IsTextReply, IsRequestReply}

@@ -7,9 +7,9 @@ use Rattle.meaning_text.specs.Tokens.{Tok, LexFault, LexesFile, OpensFile}
 use Rattle.meaning_text.specs.Terminals.{terminals_of}
 use Rattle.meaning_tree.specs.Trees.{SyntaxTree}
 use Rattle.meaning_syntax.specs.Trees.{Derives, IsInForm}
-use Rattle.meaning_rules.specs.Failures.{Failure, IsListing}
+use Rattle.meaning_first_rules.specs.Failures.{Failure, IsListing}
 use Rattle.meaning_text.specs.Places.{main_file}
-use Rattle.meaning_rules.specs.Text.{warnings_text}
+use Rattle.meaning_first_rules.specs.Text.{warnings_text}
 use Rattle.meaning_answer.specs.Reply.{Reply, Warned, silence}
 use Rattle.meaning_answer.specs.Refusal.{UnknownWord, MissingOperand, NoSuchFile, LargeFile, Opens, NotBuilt, ManyTokens, refusal_reply}
 use Rattle.meaning_answer.specs.Command.{Request, BadWord, MissingFile, Check, request_of}

@@ -8,7 +8,7 @@ use Rattle.vocabulary.specs.Errors.{error_line}
 use Rattle.vocabulary.specs.Limits.{limit_name}
 use Rattle.meaning_text.specs.Places.{At, main_file, start_of}
 use Rattle.meaning_text.specs.Tokens.{LexFault, OpenComment, OpenLiteral}
-use Rattle.meaning_rules.specs.Text.{place_text}
+use Rattle.meaning_first_rules.specs.Text.{place_text}
 use Rattle.meaning_answer.specs.Reply.{Ending, Refused, Usage, Limit, Reply, line}
 
 -- why a command is refused

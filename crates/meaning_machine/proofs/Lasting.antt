@@ -3,7 +3,7 @@ use Rattle.std.proofs.Common.{◌≡◌, ℕ, zero, suc, Bool, true, false, List
 use Rattle.std.specs.Str.{bytes_eq}
 use Rattle.meaning_types.specs.Types.{flags_of, has_flag}
 use Rattle.meaning_tree.specs.Trees.{SyntaxTree, external_parts}
-use Rattle.meaning_rules.specs.Bindings.{Binding}
+use Rattle.meaning_first_rules.specs.Bindings.{Binding}
 use Rattle.meaning_machine.specs.Values.{Value, Integer, Pointer, Spot, Null, Foreign, In, Lvalue, Cell, Block}
 use Rattle.meaning_machine.specs.Outcomes.{DeadBlock, OutOfBounds, ReadOnly, FaultKind, AccessFault, Answer, Gives, IsFault, IsUndefined}
 use Rattle.meaning_machine.specs.Memory.{adopt, load, store, store_block, content_at, with_content, block_with, is_read_only}

@@ -2,7 +2,7 @@
 use Rattle.std.proofs.Common.{◌≡◌, ℕ, ◌+◌, suc, if◌then◌else◌, Bool, true, false, List, [], ◌∷◌, Option, Some, slice_get, refl, ap, ◌∙◌, arith}
 use Rattle.std.specs.Str.{bytes_eq}
 use Rattle.meaning_types.specs.Types.{TypeTree, bare}
-use Rattle.meaning_rules.specs.Bindings.{Binding, type_in}
+use Rattle.meaning_first_rules.specs.Bindings.{Binding, type_in}
 use Rattle.meaning_machine.specs.Values.{Lvalue, Block, In, SpotFits}
 use Rattle.meaning_machine.specs.Machine.{object_lvalue, lvalue_from, lvalue_of}
 use Rattle.meaning_machine.specs.Runs.{opening_block}

@@ -7,8 +7,8 @@ use Rattle.std.proofs.lemmas.Option.{same_Some}
 use Rattle.std.proofs.lemmas.Slice.Eq.{bytes_eq-Decides}
 use Rattle.meaning_syntax.specs.Items.{Word, Item, Object}
 use Rattle.meaning_syntax.specs.Binding.{item_name, is_declared, are_bound}
-use Rattle.meaning_rules.specs.Typing.{declared_type}
-use Rattle.meaning_rules.specs.Placed.{item_binding}
+use Rattle.meaning_first_rules.specs.Typing.{declared_type}
+use Rattle.meaning_first_rules.specs.Placed.{item_binding}
 use Rattle.meaning_machine.specs.Values.{In, Lvalue}
 use Rattle.meaning_machine.specs.Machine.{lvalue_from, lvalue_of}
 use Rattle.meaning_machine.specs.Runs.{bindings_in}

@@ -8,8 +8,8 @@ use Rattle.vocabulary.specs.declared.role.Role.TheVariants.{Evaluated}
 use Rattle.meaning_tree.specs.Trees.{SyntaxTree, parts_of, external_parts}
 use Rattle.meaning_syntax.specs.Items.{Word, Statement, Item, Object, Function, item_spelled}
 use Rattle.meaning_syntax.specs.Trees.{statement_trees, item_trees, unit_tree}
-use Rattle.meaning_rules.specs.Typing.{declared_type}
-use Rattle.meaning_rules.specs.Placed.{item_binding}
+use Rattle.meaning_first_rules.specs.Typing.{declared_type}
+use Rattle.meaning_first_rules.specs.Placed.{item_binding}
 use Rattle.meaning_machine.specs.Values.{Value, ForObject, Cell, Block, Fits}
 use Rattle.meaning_machine.specs.Memory.{content_at, with_content, block_with}
 use Rattle.meaning_machine.specs.Code.{ValueCode, statement_code, statements_code}

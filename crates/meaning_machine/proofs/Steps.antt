@@ -3,8 +3,8 @@
 use Rattle.std.proofs.Common.{◌≡◌, ℕ, List, [], ◌∷◌, All, Option, Some, ap, ◌∙◌, subst}
 use Rattle.std.proofs.lemmas.List.Elements.{All-head, All-tail}
 use Rattle.meaning_types.specs.Types.{TypeTree, Typed, IntegerTree, PointerTree, has_flag, value_type}
-use Rattle.meaning_rules.specs.Bindings.{Binding, pointer_to}
-use Rattle.meaning_rules.specs.Expressions.{target_of}
+use Rattle.meaning_first_rules.specs.Bindings.{Binding, pointer_to}
+use Rattle.meaning_first_rules.specs.Expressions.{target_of}
 use Rattle.meaning_machine.specs.Values.{Value, Integer, Pointer, Lvalue, Block}
 use Rattle.meaning_machine.specs.Outcomes.{Answer, Gives, IsFault, IsUndefined}
 use Rattle.meaning_machine.specs.Memory.{load, store}

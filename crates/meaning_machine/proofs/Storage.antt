@@ -4,7 +4,7 @@ use Rattle.std.proofs.Math.Seq.{map-set_same}
 use Rattle.std.proofs.lemmas.Option.{get_or_from_slice_get}
 use Rattle.meaning_types.specs.Types.{TypeTree, Typed, IntegerTree, PointerTree, has_flag, bare}
 use Rattle.meaning_types.proofs.Equality.{are_similar-Decides}
-use Rattle.meaning_rules.specs.Bindings.{Binding}
+use Rattle.meaning_first_rules.specs.Bindings.{Binding}
 use Rattle.meaning_machine.specs.Values.{Spot, Null, Foreign, In, Value, Integer, Pointer, Lvalue, ForObject, Cell, Block, IsInRange, SpotFits, Fits}
 use Rattle.meaning_machine.specs.Outcomes.{DeadBlock, OutOfBounds, ReadOnly, AccessFault, Answer, Gives, IsFault, IsUndefined}
 use Rattle.meaning_machine.specs.Memory.{adopt, content_at, with_content, block_with, is_made_for, is_read_only, value_of_content, load_block, load_spot, load, store_block, store}

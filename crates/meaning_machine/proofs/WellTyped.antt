@@ -13,18 +13,18 @@ use Rattle.meaning_tree.specs.Trees.{SyntaxTree, parts_of, external_parts}
 use Rattle.meaning_syntax.specs.Items.{Statement, Assign, AssignThrough, AssignAddress, Item, Object, Function, statement_spelled, item_spelled}
 use Rattle.meaning_syntax.specs.Binding.{Declared, item_statements, object_of, have_equal_stars, has_one_star_more, statement_binds, are_bound}
 use Rattle.meaning_syntax.specs.Trees.{IsInFirstForm, statement_tree, statement_trees, item_tree, item_trees, unit_tree}
-use Rattle.meaning_rules.specs.Bindings.{Binding, pointer_to, type_in}
-use Rattle.meaning_rules.specs.Expressions.{target_of}
-use Rattle.meaning_rules.specs.Typing.{behind_stars, int_with, declared_type, int_flags, behind_pointer, address_of}
-use Rattle.meaning_rules.specs.Evaluation.{Access, Conversion, InAssignment, access_at, assignment_at, accesses_in, conversions_in}
-use Rattle.meaning_rules.specs.Placed.{Placed, placed_body, placed_behind, placed_in, tokens_before_body, statement_accesses, statement_conversions, placed_accesses, placed_conversions, item_binding}
-use Rattle.meaning_rules.specs.Failures.{IsListing, access_failure, conversion_failure}
+use Rattle.meaning_first_rules.specs.Bindings.{Binding, pointer_to, type_in}
+use Rattle.meaning_first_rules.specs.Expressions.{target_of}
+use Rattle.meaning_first_rules.specs.Typing.{behind_stars, int_with, declared_type, int_flags, behind_pointer, address_of}
+use Rattle.meaning_first_rules.specs.Evaluation.{Access, Conversion, InAssignment, access_at, assignment_at, accesses_in, conversions_in}
+use Rattle.meaning_first_rules.specs.Placed.{Placed, placed_body, placed_behind, placed_in, tokens_before_body, statement_accesses, statement_conversions, placed_accesses, placed_conversions, item_binding}
+use Rattle.meaning_first_rules.specs.Failures.{IsListing, access_failure, conversion_failure}
 use Rattle.meaning_types.specs.Equality.{are_equal_flags}
-use Rattle.meaning_rules.proofs.Elements.{Contains-nil, Contains-cons_head}
+use Rattle.meaning_first_rules.proofs.Elements.{Contains-nil, Contains-cons_head}
 use Rattle.meaning_types.proofs.Equality.{are_equal_flags-Decides}
-use Rattle.meaning_rules.proofs.MixedSpaces.{stars_mix}
-use Rattle.meaning_rules.proofs.Pointers.{target_of-pointer, behind_pointer-equal_stars, address_of-equal_stars}
-use Rattle.meaning_rules.proofs.Trees.{type_in-items, bindings_of-item_tree, accesses_in-unit_tree, conversions_in-unit_tree}
+use Rattle.meaning_first_rules.proofs.MixedSpaces.{stars_mix}
+use Rattle.meaning_first_rules.proofs.Pointers.{target_of-pointer, behind_pointer-equal_stars, address_of-equal_stars}
+use Rattle.meaning_first_rules.proofs.Trees.{type_in-items, bindings_of-item_tree, accesses_in-unit_tree, conversions_in-unit_tree}
 use Rattle.meaning_machine.specs.Code.{ValueCode, statement_code, statements_code, body_code}
 use Rattle.meaning_machine.specs.Runs.{body_at, bindings_among, bindings_in}
 use Rattle.meaning_machine.specs.laws.Soundness.{IsUnflagged, Agree, IsStatement}

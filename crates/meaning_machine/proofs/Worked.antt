@@ -6,8 +6,8 @@ use Rattle.meaning_syntax.specs.Items.{Item, item_fits}
 use Rattle.meaning_syntax.specs.Binding.{are_bound}
 use Rattle.meaning_syntax.specs.Trees.{unit_tree}
 use Rattle.meaning_types.specs.Types.{TypeTree}
-use Rattle.meaning_rules.specs.Failures.{Failure}
-use Rattle.meaning_rules.proofs.Units.{AreFound, found_are_listed}
+use Rattle.meaning_first_rules.specs.Failures.{Failure}
+use Rattle.meaning_first_rules.proofs.Units.{AreFound, found_are_listed}
 use Rattle.meaning_machine.specs.Values.{In, Value}
 use Rattle.meaning_machine.specs.Outcomes.{Gives}
 use Rattle.meaning_machine.specs.Memory.{load}

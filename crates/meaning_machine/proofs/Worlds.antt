@@ -6,8 +6,8 @@ use Rattle.std.proofs.lemmas.Option.{get_or_from_slice_get, slice_get_within}
 use Rattle.meaning_types.specs.Types.{TypeTree, Typed, IntegerTree, PointerTree}
 use Rattle.meaning_tree.specs.Trees.{SyntaxTree, external_parts}
 use Rattle.meaning_syntax.specs.Trees.{IsInFirstForm}
-use Rattle.meaning_rules.specs.Bindings.{Binding}
-use Rattle.meaning_rules.specs.Failures.{IsListing}
+use Rattle.meaning_first_rules.specs.Bindings.{Binding}
+use Rattle.meaning_first_rules.specs.Failures.{IsListing}
 use Rattle.meaning_machine.specs.Values.{Value, Block}
 use Rattle.meaning_machine.specs.Outcomes.{FaultKind}
 use Rattle.meaning_machine.specs.Code.{ValueCode}

@@ -3,7 +3,7 @@
 use Rattle.std.specs.Prelude.{ℕ, ◌+◌, List, [], ◌∷◌, Option, Some, None, if◌then◌else◌}
 use Rattle.std.specs.Str.{bytes_eq}
 use Rattle.meaning_types.specs.Types.{TypeTree, flags_of, has_flag}
-use Rattle.meaning_rules.specs.Bindings.{Binding}
+use Rattle.meaning_first_rules.specs.Bindings.{Binding}
 use Rattle.meaning_machine.specs.Values.{In, Value, Integer, Pointer, Lvalue, Block}
 use Rattle.meaning_machine.specs.Outcomes.{Reason, FaultKind, AccessFault, ShapeFault, Answer, Gives, IsFault, IsUndefined}
 use Rattle.meaning_machine.specs.Memory.{adopt, load, store}

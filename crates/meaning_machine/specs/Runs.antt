@@ -3,7 +3,7 @@ use Rattle.std.specs.Prelude.{◌≡◌, ◌≢◌, ℕ, suc, zero, true, pos, L
 use Rattle.meaning_types.specs.Types.{TypeTree, Typed, BaseTree, IntegerTree, PointerTree}
 use Rattle.meaning_tree.specs.Trees.{SyntaxTree, NoParts, Part, external_parts}
 use Rattle.meaning_syntax.specs.Trees.{SyntaxParts}
-use Rattle.meaning_rules.specs.Bindings.{Binding, bindings_of}
+use Rattle.meaning_first_rules.specs.Bindings.{Binding, bindings_of}
 use Rattle.meaning_machine.specs.Values.{Null, Value, Integer, Pointer, ForObject, ForFunction, Block, Fits}
 use Rattle.meaning_machine.specs.Outcomes.{FaultKind}
 use Rattle.meaning_machine.specs.Memory.{content_at, block_with}

@@ -3,7 +3,7 @@ use Rattle.std.specs.Prelude.{◌≡◌, ℕ, List, [], ◌∷◌, ◌++◌, ◌
 use Rattle.meaning_outside.specs.Files.{FileMap}
 use Rattle.meaning_answer.specs.Reply.{Reply, Clean, Warned, Refused, Usage, ReadFault, WriteFault, NoMemory, Limit, status_of, silence, line}
 use Rattle.meaning_text.specs.Tokens.{Tok}
-use Rattle.meaning_rules.specs.Failures.{Failure}
+use Rattle.meaning_first_rules.specs.Failures.{Failure}
 use Rattle.meaning_answer.specs.Command.{BadWord, Check, request_of}
 use Rattle.meaning_answer.specs.Answer.{most_bytes, most_tokens, warned}
 use Rattle.meaning_answer.specs.plain.Answering.{bounded_reply, text_reply, file_reply, reply_to}

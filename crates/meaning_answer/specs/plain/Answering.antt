@@ -7,8 +7,8 @@ use Rattle.meaning_text.specs.Lexing.{Lexed, lexed_file}
 use Rattle.meaning_text.specs.Lexing as lexing
 use Rattle.meaning_syntax.specs.Items.{Item}
 use Rattle.meaning_syntax.specs.plain.Reading.{read_unit}
-use Rattle.meaning_rules.specs.Failures.{Failure}
-use Rattle.meaning_rules.specs.plain.Judging.{failures_of}
+use Rattle.meaning_first_rules.specs.Failures.{Failure}
+use Rattle.meaning_first_rules.specs.plain.Judging.{failures_of}
 use Rattle.meaning_text.specs.Places.{main_file}
 use Rattle.meaning_answer.specs.Reply.{Reply}
 use Rattle.meaning_answer.specs.Refusal.{UnknownWord, MissingOperand, NoSuchFile, LargeFile, Opens, NotBuilt, ManyTokens, refusal_reply}

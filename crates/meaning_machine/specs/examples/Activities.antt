@@ -2,11 +2,11 @@
 use Rattle.std.specs.Prelude.{ℕ, List, [], ◌∷◌, ◌++◌, codes, replicate}
 use Rattle.std.specs.List.{flat_map}
 use Rattle.meaning_syntax.specs.Items.{Assign, Item, Object, Function}
-use Rattle.meaning_rules.specs.Bindings.{pointer_to}
-use Rattle.meaning_rules.specs.Typing.{int_with}
-use Rattle.meaning_rules.specs.Evaluation.{InAssignment}
-use Rattle.meaning_rules.specs.Failures.{SpacesMixed}
-use Rattle.meaning_rules.specs.examples.Failures.{user_flags, user_words, function_of}
+use Rattle.meaning_first_rules.specs.Bindings.{pointer_to}
+use Rattle.meaning_first_rules.specs.Typing.{int_with}
+use Rattle.meaning_first_rules.specs.Evaluation.{InAssignment}
+use Rattle.meaning_first_rules.specs.Failures.{SpacesMixed}
+use Rattle.meaning_first_rules.specs.examples.Failures.{user_flags, user_words, function_of}
 use Rattle.meaning_machine.specs.Values.{Pointer}
 use Rattle.meaning_machine.specs.Outcomes.{NullPointer, SpaceFault}
 use Rattle.meaning_machine.specs.Machine.{Finished, Undefined, Fault}

@@ -7,9 +7,9 @@ use Rattle.meaning_types.specs.examples.Types.{plain, signed_kinds, unsigned_kin
 use Rattle.meaning_tree.specs.Trees.{SyntaxTree}
 use Rattle.meaning_syntax.specs.Items.{Object}
 use Rattle.meaning_syntax.specs.Trees.{unit_tree}
-use Rattle.meaning_rules.specs.Bindings.{pointer_to}
-use Rattle.meaning_rules.specs.Typing.{int_with}
-use Rattle.meaning_rules.specs.examples.Failures.{noderef_flags, function_of}
+use Rattle.meaning_first_rules.specs.Bindings.{pointer_to}
+use Rattle.meaning_first_rules.specs.Typing.{int_with}
+use Rattle.meaning_first_rules.specs.examples.Failures.{noderef_flags, function_of}
 use Rattle.meaning_machine.specs.Values.{Spot, Null, Foreign, In, Value, Integer, Pointer, ForObject, ForFunction, Cell, Block, Fits}
 use Rattle.meaning_machine.specs.Conversion.{converted}
 use Rattle.meaning_machine.specs.Outcomes.{DeadBlock, ForeignPointer, OutOfBounds, ReadOnly, AccessFault, SpaceFault, RestrictedFault, ShapeFault, Gives, IsFault, IsUndefined}

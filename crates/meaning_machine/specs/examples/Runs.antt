@@ -8,11 +8,11 @@ use Rattle.meaning_tree.specs.Trees.{SyntaxTree}
 use Rattle.meaning_syntax.specs.Items.{Noderef, Statement, Assign, AssignThrough, AssignAddress, Item, Object, item_fits}
 use Rattle.meaning_syntax.specs.Binding.{are_bound}
 use Rattle.meaning_syntax.specs.Trees.{unit_tree, plain_node, leaf, one_part, name_tree, assignment_tree, address_tree}
-use Rattle.meaning_rules.specs.Bindings.{Binding, pointer_to}
-use Rattle.meaning_rules.specs.Typing.{int_with}
-use Rattle.meaning_rules.specs.Evaluation.{InAssignment}
-use Rattle.meaning_rules.specs.Failures.{Failure, SpacesMixed, FlaggedAccess, IsListing}
-use Rattle.meaning_rules.specs.examples.Failures.{user_flags, user_words, noderef_flags, function_of}
+use Rattle.meaning_first_rules.specs.Bindings.{Binding, pointer_to}
+use Rattle.meaning_first_rules.specs.Typing.{int_with}
+use Rattle.meaning_first_rules.specs.Evaluation.{InAssignment}
+use Rattle.meaning_first_rules.specs.Failures.{Failure, SpacesMixed, FlaggedAccess, IsListing}
+use Rattle.meaning_first_rules.specs.examples.Failures.{user_flags, user_words, noderef_flags, function_of}
 use Rattle.meaning_machine.specs.Values.{Spot, Null, Foreign, In, Value, Integer, Pointer, ForObject, Block}
 use Rattle.meaning_machine.specs.Outcomes.{NullPointer, ForeignPointer, IndeterminateValue, AccessFault, SpaceFault, ShapeFault, Gives, IsUndefined}
 use Rattle.meaning_machine.specs.Memory.{adopt, load}

@@ -1,9 +1,9 @@
 -- Worked examples: single steps that no run of the small units takes, or that end one.
 use Rattle.std.specs.Prelude.{◌≡◌, true, List, [], ◌∷◌, ◌++◌, Some, None, codes}
 use Rattle.meaning_types.specs.Types.{Flags}
-use Rattle.meaning_rules.specs.Bindings.{Binding, pointer_to}
-use Rattle.meaning_rules.specs.Typing.{int_with}
-use Rattle.meaning_rules.specs.examples.Failures.{noderef_flags}
+use Rattle.meaning_first_rules.specs.Bindings.{Binding, pointer_to}
+use Rattle.meaning_first_rules.specs.Typing.{int_with}
+use Rattle.meaning_first_rules.specs.examples.Failures.{noderef_flags}
 use Rattle.meaning_machine.specs.Values.{Null, Foreign, Value, Pointer, Lvalue, ForObject, Block}
 use Rattle.meaning_machine.specs.Outcomes.{NullPointer, AccessFault, ShapeFault}
 use Rattle.meaning_machine.specs.Code.{Named}

@@ -6,9 +6,9 @@ use Rattle.meaning_types.specs.Types.{TypeTree}
 use Rattle.meaning_tree.specs.Trees.{SyntaxTree}
 use Rattle.meaning_syntax.specs.Items.{Word, Statement, Object, Function}
 use Rattle.meaning_syntax.specs.Trees.{IsInFirstForm, statement_trees}
-use Rattle.meaning_rules.specs.Bindings.{Binding}
-use Rattle.meaning_rules.specs.Typing.{declared_type}
-use Rattle.meaning_rules.specs.Failures.{IsListing}
+use Rattle.meaning_first_rules.specs.Bindings.{Binding}
+use Rattle.meaning_first_rules.specs.Typing.{declared_type}
+use Rattle.meaning_first_rules.specs.Failures.{IsListing}
 use Rattle.meaning_machine.specs.Values.{In, Value, Block, IsInRange, Fits}
 use Rattle.meaning_machine.specs.Conversion.{number_count, converted}
 use Rattle.meaning_machine.specs.Outcomes.{Gives}

@@ -3,8 +3,8 @@
 -- no failure in it, and each cell fits its declared type.
 use Rattle.std.specs.Prelude.{◌≡◌, ℕ, false, List, Some, All, map, slice_get}
 use Rattle.meaning_types.specs.Types.{TypeTree, Typed, flags_of, has_flag, value_type, bare, bare_base}
-use Rattle.meaning_rules.specs.Bindings.{Binding, pointer_to, type_in}
-use Rattle.meaning_rules.specs.Expressions.{target_of}
+use Rattle.meaning_first_rules.specs.Bindings.{Binding, pointer_to, type_in}
+use Rattle.meaning_first_rules.specs.Expressions.{target_of}
 use Rattle.meaning_machine.specs.Values.{Value, Lvalue, ForObject, Block, SpotFits, Fits}
 use Rattle.meaning_machine.specs.Memory.{content_at}
 use Rattle.meaning_machine.specs.Code.{LvalueCode, Named, Behind, NoLvalue, ValueCode, ValueOf, AddressOf, Assignment}

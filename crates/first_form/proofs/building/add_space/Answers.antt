@@ -2,7 +2,7 @@ use Rattle.std.proofs.Common.{sym, ap, ◌∙◌}
 use Rattle.vocabulary.specs.declared.node_kind.NodeKind.TheVariants.{AddressSpaceAttribute}
 use Rattle.c_tokens.specs.Seen.{text_of}
 use Rattle.meaning_types.specs.Types.{NamedSpace, NumberedSpace}
-use Rattle.meaning_rules.specs.Typing.{space_of}
+use Rattle.meaning_first_rules.specs.Typing.{space_of}
 use Rattle.first_form.proofs.BuildLemmas.{AddsParts-none, IfOk-named, IfOk-nameless, IfOk-tree}
 use Rattle.first_form.proofs.building.add_space.Goals as goal
 use Rattle.first_form.proofs.TreeLemmas.{word_tree-name, word_tree-number}

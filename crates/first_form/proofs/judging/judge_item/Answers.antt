@@ -1,6 +1,6 @@
 use Rattle.std.proofs.Common.{◌≡◌, ◌+◌, true, sym, subst, ◌∙◌}
 use Rattle.meaning_syntax.specs.Binding.{item_statements}
-use Rattle.meaning_rules.specs.Placed.{tokens_before_body}
+use Rattle.meaning_first_rules.specs.Placed.{tokens_before_body}
 use Rattle.first_form.specs.Judged.{IsItemJudged}
 use Rattle.first_form.specs.View.{IsFoundAt, IsKnownExternal}
 use Rattle.first_form.proofs.ItemLemmas.{IfOk-both, function-unbound, function-body, function-bound, function-judged, object-bound, object-judged}

@@ -1,6 +1,6 @@
 use Rattle.std.proofs.Common.{◌++◌, sym, ap, ◌∙◌}
 use Rattle.c_tokens.specs.Seen.{at_of}
-use Rattle.meaning_rules.specs.Text.{access_text, warning_line}
+use Rattle.meaning_first_rules.specs.Text.{access_text, warning_line}
 use Rattle.first_form.specs.Seen.{flags_of}
 use Rattle.first_form.proofs.TextLemmas.{appended_four, flags_of-tree_of}
 use Rattle.first_form.proofs.text.write_access.Goals as goal

@@ -1,7 +1,7 @@
 use Rattle.std.proofs.Common.{◌≡◌, ◌++◌, codes, ap, ◌∙◌}
 use Rattle.c_tokens.specs.Seen.{at_of}
 use Rattle.meaning_types.specs.Types.{value_type}
-use Rattle.meaning_rules.specs.Text.{type_line}
+use Rattle.meaning_first_rules.specs.Text.{type_line}
 use Rattle.first_form.specs.Seen.{tree_of}
 use Rattle.first_form.proofs.TextLemmas.{tree_of-value_of, appended_thrice}
 use Rattle.first_form.proofs.text.write_mixed.Goals as goal

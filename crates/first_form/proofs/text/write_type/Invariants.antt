@@ -1,6 +1,6 @@
 use Rattle.std.proofs.Common.{◌≡◌, ◌++◌}
 use Rattle.meaning_types.specs.Spelling.{spelling}
-use Rattle.meaning_rules.specs.Typing.{int_with, behind_stars}
+use Rattle.meaning_first_rules.specs.Typing.{int_with, behind_stars}
 use Rattle.first_form.specs.Seen.{flags_of}
 use Rattle.first_form.proofs.text.write_type.Given as goal
 

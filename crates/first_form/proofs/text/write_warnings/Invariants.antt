@@ -1,6 +1,6 @@
 use Rattle.std.proofs.Common.{◌≡◌, ◌++◌, take}
 use Rattle.c_tokens.specs.Seen.{toks_of}
-use Rattle.meaning_rules.specs.Text.{warnings_text}
+use Rattle.meaning_first_rules.specs.Text.{warnings_text}
 use Rattle.first_form.specs.Seen.{failures_of}
 use Rattle.first_form.proofs.text.write_warnings.Given as goal
 

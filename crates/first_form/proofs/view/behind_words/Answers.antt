@@ -1,6 +1,6 @@
 use Rattle.std.proofs.Common.{◌≡◌, ℕ, List, None, Some, refl, sym, subst, ◌∙◌}
 use Rattle.std.proofs.lemmas.List.Elements.{All-rest}
-use Rattle.meaning_rules.specs.Bindings.{flags_behind_words}
+use Rattle.meaning_first_rules.specs.Bindings.{flags_behind_words}
 use Rattle.first_form.specs.View.{AreSmallNumbers, ShowParts}
 use Rattle.first_form.proofs.FlagLemmas.{LeadsOn-end, LeadsOn-word}
 use Rattle.first_form.proofs.view.behind_words.Goals as goal

@@ -3,7 +3,7 @@ use Rattle.meaning_types.specs.Types.{Flags}
 use Rattle.vocabulary.specs.declared.node_kind.NodeKind.TheVariants.{AttributeList}
 use Rattle.meaning_tree.specs.Trees.{Node}
 use Rattle.meaning_syntax.specs.Trees.{SyntaxParts}
-use Rattle.meaning_rules.specs.Bindings.{flags_behind_words}
+use Rattle.meaning_first_rules.specs.Bindings.{flags_behind_words}
 use Rattle.first_form.specs.View.{AreSmallNumbers, HasFlags, IsTableOf, Shows}
 use Rattle.first_form.proofs.FlagLemmas.{LeadsOn}
 use Rattle.first_form.proofs.view.behind_words.Given as goal

@@ -3,7 +3,7 @@ use Rattle.vocabulary.specs.declared.role.Role.TheVariants.{Evaluated, TypePart}
 use Rattle.meaning_tree.specs.Trees.{parts_of}
 use Rattle.meaning_syntax.specs.Items.{attribute_spelled}
 use Rattle.meaning_syntax.specs.Trees.{declarator_tree, object_specifiers, star_trees}
-use Rattle.meaning_rules.proofs.Trees.{specified_flags-words}
+use Rattle.meaning_first_rules.proofs.Trees.{specified_flags-words}
 use Rattle.first_form.proofs.FlagLemmas.{small-attribute}
 use Rattle.first_form.proofs.ViewLemmas.{root_parts}
 use Rattle.first_form.proofs.view.object_at.Goals as goal

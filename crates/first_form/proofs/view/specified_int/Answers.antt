@@ -1,7 +1,7 @@
 use Rattle.std.proofs.Common.{◌≡◌, ℕ, List, [], None, Some, refl, sym, subst, ◌∙◌}
 use Rattle.std.proofs.lemmas.List.Elements.{All-rest}
 use Rattle.meaning_types.specs.Types.{no_flags}
-use Rattle.meaning_rules.specs.Bindings.{specified_flags}
+use Rattle.meaning_first_rules.specs.Bindings.{specified_flags}
 use Rattle.first_form.specs.View.{HaveSmallNumbers, ShowParts}
 use Rattle.first_form.proofs.FlagLemmas.{LeadsOn-end, LeadsOn-specifier}
 use Rattle.first_form.proofs.view.specified_int.Goals as goal

@@ -2,7 +2,7 @@ use Rattle.std.proofs.Common.{ℕ, List}
 use Rattle.meaning_types.specs.Types.{no_flags}
 use Rattle.vocabulary.specs.declared.node_kind.NodeKind.TheVariants.{Specifiers}
 use Rattle.meaning_syntax.specs.Trees.{SyntaxParts, plain_node}
-use Rattle.meaning_rules.specs.Bindings.{specified_flags}
+use Rattle.meaning_first_rules.specs.Bindings.{specified_flags}
 use Rattle.first_form.specs.View.{HaveSmallNumbers, IsTableOf, Shows}
 use Rattle.first_form.proofs.FlagLemmas.{LeadsOn}
 use Rattle.first_form.proofs.view.specified_int.Given as goal

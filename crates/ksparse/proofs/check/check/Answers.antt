@@ -1,7 +1,7 @@
 use Rattle.std.proofs.Common.{◌≡◌, ◌<◌, ◌≤◌, ℕ, Some, None, true, false, length, sym, subst, arith}
 use Rattle.meaning_syntax.specs.Binding.{are_bound}
 use Rattle.meaning_syntax.specs.plain.Reading.{read_items}
-use Rattle.meaning_rules.specs.plain.Judging as judging
+use Rattle.meaning_first_rules.specs.plain.Judging as judging
 use Rattle.meaning_answer.specs.Reply.{Reply}
 use Rattle.meaning_answer.specs.Answer.{most_tokens, IsTextReply}
 use Rattle.c_tokens.specs.Seen.{toks_of}

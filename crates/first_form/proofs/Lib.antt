@@ -16,3 +16,4 @@ pub mod TextLemmas
 pub mod TreeLemmas
 pub mod UnitLemmas
 pub mod ViewLemmas
+pub mod KindLemmas

@@ -2,6 +2,7 @@ pub mod Building
 pub mod Counts
 pub mod Found
 pub mod Judged
+pub mod Kinds
 pub mod Known
 pub mod Nodes
 pub mod Object

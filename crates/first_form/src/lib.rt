@@ -13,6 +13,7 @@ mod front;
 mod identifier;
 mod item;
 mod judging;
+mod kinds;
 mod name_table;
 mod nodes;
 mod object;

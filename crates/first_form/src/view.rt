@@ -18,6 +18,7 @@ ghost use Rattle.first_form.specs.Seen.{space_of, statement_of};
 ghost use Rattle.first_form.specs.View.{AreSmallNumbers, HasBodyIn, HasFlags, HaveSmallNumbers, IsFoundAt, IsKnownExternal, IsTableOf, Shows, ShowParts, left_tree, right_tree, tokens_of};
 
 use crate::item::Statement;
+use crate::kinds::is_same_kind;
 use crate::nodes::NO_NAME;
 use crate::object::ObjectType;
 use c_tree::{Handle, Unit};
@@ -137,7 +138,7 @@ fn has_kind(unit: &Unit, node: Handle, kind: NodeKind) -> bool
     requires { IsNode unit.now node }
     ensures { IsTrue result ↔ HasNodeWith unit.now node (λ found. found.kind ≡ kind) }
 {
-    unit.kind(node) == kind
+    is_same_kind(unit.kind(node), kind)
 }
 
 // The name of a node of this kind.

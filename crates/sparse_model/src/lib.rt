@@ -5,6 +5,7 @@
 #![tactic(auto)]
 
 mod ctype;
+mod failure;
 mod ids;
 mod int_const;
 mod options;
@@ -14,6 +15,7 @@ mod space;
 mod tree;
 
 pub use ctype::{CBase, CType};
+pub use failure::{Failure, FailureList, FileNames};
 pub use ids::{NameId, NameList, Restrict, TypeId};
 pub use int_const::IntConst;
 pub use options::{Bytes, ClassSet, Options, PathList};
@@ -21,4 +23,6 @@ pub use place::Place;
 pub use seq::Seq;
 pub use space::Space;
 pub use tree::{Part, Tree, TreeList};
-pub use vocabulary::{Class, ErrorKind, IntKind, LimitKind, NodeKind, Role, RuleCode, TokenKind};
+pub use vocabulary::{
+    Class, ErrorKind, IntKind, LimitKind, NodeKind, Role, RuleCode, TokenClass, TokenKind,
+};

@@ -1,0 +1,39 @@
+-- Each example computes.
+use Rattle.std.proofs.Common.{ℕ, refl}
+use Rattle.meaning_text.specs.Punctuators.{plain_punctuators, digraphs, punctuators, punctuator_of}
+use Rattle.meaning_text.specs.Kinds.{kind_in}
+use Rattle.meaning_text.specs.Fronts.{front_of}
+use Rattle.meaning_derivation.proofs.derivations.worked_examples.Goals as goal
+
+-- names what an example opens
+opened : ℕ
+unfolding plain_punctuators digraphs punctuators punctuator_of kind_in front_of
+opened = 0
+
+pub returns-clause-trees : goal.returns-clause-trees
+unfolding opened
+returns-clause-trees c = record {
+  empty = refl;
+  declaration = refl;
+  typedef_name = refl;
+  function = refl;
+  declarator = refl;
+}
+
+pub returns-clause-refusals : goal.returns-clause-refusals
+unfolding opened
+returns-clause-refusals c = record {
+  word = refl;
+  action = refl;
+  syntax = refl;
+  limit = refl;
+  no_limit = refl;
+  action_at_limit = refl;
+  syntax_behind_limit = refl;
+  end = refl;
+  behind_extension = refl;
+  action_first = refl;
+  word_first = refl;
+  expected = refl;
+  nested = refl;
+}

@@ -1,0 +1,12 @@
+pub mod Values
+pub mod State
+pub mod Taking
+pub mod Derivation
+pub mod Units
+pub mod Lists
+pub mod Scoping
+pub mod Literals
+pub mod Actions
+pub mod plain
+pub mod laws
+pub mod examples

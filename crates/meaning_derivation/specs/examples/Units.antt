@@ -1,0 +1,155 @@
+-- Worked examples: short units, and the trees that they derive or what is told of them.
+use Rattle.std.specs.Prelude.{◌≡◌, ℕ, Option, Some, None, List, [], ◌∷◌, codes}
+use Rattle.vocabulary.specs.declared.int_kind.IntKind.TheVariants.{Int}
+use Rattle.vocabulary.specs.declared.error_kind.ErrorKind.TheVariants.{SyntaxError, NotDeclared, Redeclared, FloatingType, NestedFunction, ComputedGoto}
+use Rattle.vocabulary.specs.declared.limit.LimitKind.TheVariants.{ParseStack}
+use Rattle.vocabulary.specs.declared.role.Role.TheVariants.{Evaluated, TypePart, Unevaluated}
+use Rattle.vocabulary.specs.declared.node_kind.NodeKind.TheVariants as kinds
+use Rattle.vocabulary.specs.declared.symbol.Symbol.TheVariants.{Expression}
+use Rattle.vocabulary.specs.declared.token_class.TokenClass.TheVariants.{Semicolon}
+use Rattle.vocabulary.specs.declared.production_item.ProductionItem.TheVariants.{Nonterminal}
+use Rattle.vocabulary.specs.declared.production_item.ProductionItem.TheVariants as items
+use Rattle.meaning_text.specs.Places.{main_file}
+use Rattle.meaning_text.specs.Tokens.{Tok}
+use Rattle.meaning_text.specs.Lexing.{Lexed, Tokens, Refused, lexed_file}
+use Rattle.meaning_tree.specs.Trees.{SyntaxTree, Node, Parts, NoParts, Part}
+use Rattle.meaning_grammar.specs.Terminals.{Terminal, terminals}
+use Rattle.meaning_derivation.specs.Values.{Value, TreeValue, plain_tree, named_tree}
+use Rattle.meaning_derivation.specs.State.{Fault, IsError, PassesLimit, Outcome, Done, Fails, state_at_start}
+use Rattle.meaning_derivation.specs.Actions.{act}
+use Rattle.meaning_derivation.specs.plain.Deriving.{derive_all, derived_outcome}
+
+abbrev pub tokens_or_none : Lexed → List Tok
+tokens_or_none (Tokens tokens) = tokens
+tokens_or_none (Refused fault) = []
+
+-- the tokens of a text
+abbrev pub tokens_of : List ℕ → List Tok
+tokens_of text = tokens_or_none (lexed_file main_file text)
+
+-- what a reader of a row compares: the values that are left, or the refusal
+pub data Shown : Type 0 where
+  IsLeft : List Value → Shown
+  IsTold : Fault → (decided stands : ℕ) → Shown
+  NoOutcome : Shown
+
+abbrev pub shown : Option Outcome → Shown
+shown None = NoOutcome
+shown (Some (Done state terminals)) = IsLeft state.values
+shown (Some (Fails fault decided stands)) = IsTold fault decided stands
+
+-- what comes of the tokens of a text
+abbrev pub unit : List ℕ → Shown
+unit text = shown (derived_outcome act 400 (tokens_of text))
+
+-- a unit with these parts
+abbrev pub tree : Parts (List ℕ) → Shown
+tree parts = IsLeft (TreeValue (plain_tree kinds.TranslationUnit 0 parts) ∷ [])
+
+-- a part of a type, an evaluated part, and parts behind them
+
+abbrev pub typed : SyntaxTree → Parts (List ℕ) → Parts (List ℕ)
+typed tree parts = Part TypePart tree parts
+
+abbrev pub evaluated : SyntaxTree → Parts (List ℕ) → Parts (List ℕ)
+evaluated tree parts = Part Evaluated tree parts
+
+-- `int` at a token, as specifiers
+abbrev pub int_at : ℕ → SyntaxTree
+int_at token = plain_tree kinds.Specifiers token (typed (plain_tree kinds.IntSpecifier token NoParts) NoParts)
+
+-- `int NAME;` from this token on
+abbrev pub declared_int : ℕ → ℕ → List ℕ → SyntaxTree
+declared_int token name_token name =
+    plain_tree kinds.Declaration token (typed (int_at token) (evaluated (named_tree kinds.Declarator name_token name NoParts) NoParts))
+
+-- `(void)` at this token
+abbrev pub void_parameters : ℕ → ℕ → SyntaxTree
+void_parameters token void_token =
+    plain_tree kinds.FunctionDeclarator token
+    (typed
+    (plain_tree kinds.Parameter void_token
+    (typed (plain_tree kinds.Specifiers void_token (typed (plain_tree kinds.VoidSpecifier void_token NoParts) NoParts)) NoParts))
+    NoParts)
+
+pub record TreeExamples : Type 0 where
+  pub empty : unit [] ≡ tree NoParts
+  pub declaration : unit (codes "int x;") ≡ tree (evaluated (declared_int 0 1 (codes "x")) NoParts)
+  -- a name of a type, by the handle of its declarator: the fourth node
+  pub typedef_name :
+      unit (codes "typedef int x; x;")
+      ≡ tree
+      (evaluated
+      (plain_tree kinds.Declaration 0
+      (typed
+      (plain_tree kinds.Specifiers 0
+      (typed (plain_tree kinds.TypedefSpecifier 0 NoParts) (typed (plain_tree kinds.IntSpecifier 1 NoParts) NoParts)))
+      (evaluated (named_tree kinds.Declarator 2 (codes "x") NoParts) NoParts)))
+      (evaluated
+      (plain_tree kinds.Declaration 4
+      (typed (plain_tree kinds.Specifiers 4 (typed (Node kinds.TypedefName 4 (codes "x") 3 NoParts) NoParts)) NoParts))
+      NoParts))
+  pub function :
+      unit (codes "int y; int f(void) { return y + 1; }")
+      ≡ tree
+      (evaluated (declared_int 0 1 (codes "y"))
+      (evaluated
+      (plain_tree kinds.FunctionDefinition 3
+      (typed (int_at 3)
+      (typed (named_tree kinds.Declarator 4 (codes "f") (typed (void_parameters 5 6) NoParts))
+      (evaluated
+      (Node kinds.CompoundStatement 8 [] 14
+      (evaluated
+      (plain_tree kinds.ReturnStatement 9
+      (evaluated
+      (plain_tree kinds.Addition 11
+      (evaluated (named_tree kinds.Name 10 (codes "y") NoParts)
+      (evaluated (Node (kinds.IntegerConstant Int) 12 [] 1 NoParts) NoParts)))
+      NoParts))
+      NoParts))
+      NoParts))))
+      NoParts))
+  -- parts of a declarator stand from the specified type outwards: a pointer, a function, a pointer, an array
+  pub declarator :
+      unit (codes "int *(*f[2])(void);")
+      ≡ tree
+      (evaluated
+      (plain_tree kinds.Declaration 0
+      (typed (int_at 0)
+      (evaluated
+      (named_tree kinds.Declarator 4 (codes "f")
+      (typed (plain_tree kinds.PointerDeclarator 1 NoParts)
+      (typed (void_parameters 9 10)
+      (typed (plain_tree kinds.PointerDeclarator 3 NoParts)
+      (typed
+      (plain_tree kinds.ArrayDeclarator 5 (Part Unevaluated (Node (kinds.IntegerConstant Int) 6 [] 2 NoParts) NoParts))
+      NoParts)))))
+      NoParts)))
+      NoParts)
+
+-- what comes of an expression and a semicolon where so many symbols wait
+abbrev pub waiting : ℕ → List Terminal → Shown
+waiting pending terminals =
+    shown (derive_all act 100 (Nonterminal Expression ∷ items.Passed Semicolon ∷ []) pending (state_at_start 1 terminals) terminals)
+
+pub record RefusalExamples : Type 0 where
+  -- one of each kind: a word, an action, a syntax error, a limit
+  pub word : unit (codes "double d;") ≡ IsTold (IsError FloatingType) 0 0
+  pub action : unit (codes "int x; typedef int x;") ≡ IsTold (IsError Redeclared) 5 5
+  pub syntax : unit (codes "int x int") ≡ IsTold (IsError SyntaxError) 2 2
+  pub limit : waiting 65521 (terminals (tokens_of (codes "1;"))) ≡ IsTold (PassesLimit ParseStack) 0 0
+  -- with one symbol less the limit is reached and not passed
+  pub no_limit : waiting 65520 (terminals (tokens_of (codes "1;"))) ≡ IsLeft (TreeValue (Node (kinds.IntegerConstant Int) 0 [] 1 NoParts) ∷ [])
+  -- what is wrong at the terminal that passes the limit goes before it, what is wrong behind that doesn't
+  pub action_at_limit : waiting 65521 (terminals (tokens_of (codes "y;"))) ≡ IsTold (IsError NotDeclared) 0 0
+  pub syntax_behind_limit : waiting 65521 (terminals (tokens_of (codes "(;"))) ≡ IsTold (PassesLimit ParseStack) 0 0
+  -- at the end of the file it stands at the last token, which the grammar needn't see
+  pub end : unit (codes "int x") ≡ IsTold (IsError SyntaxError) 2 1
+  pub behind_extension : unit (codes "int x __extension__") ≡ IsTold (IsError SyntaxError) 2 2
+  -- a name that isn't declared is told ahead of what can't follow it
+  pub action_first : unit (codes "int x = y y") ≡ IsTold (IsError NotDeclared) 3 3
+  -- and an unsupported word ahead of what could be wrong there
+  pub word_first : unit (codes "int double") ≡ IsTold (IsError FloatingType) 1 1
+  -- forms that are told by what was expected
+  pub expected : unit (codes "void f(void) { goto *p; }") ≡ IsTold (IsError ComputedGoto) 7 7
+  pub nested : unit (codes "void f(void) { int g(void) { } }") ≡ IsTold (IsError NestedFunction) 11 11

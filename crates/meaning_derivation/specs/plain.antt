@@ -1,0 +1,2 @@
+-- Plain programs.
+pub mod Deriving

@@ -1,0 +1,20 @@
+// What is proved of derivations, and the examples that hold of them.
+ghost use Rattle.meaning_derivation.specs.laws.Outcomes.{ItemsHaveOneOutcome, UnitsHaveOneOutcome, AnswersAreOutcomes};
+ghost use Rattle.meaning_derivation.specs.examples.Units.{TreeExamples, RefusalExamples};
+
+/// A list of tokens has one outcome at most, a tree or a refusal, whatever the actions do.
+pub fn each_unit_has_one_outcome()
+    ensures items { ItemsHaveOneOutcome }
+    ensures units { UnitsHaveOneOutcome }
+{}
+
+/// What the plain program answers is the outcome.
+pub fn answers_are_outcomes()
+    ensures { AnswersAreOutcomes }
+{}
+
+/// Short units derive the trees, or are refused for what, that one can tell by eye.
+pub fn worked_examples()
+    ensures trees { TreeExamples }
+    ensures refusals { RefusalExamples }
+{}

@@ -1,0 +1,5 @@
+pub mod Everywhere
+pub mod Apart
+pub mod Taking
+pub mod Fitting
+pub mod Beginning

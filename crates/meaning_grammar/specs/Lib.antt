@@ -1,0 +1,14 @@
+pub mod Classes
+pub mod ClassLists
+pub mod Symbols
+pub mod Words
+pub mod Terminals
+pub mod Items
+pub mod Productions
+pub mod Looks
+pub mod Choice
+pub mod Weights
+pub mod Sorts
+pub mod Beginnings
+pub mod laws
+pub mod examples

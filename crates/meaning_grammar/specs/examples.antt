@@ -1,0 +1,3 @@
+-- Worked examples.
+pub mod Choices
+pub mod Words

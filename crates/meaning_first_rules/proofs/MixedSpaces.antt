@@ -29,8 +29,8 @@ behind_stars-injective zero f g h = ap flags_of h
 behind_stars-injective (suc stars) f g h = behind_stars-injective stars f g (ap target_of h)
   where
     target_of_base : BaseTree → TypeTree
-    target_of_base (IntegerTree kind) = int_with no_flags
     target_of_base (PointerTree target) = target
+    target_of_base base = int_with no_flags
 
     target_of : TypeTree → TypeTree
     target_of (Typed base qualifiers flags) = target_of_base base

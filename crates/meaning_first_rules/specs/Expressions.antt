@@ -1,7 +1,7 @@
 -- The types of expressions (C11 6.5): one row for each kind of node, put on trees.
 use Rattle.std.specs.Prelude.{ℕ, List, [], ◌∷◌, Option, Some, None, option_map}
 use Rattle.std.specs.Option.{option_and_then}
-use Rattle.meaning_types.specs.Types.{TypeTree, Typed, IntegerTree, PointerTree, value_type}
+use Rattle.meaning_types.specs.Types.{TypeTree, Typed, PointerTree, value_type}
 use Rattle.vocabulary.specs.declared.node_kind.NodeKind.{NodeKind}
 use Rattle.vocabulary.specs.declared.node_kind.NodeKind.TheVariants.{Name, Indirection, Address, Assignment}
 use Rattle.meaning_tree.specs.Trees.{SyntaxTree, Node, NoParts, Part}
@@ -29,7 +29,7 @@ value_fact value = record { place = None; value = value }
 -- the type of the place to which a pointer of this type points (6.5.3.2 p4)
 abbrev pub target_of : TypeTree → Option TypeTree
 target_of (Typed (PointerTree target) qualifiers flags) = Some target
-target_of (Typed (IntegerTree kind) qualifiers flags) = None
+target_of (Typed base qualifiers flags) = None
 
 -- by the kind of a node, its name, and what is known of its parts
 abbrev pub row : List Binding → NodeKind → List ℕ → List Fact → Fact

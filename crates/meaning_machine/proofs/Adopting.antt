@@ -5,8 +5,8 @@ use Rattle.std.specs.Int.Signed.{le_z_yes}
 use Rattle.vocabulary.specs.declared.int_kind.IntKind.{IntKind}
 use Rattle.vocabulary.specs.declared.int_kind.IntKind.TheVariants as kinds
 use Rattle.meaning_types.specs.Types.{Qualifiers, Flags, TypeTree, Typed, BaseTree, IntegerTree, PointerTree, bare}
-use Rattle.meaning_types.specs.Equality.{are_similar}
-use Rattle.meaning_types.proofs.Equality.{are_similar-Decides}
+use Rattle.meaning_types.specs.Equality.{are_same}
+use Rattle.meaning_types.proofs.Equality.{are_same-Decides}
 use Rattle.meaning_machine.specs.Values.{Spot, Null, Foreign, In, Value, Integer, Pointer, Block, IsInRange, SpotFits, ValueFits}
 use Rattle.meaning_machine.specs.Conversion.{spot_truth}
 use Rattle.meaning_machine.specs.Outcomes.{SpaceFault, ShapeFault, Answer, Gives, IsFault, IsUndefined}
@@ -33,17 +33,18 @@ integer-fits : (blocks : List Block) (kind : IntKind) (restricted : Option ℕ) 
     GivesFitting blocks base (adopt_integer kind restricted fouled number base)
 integer-fits blocks kind None false number (IntegerTree wanted) = (refl, refl, refl, converted_is_in_range wanted number)
 integer-fits blocks kind None false number (PointerTree wanted) = null-fits blocks wanted (int_eq number (pos 0))
+integer-fits blocks kind None false number base = tt
 integer-fits blocks kind None true number (IntegerTree wanted) = tt
-integer-fits blocks kind None true number (PointerTree wanted) = tt
+integer-fits blocks kind None true number base = tt
 integer-fits blocks kind (Some identity) fouled number (IntegerTree wanted) = tt
-integer-fits blocks kind (Some identity) fouled number (PointerTree wanted) = tt
+integer-fits blocks kind (Some identity) fouled number base = tt
 
 -- of a pointer that keeps its target, by the test of their targets
 similar-fits : (blocks : List Block) (target from wanted : TypeTree) (spot : Spot) (others : Answer Value) →
     bare target ≡ bare from → SpotFits blocks spot from → GivesFitting blocks (PointerTree wanted) others →
-    (test : Bool) → are_similar target wanted ≡ test → GivesFitting blocks (PointerTree wanted) (if test then Gives (Pointer target spot) else others)
+    (test : Bool) → are_same target wanted ≡ test → GivesFitting blocks (PointerTree wanted) (if test then Gives (Pointer target spot) else others)
 similar-fits blocks target from wanted spot others same fits rest true passed =
-    let equal = (are_similar-Decides target wanted).0 passed in
+    let equal = (are_same-Decides target wanted).0 passed in
     (equal, spot-agreeing blocks spot from wanted (sym same ∙ equal) fits)
 similar-fits blocks target from wanted spot others same fits rest false passed = rest
 
@@ -64,16 +65,17 @@ pointer-fits : (blocks : List Block) (target from : TypeTree) (spot : Spot) → 
     (base : BaseTree) → GivesFitting blocks base (adopt_pointer target spot base)
 pointer-fits blocks target from spot same fits (PointerTree wanted) =
     similar-fits blocks target from wanted spot _ same fits (unlike-fits blocks (PointerTree wanted) (differ_in_flags_alone target wanted))
-    (are_similar target wanted) refl
+    (are_same target wanted) refl
 pointer-fits blocks target from spot same fits (IntegerTree kinds.Bool) = (refl, refl, refl, truth-fits spot)
 pointer-fits blocks target from spot same fits (IntegerTree kind) = tt
+pointer-fits blocks target from spot same fits base = tt
 
 -- of any value
 value-fits : (blocks : List Block) (value : Value) (source base : BaseTree) (qualifiers : Qualifiers) (flags : Flags) → ValueFits blocks value source →
     GivesFitting blocks base (adopt value (Typed base qualifiers flags))
 value-fits blocks (Integer kind restricted fouled number) source base qualifiers flags fits = integer-fits blocks kind restricted fouled number base
 value-fits blocks (Pointer target spot) (PointerTree from) base qualifiers flags (same, fits) = pointer-fits blocks target from spot same fits base
-value-fits blocks (Pointer target spot) (IntegerTree kind) base qualifiers flags fits = absurd fits
+value-fits blocks (Pointer target spot) source base qualifiers flags fits = absurd fits
 
 pub adopted_values_fit : AdoptedValuesFit
 adopted_values_fit blocks value adopted (Typed source _ _) (Typed base qualifiers flags) fits is =

@@ -7,7 +7,7 @@ use Rattle.std.proofs.lemmas.Bool.{and_parts, false≢true, eqb-true, leb-true}
 use Rattle.std.proofs.lemmas.Option.{none-some, same_Some}
 use Rattle.meaning_types.specs.Types.{TypeTree, Typed, BaseTree, IntegerTree, PointerTree}
 use Rattle.meaning_tree.specs.Trees.{SyntaxTree, external_parts}
-use Rattle.meaning_types.proofs.Equality.{are_equal_kinds-Decides, are_similar-Decides}
+use Rattle.meaning_types.proofs.Equality.{are_equal_kinds-Decides, are_same-Decides}
 use Rattle.meaning_machine.specs.Values.{Spot, Null, Foreign, In, Value, Integer, Pointer, Made, ForObject, ForFunction, Block, HasElements, SpotFits, ValueFits, Fits}
 use Rattle.meaning_machine.specs.Memory.{content_at, block_with}
 use Rattle.meaning_machine.specs.Code.{ValueCode}
@@ -28,7 +28,7 @@ element-fits : (block : Block) (made : Made) → block.made ≡ made → (path :
     → is_element made path count type_ ≡ true → HasElements block path count type_
 element-fits block (ForObject declared) is [] count type_ passed =
     let parts = and_parts _ _ passed in
-    (declared, is, refl, eqb-true _ _ parts.0, (are_similar-Decides declared type_).0 parts.1)
+    (declared, is, refl, eqb-true _ _ parts.0, (are_same-Decides declared type_).0 parts.1)
 element-fits block (ForObject declared) is (_ ∷ _) count type_ passed = absurd (false≢true passed)
 element-fits block ForFunction is path count type_ passed = absurd (false≢true passed)
 
@@ -55,13 +55,13 @@ value-fits blocks (Integer kind None false number) (IntegerTree wanted) passed =
     ((are_equal_kinds-Decides kind wanted).0 more.0, refl, refl, (in_order _ _ more.1, in_order _ _ parts.1))
 value-fits blocks (Integer kind None true number) (IntegerTree wanted) passed = absurd (false≢true passed)
 value-fits blocks (Integer kind (Some restricted) fouled number) (IntegerTree wanted) passed = absurd (false≢true passed)
-value-fits blocks (Integer kind None false number) (PointerTree wanted) passed = absurd (false≢true passed)
-value-fits blocks (Integer kind None true number) (PointerTree wanted) passed = absurd (false≢true passed)
-value-fits blocks (Integer kind (Some restricted) fouled number) (PointerTree wanted) passed = absurd (false≢true passed)
+value-fits blocks (Integer kind None false number) base passed = absurd (false≢true passed)
+value-fits blocks (Integer kind None true number) base passed = absurd (false≢true passed)
+value-fits blocks (Integer kind (Some restricted) fouled number) base passed = absurd (false≢true passed)
 value-fits blocks (Pointer target spot) (PointerTree wanted) passed =
     let parts = and_parts _ _ passed in
-    ((are_similar-Decides target wanted).0 parts.0, spot-fits blocks spot wanted parts.1)
-value-fits blocks (Pointer target spot) (IntegerTree wanted) passed = absurd (false≢true passed)
+    ((are_same-Decides target wanted).0 parts.0, spot-fits blocks spot wanted parts.1)
+value-fits blocks (Pointer target spot) base passed = absurd (false≢true passed)
 
 -- of a value, at a type
 fits_now-Fits : (blocks : List Block) (value : Value) (type_ : TypeTree) → fits_now blocks value type_ ≡ true → Fits blocks value type_

@@ -4,7 +4,7 @@ use Rattle.std.specs.Prelude.{int_le, T}
 use Rattle.std.specs.Option.{option_and_then}
 use Rattle.std.proofs.lemmas.Bool.{and_from, eq-eqb, le-leb}
 use Rattle.meaning_types.specs.Types.{TypeTree, Typed, BaseTree, IntegerTree, PointerTree}
-use Rattle.meaning_types.proofs.Equality.{are_equal_kinds-Decides, are_similar-Decides}
+use Rattle.meaning_types.proofs.Equality.{are_equal_kinds-Decides, are_same-Decides}
 use Rattle.meaning_tree.specs.Trees.{SyntaxTree, external_parts}
 use Rattle.meaning_machine.specs.Values.{Spot, Null, Foreign, In, Value, Integer, Pointer, Block, HasElements, SpotFits, ValueFits, Fits}
 use Rattle.meaning_machine.specs.Code.{ValueCode}
@@ -29,7 +29,7 @@ passed-element :
     (block : Block) (path : List ℕ) (count : ℕ) (type_ : TypeTree) → HasElements block path count type_
     → is_element block.made path count type_ ≡ true
 passed-element block path count type_ (declared, made, at, is_one, equal) =
-    rw (made, at) (and_from _ _ (eq-eqb count 1 is_one) ((are_similar-Decides declared type_).1 equal))
+    rw (made, at) (and_from _ _ (eq-eqb count 1 is_one) ((are_same-Decides declared type_).1 equal))
 
 -- of any pointer
 passed-spot : (blocks : List Block) (spot : Spot) (target : TypeTree) → SpotFits blocks spot target → spot_fits_now blocks spot target ≡ true
@@ -43,10 +43,10 @@ passed-value : (blocks : List Block) (value : Value) (base : BaseTree) → Value
 passed-value blocks (Integer kind restricted fouled number) (IntegerTree wanted) (equal, plain, clean, within) =
     rw (plain, clean)
     (and_from _ _ (and_from _ _ ((are_equal_kinds-Decides kind wanted).1 equal) (passed-order _ _ within.0)) (passed-order _ _ within.1))
-passed-value blocks (Integer kind restricted fouled number) (PointerTree wanted) fits = absurd fits
-passed-value blocks (Pointer target spot) (IntegerTree wanted) fits = absurd fits
+passed-value blocks (Integer kind restricted fouled number) base fits = absurd fits
 passed-value blocks (Pointer target spot) (PointerTree wanted) (equal, spot_fits) =
-    and_from _ _ ((are_similar-Decides target wanted).1 equal) (passed-spot blocks spot wanted spot_fits)
+    and_from _ _ ((are_same-Decides target wanted).1 equal) (passed-spot blocks spot wanted spot_fits)
+passed-value blocks (Pointer target spot) base fits = absurd fits
 
 -- of a value, at a type
 Fits-fits_now : (blocks : List Block) (value : Value) (type_ : TypeTree) → Fits blocks value type_ → fits_now blocks value type_ ≡ true

@@ -32,13 +32,13 @@ fits-equal_base :
     (blocks : List Block) (value : Value) (base other : BaseTree) → bare_base base ≡ bare_base other → ValueFits blocks value base → ValueFits blocks value other
 fits-equal_base blocks (Integer kind restricted fouled number) (IntegerTree wanted) (IntegerTree other) same (equal, plain, clean, within) =
     (equal ∙ cc same, plain, clean, within)
-fits-equal_base blocks (Integer kind restricted fouled number) (IntegerTree wanted) (PointerTree other) same fits = cc same
-fits-equal_base blocks (Integer kind restricted fouled number) (PointerTree wanted) other same fits = absurd fits
-fits-equal_base blocks (Pointer target spot) (IntegerTree wanted) other same fits = absurd fits
-fits-equal_base blocks (Pointer target spot) (PointerTree wanted) (IntegerTree other) same fits = absurd (cc same)
+fits-equal_base blocks (Integer kind restricted fouled number) (IntegerTree wanted) other same fits = absurd (cc same)
+fits-equal_base blocks (Integer kind restricted fouled number) base other same fits = absurd fits
 fits-equal_base blocks (Pointer target spot) (PointerTree wanted) (PointerTree other) same (equal, spot_fits) =
     let targets : bare wanted ≡ bare other = cc same in
     (equal ∙ targets, spot-agreeing blocks spot wanted other targets spot_fits)
+fits-equal_base blocks (Pointer target spot) (PointerTree wanted) other same fits = absurd (cc same)
+fits-equal_base blocks (Pointer target spot) base other same fits = absurd fits
 
 -- what fits a type fits each that agrees with it
 pub fits-agreeing : (blocks : List Block) (value : Value) (type_ other : TypeTree) → Agree type_ other → Fits blocks value type_ → Fits blocks value other
@@ -67,9 +67,9 @@ value-made :
     (blocks others : List Block) (value : Value) (base : BaseTree) → map (λ block. block.made) blocks ≡ map (λ block. block.made) others
     → ValueFits blocks value base → ValueFits others value base
 value-made blocks others (Integer kind restricted fouled number) (IntegerTree wanted) same fits = fits
-value-made blocks others (Integer kind restricted fouled number) (PointerTree wanted) same fits = absurd fits
-value-made blocks others (Pointer target spot) (IntegerTree wanted) same fits = absurd fits
+value-made blocks others (Integer kind restricted fouled number) base same fits = absurd fits
 value-made blocks others (Pointer target spot) (PointerTree wanted) same (equal, spot_fits) = (equal, spot-made blocks others spot wanted same spot_fits)
+value-made blocks others (Pointer target spot) base same fits = absurd fits
 
 -- what fits depends on what the blocks are made for alone
 pub fits-made :

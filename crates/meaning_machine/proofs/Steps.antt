@@ -86,9 +86,9 @@ moved-sound scope blocks (Pointer from spot) (Typed (PointerTree to) qualifiers 
   behind_lvalue-sound scope (record { type_ = from; spot = spot }) target after
       (subst (λ t. LvalueFits scope (record { type_ = from; spot = spot }) t) (cc e) fits) takes,
 )
-moved-sound scope blocks (Pointer from spot) (Typed (IntegerTree kind) qualifiers flags) target token after sound fits e takes = absurd fits
-moved-sound scope blocks (Integer kind restricted fouled number) (Typed (PointerTree to) qualifiers flags) target token after sound fits e takes = absurd fits
+moved-sound scope blocks (Pointer from spot) (Typed base qualifiers flags) target token after sound fits e takes = absurd fits
 moved-sound scope blocks (Integer kind restricted fouled number) (Typed (IntegerTree wanted) qualifiers flags) target token after sound fits e takes = cc e
+moved-sound scope blocks (Integer kind restricted fouled number) (Typed base qualifiers flags) target token after sound fits e takes = absurd fits
 
 -- the stored value goes on
 written-sound :

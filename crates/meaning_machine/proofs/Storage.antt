@@ -3,7 +3,7 @@ use Rattle.std.proofs.Common.{◌≡◌, ℕ, zero, suc, ◌⊎◌, inl, inr, �
 use Rattle.std.proofs.Math.Seq.{map-set_same}
 use Rattle.std.proofs.lemmas.Option.{get_or_from_slice_get}
 use Rattle.meaning_types.specs.Types.{TypeTree, Typed, IntegerTree, PointerTree, has_flag, bare}
-use Rattle.meaning_types.proofs.Equality.{are_similar-Decides}
+use Rattle.meaning_types.proofs.Equality.{are_same-Decides}
 use Rattle.meaning_first_rules.specs.Bindings.{Binding}
 use Rattle.meaning_machine.specs.Values.{Spot, Null, Foreign, In, Value, Integer, Pointer, Lvalue, ForObject, Cell, Block, IsInRange, SpotFits, Fits}
 use Rattle.meaning_machine.specs.Outcomes.{DeadBlock, OutOfBounds, ReadOnly, AccessFault, Answer, Gives, IsFault, IsUndefined}
@@ -21,9 +21,9 @@ adopted-fitting blocks (Integer kind None false number) (Typed (IntegerTree want
     ∙ ap (λ k. Gives (Integer k None false number)) (sym equal)
 adopted-fitting blocks (Integer kind None true number) (Typed (IntegerTree wanted) qualifiers flags) (equal, plain, clean, within) = cc clean
 adopted-fitting blocks (Integer kind (Some identity) fouled number) (Typed (IntegerTree wanted) qualifiers flags) (equal, plain, clean, within) = cc plain
-adopted-fitting blocks (Integer kind restricted fouled number) (Typed (PointerTree wanted) qualifiers flags) fits = absurd fits
-adopted-fitting blocks (Pointer target spot) (Typed (PointerTree wanted) qualifiers flags) fits = rw ((are_similar-Decides target wanted).1 fits.0) refl
-adopted-fitting blocks (Pointer target spot) (Typed (IntegerTree wanted) qualifiers flags) fits = absurd fits
+adopted-fitting blocks (Integer kind restricted fouled number) (Typed base qualifiers flags) fits = absurd fits
+adopted-fitting blocks (Pointer target spot) (Typed (PointerTree wanted) qualifiers flags) fits = rw ((are_same-Decides target wanted).1 fits.0) refl
+adopted-fitting blocks (Pointer target spot) (Typed base qualifiers flags) fits = absurd fits
 
 -- a value that fits is adopted as it is
 pub adopted-as-it-is :
@@ -59,7 +59,7 @@ sound-load_block :
     → IsSoundLoad scope type_ (load_block (Some block) place_type path index length)
 sound-load_block scope block declared place_type type_ path index length cells_fit made equal same =
     let is_made : is_made_for block.made place_type ≡ true =
-    ap (λ m. is_made_for m place_type) made ∙ (are_similar-Decides declared place_type).1 (equal ∙ sym same)
+    ap (λ m. is_made_for m place_type) made ∙ (are_same-Decides declared place_type).1 (equal ∙ sym same)
     in
     rw is_made (
     sound-reading scope type_ block.is_alive (nat_lt index length) (content_at block.cells path) (λ value stands.

@@ -2,7 +2,7 @@
 use Rattle.std.proofs.Common.{◌≡◌, ◌≢◌, ℕ, zero, suc, Bool, true, false, List, [], ◌∷◌, All, Option, Some, None, slice_get, if◌then◌else◌, refl, subst}
 use Rattle.std.specs.Str.{bytes_eq}
 use Rattle.std.proofs.lemmas.List.Elements.{All-append, All-cons, All-nil, All-get_or, All-set}
-use Rattle.std.proofs.lemmas.Option.{get_or_from_slice_get, slice_get_within}
+use Rattle.std.proofs.lemmas.Option.{get_or_from_slice_get, same_Some, slice_get_within}
 use Rattle.meaning_types.specs.Types.{TypeTree, Typed, IntegerTree, PointerTree}
 use Rattle.meaning_tree.specs.Trees.{SyntaxTree, external_parts}
 use Rattle.meaning_syntax.specs.Trees.{IsInFirstForm}
@@ -23,12 +23,15 @@ use Rattle.meaning_machine.proofs.WellTyped.{are_statements}
 -- The opening world
 
 -- zero and null fit
-opening_value-fits : (scope : List Binding) (type_ : TypeTree) → ValueFitsIn scope (opening_value type_) type_
-opening_value-fits scope (Typed (IntegerTree kind) qualifiers flags) = (refl, refl, refl, zero-in_range kind)
-opening_value-fits scope (Typed (PointerTree target) qualifiers flags) = (refl, tt)
+opening_value-fits : (scope : List Binding) (type_ : TypeTree) (value : Value) → opening_value type_ ≡ Some value → ValueFitsIn scope value type_
+opening_value-fits scope (Typed (IntegerTree kind) qualifiers flags) value is =
+    subst (λ v. ValueFitsIn scope v (Typed (IntegerTree kind) qualifiers flags)) (same_Some _ _ is) (refl, refl, refl, zero-in_range kind)
+opening_value-fits scope (Typed (PointerTree target) qualifiers flags) value is =
+    subst (λ v. ValueFitsIn scope v (Typed (PointerTree target) qualifiers flags)) (same_Some _ _ is) (refl, tt)
+opening_value-fits scope (Typed base qualifiers flags) value is = absurd (cc is)
 
 -- the one cell of an object has its one value
-only_content : (is_there : Bool) (content value : Value) → (if is_there then Some (Some content) else None) ≡ Some (Some value) → content ≡ value
+only_content : (is_there : Bool) (content : Option Value) (value : Value) → (if is_there then Some content else None) ≡ Some (Some value) → content ≡ Some value
 only_content true content value e = cc e
 only_content false content value e = cc e
 
@@ -36,8 +39,8 @@ only_content false content value e = cc e
 opening_block-fits : (scope : List Binding) (object : Option TypeTree) → CellsFit scope (opening_block object)
 opening_block-fits scope None declared made path value there = cc made
 opening_block-fits scope (Some type_) declared made path value there =
-    subst (λ v. ValueFitsIn scope v declared) (only_content (bytes_eq [] path) (opening_value type_) value there)
-    (subst (λ t. ValueFitsIn scope (opening_value type_) t) (cc made) (opening_value-fits scope type_))
+    subst (λ t. ValueFitsIn scope value t) (cc made)
+    (opening_value-fits scope type_ value (only_content (bytes_eq [] path) (opening_value type_) value there))
 
 opening_blocks-fit :
     (scope bindings : List Binding) (number : ℕ) (block : Block) → slice_get (first_blocks bindings) number ≡ Some block → CellsFit scope block

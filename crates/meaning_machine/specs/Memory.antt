@@ -5,7 +5,7 @@ use Rattle.std.specs.Str.{bytes_eq}
 use Rattle.vocabulary.specs.declared.int_kind.IntKind.{IntKind}
 use Rattle.vocabulary.specs.declared.int_kind.IntKind.TheVariants as kinds
 use Rattle.meaning_types.specs.Types.{TypeTree, Typed, BaseTree, IntegerTree, PointerTree, flags_of, has_flag}
-use Rattle.meaning_types.specs.Equality.{are_similar}
+use Rattle.meaning_types.specs.Equality.{are_same}
 use Rattle.meaning_machine.specs.Values.{Spot, Null, Foreign, In, Value, Integer, Pointer, Lvalue, Made, ForObject, ForFunction, Cell, Block}
 use Rattle.meaning_machine.specs.Conversion.{spot_truth, converted}
 use Rattle.meaning_machine.specs.Outcomes.{NullPointer, DeadBlock, ForeignPointer, OutOfBounds, IndeterminateValue, ReadOnly, AccessFault, SpaceFault, RestrictedFault, ShapeFault, Answer, Gives, IsFault, IsUndefined}
@@ -25,11 +25,11 @@ adopt_integer kind restricted fouled number base = IsFault ShapeFault
 -- a pointer keeps its own target, and is 0 or 1 as a _Bool (6.3.1.2)
 abbrev pub adopt_pointer : TypeTree → Spot → BaseTree → Answer Value
 adopt_pointer target spot (PointerTree wanted) =
-    if are_similar target wanted then Gives (Pointer target spot)
+    if are_same target wanted then Gives (Pointer target spot)
     else (if differ_in_flags_alone target wanted then IsFault SpaceFault
     else IsFault ShapeFault)
 adopt_pointer target spot (IntegerTree kinds.Bool) = Gives (Integer kinds.Bool None false (spot_truth spot))
-adopt_pointer target spot (IntegerTree kind) = IsFault ShapeFault
+adopt_pointer target spot base = IsFault ShapeFault
 
 -- a value as a place of this type has it
 abbrev pub adopt : Value → TypeTree → Answer Value
@@ -55,7 +55,7 @@ block_with block path value = record block { cells = with_content block.cells pa
 
 -- the block is made for objects of this type
 abbrev pub is_made_for : Made → TypeTree → Bool
-is_made_for (ForObject declared) type_ = are_similar declared type_
+is_made_for (ForObject declared) type_ = are_same declared type_
 is_made_for ForFunction type_ = false
 
 -- the block is made for an object that is const

@@ -17,13 +17,14 @@ pub record World : Type 0 where
 
 -- The opening world: each object begins with zero or null (6.7.9 p10), and no activity runs
 
--- zero, or the null pointer
-abbrev pub zero_of : BaseTree → Value
-zero_of (IntegerTree kind) = Integer kind None false (pos 0)
-zero_of (PointerTree target) = Pointer target Null
+-- zero, or the null pointer; the first form has objects of no other type
+abbrev pub zero_of : BaseTree → Option Value
+zero_of (IntegerTree kind) = Some (Integer kind None false (pos 0))
+zero_of (PointerTree target) = Some (Pointer target Null)
+zero_of base = None
 
--- the value with which an object of this type begins
-abbrev pub opening_value : TypeTree → Value
+-- the value with which an object of this type begins, if it begins with one
+abbrev pub opening_value : TypeTree → Option Value
 opening_value (Typed base _ _) = zero_of base
 
 -- the block of an object, with one cell, or of a function, without any
@@ -33,7 +34,7 @@ opening_block (Some declared) =
     record {
       made = ForObject declared;
       is_alive = true;
-      cells = record { path = []; content = Some (opening_value declared) } ∷ [];
+      cells = record { path = []; content = opening_value declared } ∷ [];
     }
 
 -- what the declarations and functions of a unit bind, in order

@@ -57,13 +57,13 @@ SpotFits blocks Foreign target = Unit {0}
 SpotFits blocks (In block path index length) target =
     (there : Block) × (slice_get blocks block ≡ Some there) × HasElements there path length target × (index ≤ length)
 
--- a plain number that the kind holds, or a pointer with the wanted bare target and a spot that fits it
+-- a plain number that the kind holds, or a pointer with the wanted bare target and a spot that fits it; the first
+-- form has values of no other type
 abbrev pub ValueFits : List Block → Value → BaseTree → Type 0
 ValueFits blocks (Integer kind restricted fouled number) (IntegerTree wanted) =
     (kind ≡ wanted) × (restricted ≡ None) × (fouled ≡ false) × IsInRange kind number
 ValueFits blocks (Pointer target spot) (PointerTree wanted) = (bare target ≡ bare wanted) × SpotFits blocks spot wanted
-ValueFits blocks (Integer kind restricted fouled number) (PointerTree wanted) = ⊥
-ValueFits blocks (Pointer target spot) (IntegerTree wanted) = ⊥
+ValueFits blocks value base = ⊥
 
 -- the value fits the type: const and volatile make no difference, and its outermost flags are the place's alone
 abbrev pub Fits : List Block → Value → TypeTree → Type 0

@@ -1,1 +1,4 @@
 pub mod Equality
+pub mod Levels
+pub mod Spaces
+pub mod Conversions

@@ -1,7 +1,10 @@
 pub mod Types
+pub mod Marks
 pub mod Ranges
 pub mod Equality
 pub mod Spaces
+pub mod Conversions
+pub mod Composite
 pub mod Spelling
 pub mod laws
 pub mod examples

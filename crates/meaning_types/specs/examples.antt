@@ -1,2 +1,3 @@
 -- Worked examples.
 pub mod Types
+pub mod Derived

@@ -6,4 +6,7 @@
 
 mod types;
 
-pub use types::{equality_is_decided, worked_examples};
+pub use types::{
+    derived_examples, equality_is_decided, normal_types_stay, pointers_are_decided,
+    usual_conversions, worked_examples,
+};

@@ -3,7 +3,7 @@ use Rattle.std.specs.Prelude.{◌≡◌, ℕ, Bool, true, false, ◌&&◌, List,
 use Rattle.std.specs.Option.{option_and_then}
 use Rattle.meaning_types.specs.Types.{TypeTree, Typed, BaseTree, IntegerTree, PointerTree}
 use Rattle.meaning_types.specs.Ranges.{least, greatest}
-use Rattle.meaning_types.specs.Equality.{are_equal_kinds, are_similar}
+use Rattle.meaning_types.specs.Equality.{are_equal_kinds, are_same}
 use Rattle.meaning_tree.specs.Trees.{SyntaxTree, external_parts}
 use Rattle.meaning_machine.specs.Values.{Spot, Null, Foreign, In, Value, Integer, Pointer, Made, ForObject, ForFunction, Block}
 use Rattle.meaning_machine.specs.Memory.{content_at, block_with}
@@ -16,7 +16,7 @@ use Rattle.meaning_machine.specs.Runs.{World, opening, Move, Start, Step, Write,
 
 -- the block is made for one object of this type, but for const and volatile
 abbrev pub is_element : Made → List ℕ → ℕ → TypeTree → Bool
-is_element (ForObject declared) [] count type_ = nat_eq count 1 && are_similar declared type_
+is_element (ForObject declared) [] count type_ = nat_eq count 1 && are_same declared type_
 is_element (ForObject declared) (_ ∷ _) count type_ = false
 is_element ForFunction path count type_ = false
 
@@ -35,7 +35,7 @@ spot_fits_now blocks (In block path index length) target = block_fits_now (slice
 abbrev pub value_fits_now : List Block → Value → BaseTree → Bool
 value_fits_now blocks (Integer kind None false number) (IntegerTree wanted) =
     are_equal_kinds kind wanted && int_le (least kind) number && int_le number (greatest kind)
-value_fits_now blocks (Pointer target spot) (PointerTree wanted) = are_similar target wanted && spot_fits_now blocks spot wanted
+value_fits_now blocks (Pointer target spot) (PointerTree wanted) = are_same target wanted && spot_fits_now blocks spot wanted
 value_fits_now blocks value base = false
 
 -- the value fits the type

@@ -3,7 +3,7 @@ use Rattle.std.specs.Prelude.{◌≡◌, ℕ, ◌-◌, ◌^◌, true, false, pos
 use Rattle.std.specs.Fmt.{decimal}
 use Rattle.vocabulary.specs.declared.int_kind.IntKind.{IntKind}
 use Rattle.vocabulary.specs.declared.int_kind.IntKind.TheVariants.{Bool, Char, SChar, UChar, Short, UShort, Int, UInt, Long, ULong, LLong, ULLong}
-use Rattle.meaning_types.specs.Types.{Space, NoSpace, NumberedSpace, NamedSpace, Qualifiers, Flags, TypeTree, Typed, IntegerTree, PointerTree, no_qualifiers, no_flags, flags_of, has_flag, value_type, bare, without_flags}
+use Rattle.meaning_types.specs.Types.{Space, NoSpace, NumberedSpace, NamedSpace, Qualifiers, Flags, TypeTree, Typed, IntegerTree, PointerTree, no_qualifiers, no_flags, flags_of, has_flag, value_type, pointer_to, bare, without_flags}
 use Rattle.meaning_types.specs.Ranges.{width, least, greatest}
 use Rattle.meaning_types.specs.Spelling.{space_spelling, spelling}
 use Rattle.meaning_types.specs.Spaces.{MixSpaces}
@@ -40,9 +40,6 @@ int_with qualifiers flags = Typed (IntegerTree Int) qualifiers flags
 
 abbrev pub flagged_int : Flags → TypeTree
 flagged_int flags = int_with no_qualifiers flags
-
-abbrev pub pointer_to : TypeTree → TypeTree
-pointer_to target = Typed (PointerTree target) no_qualifiers no_flags
 
 -- a const noderef pointer to a volatile int in this space
 abbrev pub marked_pointer : TypeTree

@@ -1,9 +1,9 @@
 -- The examples compute; types that differ do so in a part that tells them apart.
 use Rattle.std.proofs.Common.{◌≡◌, ◌≢◌, refl, inl, inr, arith}
 use Rattle.vocabulary.specs.declared.int_kind.IntKind.TheVariants.{Char, Int}
-use Rattle.meaning_types.specs.Types.{TypeTree, no_flags, flags_of, bare, without_flags}
+use Rattle.meaning_types.specs.Types.{TypeTree, no_flags, flags_of, pointer_to, bare, without_flags}
 use Rattle.meaning_types.specs.Spaces.{TargetsMixSpaces}
-use Rattle.meaning_types.specs.examples.Types.{only_const, only_volatile, only_noderef, in_space, user, plain, int_with, flagged_int, pointer_to}
+use Rattle.meaning_types.specs.examples.Types.{only_const, only_volatile, only_noderef, in_space, user, plain, int_with, flagged_int}
 use Rattle.meaning_types.proofs.types.worked_examples.Goals as goal
 
 -- targets with equal flags don't mix spaces if they are equal but for qualifiers

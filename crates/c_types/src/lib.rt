@@ -1,0 +1,17 @@
+//! The types of a unit, each once.
+//!
+//! A type is known by its number, and contracts see the table as the list of its types, as trees.
+//! Equal types have equal numbers, so comparing is cheap, and nothing here walks a type. Start reading
+//! at [`Types`].
+#![tactic(auto)]
+
+mod form;
+mod kinds;
+mod making;
+mod rows;
+mod shapes;
+mod table;
+
+pub use kinds::{bits, has_sign, promoted_kind, rank, usual_kind};
+pub use shapes::{ShapeBase, TypeIdList, TypeShape};
+pub use table::Types;

@@ -1,0 +1,10 @@
+pub mod Tokens
+pub mod Pieces
+pub mod Words
+pub mod Attributes
+pub mod Meanings
+pub mod Contexts
+pub mod Items
+pub mod Reading
+pub mod laws
+pub mod examples

@@ -1,0 +1,3 @@
+-- Worked examples.
+pub mod Attributes
+pub mod Contexts

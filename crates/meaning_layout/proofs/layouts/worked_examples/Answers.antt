@@ -1,0 +1,51 @@
+-- Each example computes.
+use Rattle.std.proofs.Common.{refl}
+use Rattle.meaning_layout.proofs.layouts.worked_examples.Goals as goal
+
+pub returns-clause-plain : goal.returns-clause-plain
+returns-clause-plain c = record {
+  empty = refl;
+  arrays = refl;
+  three_sizes = refl;
+  attributes_before_the_tag = refl;
+  without_a_length = refl;
+  unions = refl;
+  unnamed_in_a_union = refl;
+}
+
+pub returns-clause-fields : goal.returns-clause-fields
+returns-clause-fields c = record {
+  next_unit = refl;
+  width_0 = refl;
+  width_0_before_a_char = refl;
+  unnamed_raises_nothing = refl;
+  long_unit = refl;
+  char_unit = refl;
+  behind_a_field = refl;
+  units_of_two_types = refl;
+  bools = refl;
+  char_in_the_unit = refl;
+}
+
+pub returns-clause-written : goal.returns-clause-written
+returns-clause-written c = record {
+  packed_int = refl;
+  packed_and_aligned = refl;
+  aligned_in_packed = refl;
+  packed_fields = refl;
+  aligned_body = refl;
+  aligned_member = refl;
+  aligned_field = refl;
+  one_of_two = refl;
+  both = refl;
+}
+
+pub returns-clause-sizes : goal.returns-clause-sizes
+returns-clause-sizes c = record {
+  largest = refl;
+  one_more = refl;
+  padding_counts = refl;
+  padding_is_too_large = refl;
+  unions = refl;
+  empty_ones = refl;
+}

@@ -1,0 +1,23 @@
+// What is proved of layouts, and examples.
+ghost use Rattle.meaning_layout.specs.laws.Layouts.{SizesAreMultiples, MembersLieInside, MembersStandApart, FieldsLieInUnits, MembersAreAligned, UnionsBeginAtOnce};
+ghost use Rattle.meaning_layout.specs.examples.Layouts.{PlainExamples, FieldExamples, WrittenExamples, SizeExamples};
+
+/// A size is a multiple of the alignment, and members lie inside; in a structure no two of them share a
+/// bit, in a union all begin with the first one; a bit-field lies in one unit of its declared type, and
+/// another member at a multiple of its alignment.
+pub fn layouts_are_sound()
+    ensures multiples { SizesAreMultiples }
+    ensures inside { MembersLieInside }
+    ensures apart { MembersStandApart }
+    ensures units { FieldsLieInUnits }
+    ensures aligned { MembersAreAligned }
+    ensures unions { UnionsBeginAtOnce }
+{}
+
+/// Bodies have the sizes, alignments and first bits that one can count.
+pub fn worked_examples()
+    ensures plain { PlainExamples }
+    ensures fields { FieldExamples }
+    ensures written { WrittenExamples }
+    ensures sizes { SizeExamples }
+{}

@@ -1,0 +1,4 @@
+-- Worked examples.
+pub mod Operands
+pub mod Operators
+pub mod Conversions

@@ -1,9 +1,9 @@
 -- How an argument is kept as it was written.
-use Rattle.std.proofs.Common.{◌≡◌, ◌<◌, ◌≤◌, ◌+◌, ℕ, List, [], ◌∷◌, ◌++◌, length, refl, sym, ap, ◌∙◌, arith, length-append}
+use Rattle.std.proofs.Common.{◌≡◌, ◌<◌, ◌≤◌, List, [], ◌∷◌, ◌++◌, length, refl, sym, ap, ◌∙◌, arith, length-append}
 use Rattle.std.proofs.lemmas.List.{append_assoc, append-nil}
 use Rattle.c_macros.specs.declared.item.Item.{Item}
 use Rattle.c_macros.specs.Waiting.{backwards}
-use Rattle.c_macros.proofs.VectorLemmas.{Top, popped, length-backwards}
+use Rattle.c_macros.proofs.VectorLemmas.{popped, length-backwards}
 
 -- some of the items are kept, and the rest are left
 pub record Keeping (below now rest old raw : List Item) : Type 0 where

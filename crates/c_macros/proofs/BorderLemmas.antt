@@ -1,15 +1,19 @@
 -- What a run says of the tokens that are read through the table of names.
-use Rattle.std.proofs.Common.{◌≡◌, ◌<◌, ◌≤◌, ℕ, Bool, true, false, List, [], ◌∷◌, ◌++◌, length, map, reverse, All, Option, Some, None, cond, refl, sym, ap, subst, ◌∙◌, arith, length-append}
+use Rattle.std.proofs.Common.{◌≡◌, ◌<◌, ◌≤◌, ℕ, Bool, true, false, nat_eq, List, [], ◌∷◌, ◌++◌, length, map, reverse, All, Option, Some, None, option_map, unwrap_or, codes, cond, if◌then◌else◌, refl, sym, ap, subst, ◌∙◌, ⊎_elim, arith, eq-eqb, length-append}
 use Rattle.std.specs.Map.{lookup}
+use Rattle.std.specs.Str.{bytes_eq}
+use Rattle.std.proofs.lemmas.Bool.{both_ways}
+use Rattle.std.proofs.lemmas.Bool.Decides.{eqb_tells}
 use Rattle.std.proofs.lemmas.Grind.{reverse_onto}
 use Rattle.std.proofs.lemmas.List.{append-nil, length-map, get_or-map}
-use Rattle.std.proofs.lemmas.List.Elements.{All-head, All-push, All-tail, All-weaker}
-use Rattle.std.proofs.lemmas.Option.{same_Some, none-some}
+use Rattle.std.proofs.lemmas.List.Elements.{All-head, All-push, All-tail}
 use Rattle.meaning_macros.specs.Hiding.{hides_nothing}
 use Rattle.meaning_macros.specs.Macros as macros
 use Rattle.meaning_macros.specs.Expansion as expansion
 use Rattle.meaning_macros.specs.Expansion.{Expanded, Expander}
+use Rattle.meaning_macros.specs.laws.Expansion.{HaveSameMacros}
 use Rattle.meaning_macros.proofs.Cases.{expansion-is}
+use Rattle.meaning_macros.proofs.TableLemmas.{expand_by-table}
 use Rattle.number_sets.specs.NumberSets as sets
 use Rattle.number_sets.specs.NumberSets.{IsSet, numbers_at}
 use Rattle.sparse_model.specs.declared.ids.NameId.{NameId}
@@ -22,15 +26,17 @@ use Rattle.c_macros.specs.declared.definition.Macro.{Macro}
 use Rattle.c_macros.specs.declared.item.Item.{Item}
 use Rattle.c_macros.specs.declared.run.Run.{Run}
 use Rattle.c_macros.specs.Ends.{budget_by}
-use Rattle.c_macros.specs.Expanded.{KnowsAll, expanded_of, fresh_item, no_sets, token_of}
+use Rattle.c_macros.specs.Expanded.{expanded_of, fresh_item, no_sets, token_of}
 use Rattle.c_macros.specs.Meaning.{IsExpansion}
 use Rattle.c_macros.specs.Parameters.{params_in}
 use Rattle.c_macros.specs.Reading.{Reading, Reads, ReadsNames, hidings_by, names_of}
 use Rattle.c_macros.specs.Run.{Comes, IsKnownItem, KnowsTable, outcome, table_by}
-use Rattle.c_macros.specs.Seen.{IsKnownMacro, macro_by, macro_of, params_by, table_of, token_by}
+use Rattle.c_macros.specs.Seen.{IsKnownMacro, KnowsAll, macro_by, macro_of, params_by, table_of, token_by}
 use Rattle.c_macros.specs.Table.{Table}
 use Rattle.c_macros.specs.Waiting.{Waiting, backwards, calls_of, call_of}
 use Rattle.c_macros.proofs.HideLemmas.{Reads-earlier}
+use Rattle.c_macros.proofs.KnowsLemmas.{All-named, macro-Extends}
+use Rattle.c_macros.proofs.PredefinedLemmas.{spelled-found}
 use Rattle.c_macros.proofs.ReadingLemmas.{spelled_by, spelled_by-known, spelled_by-KeepsApart}
 
 -- a list the other way round, as std has it
@@ -38,27 +44,12 @@ pub reverse-is : {X : Type 0} (xs : List X) → reverse xs ≡ backwards xs
 reverse-is [] = refl
 reverse-is (x ∷ xs) = reverse_onto xs x [] ∙ ap (λ ys. ys ++ x ∷ []) (reverse-is xs)
 
--- what is known of all values of a map is known of one that is found
-found-known : {K V : Type 0} (Q : V → Type 0) (test : K → Bool) (entries : List (K × V)) (v : V) → All (λ (entry : K × V). Q entry.1) entries → lookup test entries ≡ Some v → Q v
-found-known Q test [] v known found = absurd (none-some v found)
-found-known Q test (entry ∷ entries) v known found = by (found-known Q test entries v (All-tail (λ e. Q e.1) entry entries known)) (test entry.0) found
-  where
-    by : (lookup test entries ≡ Some v → Q v) → (this : Bool) → cond this (Some entry.1) (lookup test entries) ≡ Some v → Q v
-    by others true same = subst Q (same_Some entry.1 v same) (All-head (λ e. Q e.1) entry entries known)
-    by others false same = others same
-
 pub knows-table : (names : List (List ℕ)) (table : Table) → KnowsAll names table → KnowsTable names table
-knows-table names table knows = record {
-  macros = λ name m found. found-known (IsKnownMacro names) _ table.macros m knows.macros found;
-  files = λ file name found. found-known (IsKnown names) _ table.files name knows.files found;
-}
+knows-table names table knows = record { macros = knows.macros; files = knows.files }
 
 pub knows-later : (names later : List (List ℕ)) (table : Table) → Extends names later → KnowsTable names table → KnowsTable later table
 knows-later names later table more knows = record {
-  macros = λ name m found. let known = knows.macros name m found in record {
-    params = All-weaker (IsKnown names) (IsKnown later) (IsKnown-Extends names later more) (params_in m.params) known.params;
-    body = All-weaker (λ (t : Token). IsKnown names t.name) (λ (t : Token). IsKnown later t.name) (λ t. IsKnown-Extends names later more t.name) m.body known.body;
-  };
+  macros = λ name m found. macro-Extends names later more m (knows.macros name m found);
   files = λ file name found. IsKnown-Extends names later more name (knows.files file name found);
 }
 
@@ -84,22 +75,47 @@ params-read names r reads (Some ids) known = ap Some (ids-read names r reads ids
 macro-read : (names : List (List ℕ)) (r : Reading) → ReadsNames names r → (m : Macro) → IsKnownMacro names m → macro_by r.spelled m ≡ macro_of names m
 macro-read names r reads m known = λ k. record { parameters = params-read names r reads m.params known.params k; variadic = m.variadic; body = tokens-read names r reads m.body known.body k }
 
-entries-read : (names : List (List ℕ)) (r : Reading) → ReadsNames names r → (entries : List (NameId × Macro)) → All (λ (e : NameId × Macro). IsKnown names e.0) entries → All (λ (e : NameId × Macro). IsKnownMacro names e.1) entries
-    → map {B = macros.Definition} (λ (entry : NameId × Macro). record { name = r.spelled entry.0; macro = macro_by r.spelled entry.1 }) entries ≡ map {B = macros.Definition} (λ (entry : NameId × Macro). record { name = text_of names entry.0; macro = macro_of names entry.1 }) entries
-entries-read names r reads [] named known = refl
-entries-read names r reads (entry ∷ entries) named known = λ k.
-    record { name = reads.texts entry.0 (All-head (λ (e : NameId × Macro). IsKnown names e.0) entry entries named) k; macro = macro-read names r reads entry.1 (All-head (λ (e : NameId × Macro). IsKnownMacro names e.1) entry entries known) k }
-    ∷ entries-read names r reads entries (All-tail (λ (e : NameId × Macro). IsKnown names e.0) entry entries named) (All-tail (λ (e : NameId × Macro). IsKnownMacro names e.1) entry entries known) k
+-- what entries have at a spelling, where their names are known, and the macros that such look-ups find
+found-read : (names : List (List ℕ)) (r : Reading) → ReadsNames names r → (text : List ℕ) (entries : List (NameId × Macro)) → All (λ (e : NameId × Macro). IsKnown names e.0) entries
+    → ((name : NameId) (m : Macro) → lookup (λ (other : NameId). nat_eq name.0 other.0) entries ≡ Some m → bytes_eq (r.spelled name) text ≡ true → IsKnownMacro names m)
+    → macros.macro_of (map (λ (entry : NameId × Macro). record { name = text_of names entry.0; macro = macro_of names entry.1 }) entries) text
+    ≡ macros.macro_of (map (λ (entry : NameId × Macro). record { name = r.spelled entry.0; macro = macro_by r.spelled entry.1 }) entries) text
+found-read names r reads text [] named known = refl
+found-read names r reads text (entry ∷ entries) named known =
+    (λ k. if bytes_eq (sym here k) text then Some (macro_of names entry.1) else macros.macro_of (map (λ (e : NameId × Macro). record { name = text_of names e.0; macro = macro_of names e.1 }) entries) text)
+    ∙ by (bytes_eq (r.spelled entry.0) text) refl
+    (λ differs. found-read names r reads text entries (All-tail (λ (e : NameId × Macro). IsKnown names e.0) entry entries named) (λ name m found same. known name m (behind differs name m found same) same))
+  where
+    here : r.spelled entry.0 ≡ text_of names entry.0
+    here = reads.texts entry.0 (All-head (λ (e : NameId × Macro). IsKnown names e.0) entry entries named)
 
-files-read : (names : List (List ℕ)) (r : Reading) → ReadsNames names r → (entries : List (ℕ × NameId)) → All (λ (e : ℕ × NameId). IsKnown names e.1) entries
-    → map {B = macros.FileSpelling} (λ (entry : ℕ × NameId). record { file = entry.0; spelled = r.spelled entry.1 }) entries ≡ map {B = macros.FileSpelling} (λ (entry : ℕ × NameId). record { file = entry.0; spelled = text_of names entry.1 }) entries
-files-read names r reads [] known = refl
-files-read names r reads (entry ∷ entries) known = λ k.
-    record { file = entry.0; spelled = reads.texts entry.1 (All-head (λ (e : ℕ × NameId). IsKnown names e.1) entry entries known) k }
-    ∷ files-read names r reads entries (All-tail (λ (e : ℕ × NameId). IsKnown names e.1) entry entries known) k
+    -- a name of this text isn't the first, where that has another
+    behind : bytes_eq (r.spelled entry.0) text ≡ false → (name : NameId) (m : Macro) → lookup (λ (other : NameId). nat_eq name.0 other.0) entries ≡ Some m → bytes_eq (r.spelled name) text ≡ true
+        → lookup (λ (other : NameId). nat_eq name.0 other.0) (entry ∷ entries) ≡ Some m
+    behind differs name m found same = ⊎_elim
+        (λ one. absurd (both_ways _ differs (ap (λ n. bytes_eq (r.spelled (record { 0 = n })) text) (sym one.1) ∙ same)))
+        (λ two. ap (λ this. cond this (Some entry.1) (lookup (λ (other : NameId). nat_eq name.0 other.0) entries)) two.0 ∙ found)
+        (eqb_tells name.0 entry.0.0)
 
-pub table-read : (names : List (List ℕ)) (r : Reading) → ReadsNames names r → (table : Table) → KnowsAll names table → table_by r.spelled table ≡ table_of names table
-table-read names r reads table knows = λ k. record { definitions = entries-read names r reads table.macros knows.named knows.macros k; files = files-read names r reads table.files knows.files k }
+    by : (this : Bool) → bytes_eq (r.spelled entry.0) text ≡ this
+        → (bytes_eq (r.spelled entry.0) text ≡ false
+        → macros.macro_of (map (λ (e : NameId × Macro). record { name = text_of names e.0; macro = macro_of names e.1 }) entries) text
+        ≡ macros.macro_of (map (λ (e : NameId × Macro). record { name = r.spelled e.0; macro = macro_by r.spelled e.1 }) entries) text)
+        → (if this then Some (macro_of names entry.1) else macros.macro_of (map (λ (e : NameId × Macro). record { name = text_of names e.0; macro = macro_of names e.1 }) entries) text)
+        ≡ (if this then Some (macro_by r.spelled entry.1) else macros.macro_of (map (λ (e : NameId × Macro). record { name = r.spelled e.0; macro = macro_by r.spelled e.1 }) entries) text)
+    by true is rest = ap Some (sym (macro-read names r reads entry.1 (known entry.0 entry.1 (ap (λ this. cond this (Some entry.1) (lookup (λ (other : NameId). nat_eq entry.0.0 other.0) entries)) (eq-eqb entry.0.0 entry.0.0 refl)) is)))
+    by false is rest = rest is
+
+-- the table as the names say it, and as it is read
+table-read : (names : List (List ℕ)) (r : Reading) → ReadsNames names r → (table : Table) → KnowsAll names table → HaveSameMacros (table_of names table) (table_by r.spelled table)
+table-read names r reads table knows = record {
+  macros = λ text. found-read names r reads text table.macros (All-named (IsKnown names) table.macros knows.named) (λ name m found same. knows.macros name m found);
+  files = λ file. spelled-found (text_of names) table.files file ∙ by file (lookup (nat_eq file) table.files) refl ∙ sym (spelled-found r.spelled table.files file);
+}
+  where
+    by : (file : ℕ) (found : Option NameId) → lookup (nat_eq file) table.files ≡ found → unwrap_or (option_map (text_of names) found) (codes "\"\"") ≡ unwrap_or (option_map r.spelled found) (codes "\"\"")
+    by file None is = refl
+    by file (Some spelled) is = sym (reads.texts spelled (knows.files file spelled is))
 
 fresh-read : (names : List (List ℕ)) (r : Reading) → ReadsNames names r → (tokens : List Token) → All (λ (t : Token). IsKnown names t.name) tokens → hidings_by r (map fresh_item tokens) ≡ map hides_nothing (toks_of names tokens)
 fresh-read names r reads [] known = refl
@@ -139,7 +155,9 @@ pub asked-is : (names later : List (List ℕ)) (r : Reading) → ReadsNames name
 asked-is names later r reads table knows tokens known b = ap (expansion.expansion (table_of names table) (budget_by b)) (fresh-read names r reads tokens known)
 
 pub is-expansion : (names : List (List ℕ)) (r : Reading) → ReadsNames names r → (table : Table) → KnowsAll names table → IsExpansion (table_by r.spelled table) (expansion.expansion (table_of names table))
-is-expansion names r reads table knows = subst (λ t. IsExpansion t (expansion.expansion (table_of names table))) (sym (table-read names r reads table knows)) (expansion-is (table_of names table))
+is-expansion names r reads table knows b ts =
+    let f = expansion.expansion (table_of names table) in
+    expansion-is (table_of names table) b ts ∙ expand_by-table (table_of names table) (table_by r.spelled table) (table-read names r reads table knows) f b ts
 
 -- nothing is left to read
 pub finished-is : (f : Expander) (r : Reading) (table : Table) → IsExpansion (table_by r.spelled table) f → (waits : List Waiting) (made now : List Item) (b : Budget) → waits ≡ [] → now ≡ []

@@ -1,26 +1,21 @@
 -- What was read of a call, from the stops that were noted.
-use Rattle.std.proofs.Common.{◌≡◌, ◌<◌, ◌≤◌, ◌+◌, ◌-◌, ℕ, zero, suc, Bool, true, false, nat_eq, List, [], ◌∷◌, ◌++◌, length, map, drop, take, slice_get, get_or, Option, Some, None, option_map, refl, sym, ap, subst, ◌∙◌, arith, length-append}
-use Rattle.std.proofs.lemmas.List.{append_assoc, append-nil, length-map, take_all}
+use Rattle.std.proofs.Common.{◌≡◌, ◌+◌, ◌-◌, ℕ, nat_eq, List, [], ◌∷◌, ◌++◌, length, drop, slice_get, Option, Some, None, option_map, refl, sym, ap, ◌∙◌, arith, length-append}
+use Rattle.std.proofs.lemmas.List.{append_assoc}
 use Rattle.std.proofs.lemmas.Bool.{eq-eqb, ne_eqb}
 use Rattle.std.proofs.lemmas.Option.{none-some, same_Some, slice_get-get_or}
 use Rattle.std.proofs.Math.Seq.{drop-append_seam, get_or-append_seam}
-use Rattle.meaning_macros.specs.Hiding.{Hiding}
 use Rattle.c_macros.specs.declared.item.Item.{Item}
 use Rattle.c_macros.specs.Arguments.{arguments_by}
 use Rattle.c_macros.specs.Calls.{Found, found_stops, is_nil, split_items}
 use Rattle.c_macros.specs.Reading.{Reading, hidings_by}
-use Rattle.c_macros.specs.Stops.{behind, stops_from, Finds}
+use Rattle.c_macros.specs.Stops.{behind, stops_from}
 use Rattle.c_macros.specs.Waiting.{Later, backwards, pending, floors, later_items}
 use Rattle.c_macros.proofs.StopLemmas.{split-stops, split-all, all_items}
 use Rattle.c_macros.proofs.VectorLemmas.{backwards-append, backwards-backwards, last-of, length-backwards}
 
 -- what lies above the floor, from the top
-pub above-is : (work below now : List Item) (floor : ℕ) → work ≡ below ++ backwards now → floor ≡ length below → backwards (take (length work - floor) (drop floor work)) ≡ now
-above-is work below now floor is at =
-    ap backwards (take_all (length work - floor) (drop floor work) (omega (arith, ap length all, ap length is, at, length-append below (backwards now))) ∙ all) ∙ backwards-backwards now
-  where
-    all : drop floor work ≡ backwards now
-    all = (λ i. drop (at i) (is i)) ∙ drop-append_seam below (backwards now)
+pub above-is : (work below now : List Item) (floor : ℕ) → work ≡ below ++ backwards now → floor ≡ length below → backwards (drop floor work) ≡ now
+above-is work below now floor is at = ap backwards ((λ i. drop (at i) (is i)) ∙ drop-append_seam below (backwards now)) ∙ backwards-backwards now
 
 pub none-found : (below : ℕ) (found : Option Found) → option_map (found_stops below) found ≡ None → found ≡ None
 none-found below None is = refl
@@ -129,7 +124,7 @@ pub record Told (work below now : List Item) (old new : List ℕ) (cuts first la
   pub all : now ≡ all_items found
 
 pub told : (work below now : List Item) (floor : ℕ) (old new : List ℕ) (cuts first last : ℕ) → work ≡ below ++ backwards now → floor ≡ length below
-    → behind old (stops_from floor 0 cuts (backwards (take (length work - floor) (drop floor work)))) ≡ Some new → slice_get new (length old) ≡ Some first → slice_get new (length new - 1) ≡ Some last
+    → behind old (stops_from floor 0 cuts (backwards (drop floor work))) ≡ Some new → slice_get new (length old) ≡ Some first → slice_get new (length new - 1) ≡ Some last
     → Told work below now old new cuts first last
 told work below now floor old new cuts first last is at finds at_first at_last =
     let c = closes (length below) old new (split_items 0 cuts now)

@@ -1,13 +1,12 @@
 -- The vectors of a run where a call begins, and where an argument of it ends.
-use Rattle.std.proofs.Common.{◌≡◌, ◌<◌, ◌≤◌, ◌+◌, ◌-◌, ℕ, zero, suc, Bool, true, false, List, [], ◌∷◌, ◌++◌, length, map, take, drop, refl, sym, ap, subst, ◌∙◌, arith, length-append}
+use Rattle.std.proofs.Common.{◌≡◌, ◌+◌, ℕ, Bool, List, [], ◌∷◌, ◌++◌, length, refl, sym, ap, ◌∙◌, arith, length-append}
 use Rattle.std.proofs.lemmas.List.{append_assoc, append-nil}
-use Rattle.std.proofs.Math.Seq.{drop-append_seam, take-append_seam}
 use Rattle.number_sets.specs.declared.sets.SetId.{SetId}
 use Rattle.c_macros.specs.declared.item.Item.{Item}
 use Rattle.c_macros.specs.declared.run.Call.{Call}
 use Rattle.c_macros.specs.declared.run.Run.{Run}
 use Rattle.c_macros.specs.Arguments.{in_a_row, ends_from}
-use Rattle.c_macros.specs.Waiting.{Waiting, Later, Done, Holds, backwards, raws_of, puts_of, pending, floors, work_of, put_of, put_ends_of, raw_of, raw_ends_of, stops_of, call_of, calls_of}
+use Rattle.c_macros.specs.Waiting.{Waiting, Later, Done, Holds, backwards, raws_of, puts_of, pending, floors, work_of, put_of, put_ends_of, raw_of, raw_ends_of, stops_of, call_of, calls_of, noted, one_done}
 use Rattle.c_macros.proofs.VectorLemmas.{ends-same, backwards-append, length-backwards}
 
 -- one more list in a row
@@ -44,45 +43,31 @@ begun name hides raw more absent closing rest made stop = record {
   passed = stop ∷ [];
 }
 
--- the call as the run notes it
-abbrev pub noted : Run → Item → SetId → Bool → Call
-noted run name hides absent = record {
-  name = name;
-  hides = hides;
-  absent = absent;
-  outer = run.floor;
-  next_stop = length run.stops.items + 1;
-  first_stop = length run.stops.items;
-  first_put = length run.put.items;
-  first_put_end = length run.put_ends.items;
-  first_raw = length run.raw.items;
-  first_raw_end = length run.raw_ends.items;
-}
-
-noted-is : (run : Run) (ws : List Waiting) (made now : List Item) (name : Item) (hides : SetId) (raw : List Item) (more : List Later) (absent : Bool) (closing : Item) (rest : List Item) (stop : ℕ)
-    → Holds run ws made now → noted run name hides absent ≡ call_of (begun name hides raw more absent closing rest made stop) ws
-noted-is run ws made now name hides raw more absent closing rest stop holds = λ i. record {
+noted-is : (run : Run) (ws : List Waiting) (made now : List Item) (name : Item) (hides : SetId) (raw : List Item) (more : List Later) (absent : Bool) (closing : Item) (rest : List Item) (stop first_stop : ℕ)
+    → Holds run ws made now → first_stop ≡ length run.stops.items → noted run name hides absent first_stop ≡ call_of (begun name hides raw more absent closing rest made stop) ws
+noted-is run ws made now name hides raw more absent closing rest stop first_stop holds first = λ i. record {
   name = name;
   hides = hides;
   absent = absent;
   outer = holds.floor i;
-  next_stop = (ap (λ (xs : List ℕ). length xs + 1) holds.stops ∙ sym (length-append (stops_of ws) (stop ∷ []))) i;
-  first_stop = ap length holds.stops i;
+  next_stop = (ap (λ n. n + 1) (first ∙ ap length holds.stops) ∙ sym (length-append (stops_of ws) (stop ∷ []))) i;
+  first_stop = (first ∙ ap length holds.stops) i;
   first_put = ap length holds.put i;
   first_put_end = ap length holds.put_ends i;
   first_raw = ap length holds.raw i;
   first_raw_end = ap length holds.raw_ends i;
 }
 
-pub begun-holds : (run next : Run) (ws : List Waiting) (made now : List Item) (name : Item) (hides : SetId) (raw first : List Item) (more : List Later) (absent : Bool) (closing : Item) (rest : List Item) (stop : ℕ)
-    → Holds run ws made now
+-- the run in which the call has begun
+pub begun-holds : (run next : Run) (ws : List Waiting) (made now : List Item) (name : Item) (hides : SetId) (raw first : List Item) (more : List Later) (absent : Bool) (closing : Item) (rest : List Item) (stop first_stop : ℕ)
+    → Holds run ws made now → first_stop ≡ length run.stops.items
     → next.work.items ≡ (work_of ws ++ backwards (pending more closing rest)) ++ backwards first
     → next.floor ≡ length (work_of ws) + length (pending more closing rest)
     → next.put.items ≡ run.put.items → next.put_ends.items ≡ run.put_ends.items → next.raw.items ≡ run.raw.items ++ raw → next.raw_ends.items ≡ run.raw_ends.items
     → next.stops.items ≡ run.stops.items ++ (stop ∷ floors (length (work_of ws)) more closing rest)
-    → next.calls.items ≡ run.calls.items ++ noted run name hides absent ∷ []
+    → next.calls.items ≡ run.calls.items ++ noted run name hides absent first_stop ∷ []
     → Holds next (begun name hides raw more absent closing rest made stop ∷ ws) [] first
-begun-holds run next ws made now name hides raw first more absent closing rest stop holds work floor put put_ends raw_is raw_ends stops calls = record {
+begun-holds run next ws made now name hides raw first more absent closing rest stop first_stop holds first_is work floor put put_ends raw_is raw_ends stops calls = record {
   work = work;
   floor = floor ∙ ap (λ n. length (work_of ws) + n) (sym (length-backwards (pending more closing rest))) ∙ sym (length-append (work_of ws) (backwards (pending more closing rest)));
   put = put ∙ holds.put ∙ sym (append-nil (put_of ws ++ made)) ∙ sym (append-nil ((put_of ws ++ made) ++ []));
@@ -90,7 +75,7 @@ begun-holds run next ws made now name hides raw first more absent closing rest s
   raw = raw_is ∙ ap (λ xs. xs ++ raw) (holds.raw ∙ sym (append-nil (raw_of ws)));
   raw_ends = raw_ends ∙ holds.raw_ends ∙ sym (append-nil (raw_ends_of ws));
   stops = stops ∙ ap (λ xs. xs ++ (stop ∷ floors (length (work_of ws)) more closing rest)) holds.stops ∙ sym (append_assoc (stops_of ws) (stop ∷ []) (floors (length (work_of ws)) more closing rest));
-  calls = calls ∙ (λ i. holds.calls i ++ noted-is run ws made now name hides raw more absent closing rest stop holds i ∷ []);
+  calls = calls ∙ (λ i. holds.calls i ++ noted-is run ws made now name hides raw more absent closing rest stop first_stop holds first_is i ∷ []);
 }
 
 -- the innermost call is the last that is noted
@@ -106,10 +91,6 @@ innermost [] others call same = absurd (omega (arith, ap length same, length-app
 innermost (w ∷ ws) others call same =
     let both = ends-same others (calls_of ws) call (call_of w ws) same in
     record { w = w; ws = ws; are = refl; others_are = both.0; call_is = both.1 }
-
--- the call with its current argument ready
-abbrev pub one_done : Waiting → List Item → Waiting
-one_done w made = record w { done = w.done ++ record { raw = w.raw; put = made } ∷ []; raw = [] }
 
 -- what the vectors hold then: nothing moves
 pub put-done : (w : Waiting) (ws : List Waiting) (made : List Item) → put_of (w ∷ ws) ++ made ≡ put_of (one_done w made ∷ ws)

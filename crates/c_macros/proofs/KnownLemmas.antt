@@ -1,7 +1,8 @@
 -- What is known of ids and sets stays known where tables grow.
-use Rattle.std.proofs.Common.{◌≡◌, ℕ, List, [], ◌∷◌, ◌++◌, length, All, sym, ap, subst, arith, length-append, Result, Ok, Err, OnOk, Vec, Global}
-use Rattle.std.proofs.lemmas.List.Elements.{All-weaker, All-head, All-tail}
+use Rattle.std.proofs.Common.{◌≡◌, ◌∙◌, ℕ, List, [], ◌∷◌, ◌++◌, length, slice_get, Some, All, sym, ap, subst, arith, length-append, take, Result, Ok, Err, OnOk, IfErr, Vec, Global}
+use Rattle.std.proofs.lemmas.List.Elements.{All-weaker, All-head, All-tail, All-take}
 use Rattle.std.proofs.Math.ListN.{get_or-append}
+use Rattle.std.proofs.lemmas.Option.{same_Some, slice_get-get_or, slice_get_within}
 use Rattle.number_sets.specs.NumberSets.{IsSet}
 use Rattle.number_sets.specs.NumberSets as sets
 use Rattle.number_sets.specs.declared.sets.SetId.{SetId}
@@ -10,7 +11,14 @@ use Rattle.c_tokens.proofs.SeenLemmas.{IsKnown-Extends}
 use Rattle.c_macros.specs.declared.item.Item.{Item}
 use Rattle.c_macros.specs.declared.run.Call.{Call}
 use Rattle.c_macros.specs.Reading.{HasName, HasSet}
-use Rattle.c_macros.specs.Run.{IsKnownItem, IsKnownCall, IsKnownRun}
+use Rattle.c_macros.specs.Ends.{Ends}
+use Rattle.c_macros.specs.Run.{Fails, IsKnownItem, IsKnownCall, IsKnownRun, outcome}
+use Rattle.c_macros.specs.Stops.{AreClosings}
+use Rattle.c_macros.specs.Table.{Table}
+use Rattle.c_macros.specs.Waiting.{Waiting}
+use Rattle.c_macros.specs.declared.budget.Budget.{Budget}
+use Rattle.c_macros.specs.declared.expand_fault.ExpandFault.{ExpandFault}
+use Rattle.c_macros.specs.declared.expand_fault.ExpandFault.TheVariants.{Memory}
 use Rattle.c_macros.specs.declared.run.Run.{Run}
 
 pub IsSet-later : (table grown : sets.Table) → sets.Extends table grown → (set : SetId) → IsSet table set → IsSet grown set
@@ -47,6 +55,12 @@ pub All-back : {X : Type 0} (P : X → Type 0) (xs ys : List X) → All P (xs ++
 All-back P [] ys all = all
 All-back P (x ∷ xs) ys all = All-back P xs ys (All-tail P x (xs ++ ys) all)
 
+-- an element that is found
+pub found-has : {X : Type 0} (P : X → Type 0) (xs : List X) (k : ℕ) (x : X) → All P xs → slice_get xs k ≡ Some x → P x
+found-has P xs k x all at =
+    let within = slice_get_within xs k x at in
+    subst P (same_Some _ _ (sym (slice_get-get_or xs k x within) ∙ at)) (all k x within)
+
 pub All-last : {X : Type 0} (P : X → Type 0) (xs : List X) (x : X) → All P (xs ++ x ∷ []) → P x
 All-last P xs x all = All-head P x [] (All-back P xs (x ∷ []) all)
 
@@ -55,16 +69,44 @@ pub on_ok_from : {X T E : Type 0} (P : X → Type 0) (Q R : Type 0) (r : Result 
 on_ok_from P Q R (Ok done) each other then = then each other
 on_ok_from P Q R (Err fault) each other then = tt
 
+pub on_ok_both : {T E : Type 0} (P Q : Type 0) (r : Result T E) → OnOk r P → OnOk r Q → OnOk r (P × Q)
+on_ok_both P Q (Ok done) first second = (first, second)
+on_ok_both P Q (Err fault) first second = tt
+
 pub known-both : (names : List (List ℕ)) (table : sets.Table) (items : List Item) → All (HasName names) items → All (HasSet table) items → All (IsKnownItem names table) items
 known-both names table items has_name has_set = λ k d below. record { name = has_name k d below; set = has_set k d below }
 
 pub names-known : (names : List (List ℕ)) (table : sets.Table) (items : List Item) → All (IsKnownItem names table) items → All (HasName names) items
 names-known names table items known = λ k d below. (known k d below).name
 
+pub sets-known : (names : List (List ℕ)) (table : sets.Table) (items : List Item) → All (IsKnownItem names table) items → All (HasSet table) items
+sets-known names table items known = λ k d below. (known k d below).set
+
+-- a run that a call has left
+pub left-known : (names : List (List ℕ)) (run next : Run) (put_count raw_count : ℕ) → IsKnownRun names run → next.sets ≡ run.sets → next.work ≡ run.work → next.calls ≡ run.calls → next.closings ≡ run.closings
+    → next.put.items ≡ take put_count run.put.items → next.raw.items ≡ take raw_count run.raw.items → IsKnownRun names next
+left-known names run next put_count raw_count known same work calls closings put raw = record {
+  closings = subst (λ (v : Vec Item Global). AreClosings v.items next.closings.items) (sym work) (subst (λ (v : Vec ℕ Global). AreClosings run.work.items v.items) (sym closings) known.closings);
+  work = subst (λ (v : Vec Item Global). All (IsKnownItem names next.sets) v.items) (sym work) (items run.work.items known.work);
+  put = subst (All (IsKnownItem names next.sets)) (sym put) (All-take (IsKnownItem names next.sets) put_count run.put.items (items run.put.items known.put));
+  raw = subst (All (IsKnownItem names next.sets)) (sym raw) (All-take (IsKnownItem names next.sets) raw_count run.raw.items (items run.raw.items known.raw));
+  calls = subst (λ (v : Vec Call Global). All (IsKnownCall names next.sets) v.items) (sym calls) (subst (λ table. All (IsKnownCall names table) run.calls.items) (sym same) known.calls);
+  some_set = omega (arith, known.some_set, ap length same);
+}
+  where
+    items : (all : List Item) → All (IsKnownItem names run.sets) all → All (IsKnownItem names next.sets) all
+    items all here = subst (λ table. All (IsKnownItem names table) all) (sym same) here
+
+-- want of memory says nothing of what comes
+pub memory-fails : {T : Type 0} (names : List (List ℕ)) (next : Run) (table : Table) (waits : List Waiting) (made now : List Item) (b : Budget) (r : Result T ExpandFault) → IfErr r (λ fault. fault ≡ Memory) → IfErr r (Fails names next table waits made now b)
+memory-fails names next table waits made now b (Ok done) only = tt
+memory-fails names next table waits made now b (Err fault) only = λ r reads f is. subst (λ x. Ends x (outcome f r table waits made now b)) (sym only) tt
+
 -- a run of which the work, the sets and the laid body are others
 pub laid-known : (names later : List (List ℕ)) (run next : Run) (before : sets.Table) → Extends names later → sets.Extends before next.sets → IsKnownRun names run → before ≡ run.sets
-    → next.put ≡ run.put → next.raw ≡ run.raw → next.calls ≡ run.calls → All (IsKnownItem later next.sets) next.work.items → IsKnownRun later next
-laid-known names later run next before more_names more known same put raw calls work = record {
+    → next.put ≡ run.put → next.raw ≡ run.raw → next.calls ≡ run.calls → AreClosings next.work.items next.closings.items → All (IsKnownItem later next.sets) next.work.items → IsKnownRun later next
+laid-known names later run next before more_names more known same put raw calls closings work = record {
+  closings = closings;
   work = work;
   put = subst (λ (v : Vec Item Global). All (IsKnownItem later next.sets) v.items) (sym put) (items-later names later run.sets next.sets more_names grown run.put.items known.put);
   raw = subst (λ (v : Vec Item Global). All (IsKnownItem later next.sets) v.items) (sym raw) (items-later names later run.sets next.sets more_names grown run.raw.items known.raw);

@@ -1,25 +1,29 @@
 mod ArgumentLemmas
+mod BeginLemmas
 mod BodyLemmas
 mod BodyPartLemmas
 mod BorderLemmas
 mod CallLemmas
 mod CallReadLemmas
 mod ChainLemmas
+mod ClosingLemmas
+mod EndLemmas
 mod ExpansionLemmas
 mod GrowthLemmas
 mod HideLemmas
 mod HoldLemmas
 mod KnownLemmas
+pub mod KnowsLemmas
 mod LayLemmas
 mod OpenLemmas
 mod ParameterLemmas
 pub mod PlainLemmas
 mod PartLemmas
 mod PastingLemmas
-mod PredefinedLemmas
+pub mod PredefinedLemmas
 mod PurposeLemmas
 mod RawLemmas
-mod ReadingLemmas
+pub mod ReadingLemmas
 mod ReplaceLemmas
 mod SpellingLemmas
 mod StepLemmas

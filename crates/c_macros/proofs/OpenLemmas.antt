@@ -1,14 +1,13 @@
 -- A call that begins, an argument that ends, and a call that ends, in lists.
-use Rattle.std.proofs.Common.{◌≡◌, ◌<◌, ◌≤◌, ◌+◌, ◌-◌, ℕ, zero, suc, Bool, true, false, nat_eq, List, [], ◌∷◌, ◌++◌, length, map, slice_get, unwrap_or, Option, Some, None, option_map, refl, sym, ap, subst, ◌∙◌, arith, length-append}
-use Rattle.std.proofs.lemmas.List.{append_assoc, append-nil, length-map}
-use Rattle.meaning_macros.specs.Bodies.{Operand, OwnToken, Argument, Stringized, CommaAndRest, Chain, chains, space_of_chain, stands_raw, stands_apart}
+use Rattle.std.proofs.Common.{◌≡◌, ℕ, zero, suc, List, [], ◌∷◌, ◌++◌, length, refl, sym, ap, ◌∙◌}
+use Rattle.std.proofs.lemmas.List.{append-nil}
+use Rattle.meaning_macros.specs.Bodies.{OwnToken, Argument, Stringized, CommaAndRest, Chain, chains, space_of_chain, stands_raw, stands_apart}
 use Rattle.meaning_text.specs.Places.{At}
-use Rattle.meaning_macros.specs.Hiding.{NameSet, Hiding, joined, only, set_at}
+use Rattle.meaning_macros.specs.Hiding.{Hiding, set_at}
 use Rattle.meaning_macros.specs.Macros as macros
 use Rattle.meaning_macros.specs.Substitution.{Joins, part_of, with_part, substituted, argument_of}
-use Rattle.meaning_macros.specs.Expansion as expansion
-use Rattle.meaning_macros.specs.Expansion.{Budget, Expanded, Expander, Ready, AllReady, Stops, called, laid, expand_arguments, with_argument, after_argument}
-use Rattle.c_macros.specs.Meaning.{IsExpansion, put_all, add_all, if_wanted, raw_from, Opened, Suspended, calling, taken, resume, meaning}
+use Rattle.meaning_macros.specs.Expansion.{Budget, Expanded, Expander, called, laid, expand_arguments}
+use Rattle.c_macros.specs.Meaning.{IsExpansion, put_all, if_wanted, Opened, Suspended, calling, taken, resume, meaning}
 use Rattle.c_macros.proofs.CallLemmas.{next_argument, absent_argument, last_argument}
 use Rattle.c_macros.proofs.RawLemmas.{substituted-same, first_argument}
 

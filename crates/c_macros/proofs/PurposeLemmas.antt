@@ -12,6 +12,8 @@ use Rattle.meaning_macros.specs.Expansion as expansion
 use Rattle.sparse_model.specs.declared.ids.NameId.{NameId}
 use Rattle.c_macros.specs.declared.definition.Macro.{Macro}
 use Rattle.c_macros.specs.declared.item.Item.{Item}
+use Rattle.c_macros.specs.declared.purpose.Purpose.{Purpose}
+use Rattle.c_macros.specs.declared.purpose.Purpose.TheVariants.{Stays, Replaced, Called, Predefines}
 use Rattle.c_macros.specs.Purpose.{IsReplaced, IsCalled, Purposed, opens_with, purpose_of_predefined, use_before}
 use Rattle.c_macros.specs.Reading.{Reading, hiding_by, hidings_by}
 use Rattle.c_macros.specs.Run.{table_by}
@@ -130,3 +132,16 @@ use-called r apart table item (next ∷ now) named m found function opens = reco
   used = use-function r apart table item (next ∷ now) named m found function
       ∙ ap (by_opening (hiding_by r item) (macro_by r.spelled m) (hidings_by r now)) opens;
 }
+
+abbrev is_called : Purpose → Bool
+is_called Called = true
+is_called Stays = false
+is_called Replaced = false
+is_called (Predefines name) = false
+
+-- a name without an entry calls no macro
+pub not-called : (p : Option macros.Predefined) → purpose_of_predefined p ≡ Called → ⊥
+not-called None is = true≢false (sym (ap is_called is))
+not-called (Some macros.FileName) is = true≢false (sym (ap is_called is))
+not-called (Some macros.LineNumber) is = true≢false (sym (ap is_called is))
+not-called (Some macros.CounterNumber) is = true≢false (sym (ap is_called is))

@@ -96,7 +96,7 @@ whole-is f r names table reads t hides space below now work items laid_now b fou
     same = sym (backwards-backwards (with_space space on.items)) ∙ ap backwards (fronts-same below below (backwards (with_space space on.items)) (backwards items) (sym on.stand ∙ stand) refl).1 ∙ backwards-backwards items
 
 -- a run that has a body on top
-pub laid-holds : (run next : Run) (waits : List Waiting) (made now items : List Item) → Holds run waits made now → next ≡ record run { work = next.work; sets = next.sets; laid = next.laid } → next.work.items ≡ work_of waits ++ backwards items
+pub laid-holds : (run next : Run) (waits : List Waiting) (made now items : List Item) → Holds run waits made now → next ≡ record run { work = next.work; closings = next.closings; sets = next.sets; laid = next.laid } → next.work.items ≡ work_of waits ++ backwards items
     → Holds next waits made items
 laid-holds run next waits made now items holds same stand = record {
   work = stand;
@@ -111,7 +111,7 @@ laid-holds run next waits made now items holds same stand = record {
 
 -- a run in which an object-like macro was replaced
 pub replaced-comes : (names later : List (List ℕ)) (run mid next : Run) (table : Table) (waits : List Waiting) (made now : List Item) (item : Item) (m : Macro) (ops : List Part) (hides : SetId) (b c : Budget) (parts : List LaidItems)
-    → Holds mid waits made now → next ≡ record mid { work = next.work; sets = next.sets; laid = next.laid }
+    → Holds mid waits made now → next ≡ record mid { work = next.work; closings = next.closings; sets = next.sets; laid = next.laid }
     → ((r : Reading) → Reads later next.sets r → Reads names run.sets r)
     → ((r : Reading) → Reads later next.sets r → r.hidden hides ≡ joined (r.hidden item.hides) (only (r.spelled item.token.name)))
     → ((r : Reading) → Reads names run.sets r → IsReplaced r table item now)

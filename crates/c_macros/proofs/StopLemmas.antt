@@ -1,17 +1,16 @@
 -- Where the arguments of a call end, and what the definition reads there.
-use Rattle.std.proofs.Common.{◌≡◌, ◌+◌, ◌-◌, ◌<◌, ◌≤◌, ◌&&◌, ℕ, zero, suc, Bool, true, false, nat_eq, nat_lt, List, [], ◌∷◌, ◌++◌, length, map, Option, Some, None, option_map, refl, sym, ap, ◌∙◌, arith, length-append}
-use Rattle.std.proofs.lemmas.List.{append_assoc, append-nil}
+use Rattle.std.proofs.Common.{◌≡◌, ◌+◌, ◌-◌, ◌&&◌, ℕ, Bool, true, false, nat_eq, nat_lt, List, [], ◌∷◌, ◌++◌, length, Option, Some, None, option_map, refl, sym, ap, ◌∙◌}
+use Rattle.std.proofs.lemmas.List.{append_assoc}
 use Rattle.std.proofs.lemmas.Bool.{eq-eqb}
 use Rattle.std.proofs.lemmas.Option.{none-some, same_Some}
 use Rattle.meaning_macros.specs.Signs.{is_left_parenthesis, is_right_parenthesis, is_comma}
 use Rattle.meaning_macros.specs.Calls.{Arguments, split, with_argument_token, with_cut}
-use Rattle.meaning_macros.specs.Hiding.{Hiding}
 use Rattle.c_macros.specs.declared.item.Item.{Item}
 use Rattle.c_macros.specs.Arguments.{arguments_by}
 use Rattle.c_macros.specs.Calls.{Found, with_item, with_comma, split_items, found_stops}
 use Rattle.c_macros.specs.Reading.{Reading, hiding_by, hidings_by}
 use Rattle.c_macros.specs.Stops.{with_stop, stops_from, behind}
-use Rattle.c_macros.specs.Waiting.{Later, backwards, pending, floors, later_items}
+use Rattle.c_macros.specs.Waiting.{backwards, pending, later_items}
 use Rattle.c_macros.proofs.VectorLemmas.{backwards-append}
 
 -- all tokens of what was found

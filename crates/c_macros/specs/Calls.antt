@@ -1,7 +1,7 @@
 -- A call behind the `(`, in items.
-use Rattle.std.specs.Prelude.{◌≡◌, ◌+◌, ◌-◌, ◌&&◌, ℕ, Bool, true, false, nat_eq, nat_lt, List, [], ◌∷◌, ◌++◌, length, Option, Some, None, if◌then◌else◌}
+use Rattle.std.specs.Prelude.{◌≡◌, ◌+◌, ◌-◌, ◌&&◌, ℕ, Bool, true, false, nat_eq, nat_lt, List, [], ◌∷◌, ◌++◌, length, Option, Some, None, ⊤, if◌then◌else◌}
 use Rattle.meaning_macros.specs.Signs.{is_left_parenthesis, is_right_parenthesis, is_comma}
-use Rattle.meaning_macros.specs.Calls.{Arguments, matched, most_cuts}
+use Rattle.meaning_macros.specs.Calls.{matched, most_cuts}
 use Rattle.meaning_macros.specs.Hiding.{Hiding}
 use Rattle.meaning_macros.specs.Macros as macros
 use Rattle.meaning_macros.specs.Macros.{parameters_of}
@@ -10,10 +10,14 @@ use Rattle.c_macros.specs.declared.item.Item.{Item}
 use Rattle.c_macros.specs.declared.reading.CallRead.{CallRead}
 use Rattle.c_macros.specs.declared.reading.CallRead.TheVariants.{Open, Wrong, Fits}
 use Rattle.c_macros.specs.Arguments.{arguments_by}
-use Rattle.c_macros.specs.Reading.{Reading, hiding_by, hidings_by}
+use Rattle.number_sets.specs.NumberSets as sets
+use Rattle.c_macros.specs.declared.run.Run.{Run}
+use Rattle.c_macros.specs.Purpose.{IsCalled}
+use Rattle.c_macros.specs.Reading.{HasSet, Reading, Reads, hidings_by}
 use Rattle.c_macros.specs.Run.{absent_one}
 use Rattle.c_macros.specs.Seen.{Spelling, macro_by}
-use Rattle.c_macros.specs.Waiting.{Later, pending, floors, later_items}
+use Rattle.c_macros.specs.Table.{Table, macro_at}
+use Rattle.c_macros.specs.Waiting.{Holds, Later, Waiting, pending, floors, later_items, work_of}
 
 -- a call behind its `(`
 pub record Found : Type 0 where
@@ -57,7 +61,7 @@ is_nil (x ∷ xs) = false
 
 -- the arguments that a macro is called with, one for each parameter
 abbrev pub fitted : macros.Macro → List Hiding → List (List Hiding) → Bool → List (List Hiding)
-fitted m first later absent = if nat_eq (length (parameters_of m)) 0 then [] else (first ∷ later) ++ absent_one absent
+fitted m first later absent = (if nat_eq (length (parameters_of m)) 0 then [] else first ∷ later) ++ absent_one absent
 
 -- the call has the right number of arguments
 pub record IsFit (m : Macro) (below now : List Item) (old new : List ℕ) (absent : Bool) (closing : Item) : Type 0 where
@@ -78,3 +82,19 @@ abbrev pub ReadsCall : Macro → (below now : List Item) → (old new : List ℕ
 ReadsCall m below now old new Open = (s : Spelling) → split_items 0 (most_cuts (macro_by s m)) now ≡ None
 ReadsCall m below now old new Wrong = IsWrong m now
 ReadsCall m below now old new (Fits absent closing) = IsFit m below now old new absent closing
+
+-- the `)` of a call that fits hides a set of the table
+abbrev pub HasClosing : sets.Table → CallRead → Type 0
+HasClosing table Open = ⊤
+HasClosing table Wrong = ⊤
+HasClosing table (Fits absent closing) = HasSet table closing
+
+-- A call whose arguments are as many as the parameters: the run before it was read, with the name and the `(` taken, and
+-- after that.
+pub record IsOpening (names : List (List ℕ)) (before after : Run) (table : Table) (m : Macro) (waits : List Waiting) (made now : List Item) (name opening : Item) (absent : Bool) (closing : Item) (first_stop : ℕ) : Type 0 where
+  pub holds : Holds before waits made now
+  pub same : after ≡ record before { stops = after.stops; closings = after.closings }
+  pub first : first_stop ≡ length before.stops.items
+  pub fits : IsFit m (work_of waits) now before.stops.items after.stops.items absent closing
+  pub found : macro_at table name.token.name ≡ Some m
+  pub called : (r : Reading) → Reads names after.sets r → IsCalled r table name (opening ∷ now)

@@ -1,18 +1,17 @@
 -- What is claimed of `expand`.
-use Rattle.std.specs.Prelude.{◌≡◌, ℕ, List, [], ◌∷◌, map, All}
+use Rattle.std.specs.Prelude.{◌≡◌, ℕ, List, [], ◌∷◌, map}
 use Rattle.meaning_text.specs.Tokens.{Tok}
 use Rattle.meaning_macros.specs.Hiding.{Hiding, hides_nothing}
 use Rattle.meaning_macros.specs.Expansion as expansion
 use Rattle.number_sets.specs.NumberSets as sets
-use Rattle.sparse_model.specs.declared.ids.NameId.{NameId}
 use Rattle.c_tokens.specs.declared.token.Token.{Token}
-use Rattle.c_tokens.specs.Seen.{IsKnown, toks_of}
+use Rattle.c_tokens.specs.Seen.{toks_of}
 use Rattle.c_macros.specs.declared.budget.Budget.{Budget}
-use Rattle.c_macros.specs.declared.definition.Macro.{Macro}
 use Rattle.c_macros.specs.declared.expand_fault.ExpandFault.{ExpandFault}
 use Rattle.c_macros.specs.declared.item.Item.{Item}
 use Rattle.c_macros.specs.Ends.{Ends, budget_by}
-use Rattle.c_macros.specs.Seen.{IsKnownMacro, table_of}
+pub use Rattle.c_macros.specs.Seen.{KnowsAll}
+use Rattle.c_macros.specs.Seen.{table_of}
 use Rattle.c_macros.specs.Table.{Table}
 
 -- the expansion of tokens, of which none hides a name, read through a table of names
@@ -34,12 +33,6 @@ EndsWith left e = e.end ≡ expansion.Finished (budget_by left)
 -- it ends as the fault says
 abbrev pub FaultIsOf : ExpandFault → expansion.Expanded → Type 0
 FaultIsOf fault e = Ends fault e
-
--- each id of the table is one of the names
-pub record KnowsAll (names : List (List ℕ)) (table : Table) : Type 0 where
-  pub named : All (λ (entry : NameId × Macro). IsKnown names entry.0) table.macros
-  pub macros : All (λ (entry : NameId × Macro). IsKnownMacro names entry.1) table.macros
-  pub files : All (λ (entry : ℕ × NameId). IsKnown names entry.1) table.files
 
 -- the sets of a new table: the empty one, and that of 0 alone
 abbrev pub no_sets : sets.Table

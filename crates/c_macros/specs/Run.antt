@@ -17,6 +17,7 @@ use Rattle.c_macros.specs.Arguments.{arguments_by}
 use Rattle.c_macros.specs.Ends.{Ends, budget_by}
 use Rattle.c_macros.specs.Meaning.{IsExpansion, Opened, Suspended, meaning}
 use Rattle.c_macros.specs.Reading.{HasName, HasSet, Reading, Reads, hiding_by, hidings_by}
+use Rattle.c_macros.specs.Stops.{AreClosings}
 use Rattle.c_macros.specs.Seen.{IsKnownMacro, Spelling, macro_by}
 use Rattle.c_macros.specs.Table.{Table, macro_at, spelling_of_file}
 use Rattle.c_macros.specs.Waiting.{Waiting, Shape, raws_of, puts_of, later_items}
@@ -84,13 +85,14 @@ pub record IsKnownCall (names : List (List ℕ)) (table : sets.Table) (call : Ca
   pub name : IsKnownItem names table call.name
   pub hides : IsSet table call.hides
 
--- all ids and sets of a run are ones of the tables, which have the empty set
+-- all ids and sets of a run are ones of the tables, which have the empty set, and its notes are right
 pub record IsKnownRun (names : List (List ℕ)) (run : Run) : Type 0 where
   pub work : All (IsKnownItem names run.sets) run.work.items
   pub put : All (IsKnownItem names run.sets) run.put.items
   pub raw : All (IsKnownItem names run.sets) run.raw.items
   pub calls : All (IsKnownCall names run.sets) run.calls.items
   pub some_set : 0 < length run.sets
+  pub closings : AreClosings run.work.items run.closings.items
 
 -- what may still happen
 abbrev pub left_to_do : Run → Budget → ℕ

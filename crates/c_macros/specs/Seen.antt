@@ -1,5 +1,5 @@
 -- How the values of this crate are seen by the definitions of `meaning_macros`.
-use Rattle.std.specs.Prelude.{◌≡◌, ℕ, List, [], ◌∷◌, Option, All, map, nat_eq, option_map}
+use Rattle.std.specs.Prelude.{◌≡◌, ℕ, List, [], ◌∷◌, Option, Some, All, map, nat_eq, option_map}
 use Rattle.std.specs.Str.{bytes_eq}
 use Rattle.meaning_text.specs.Tokens.{Tok}
 use Rattle.meaning_macros.specs.Macros as macros
@@ -8,7 +8,7 @@ use Rattle.c_tokens.specs.declared.token.Token.{Token}
 use Rattle.c_tokens.specs.Seen.{IsKnown, at_of, text_of}
 use Rattle.c_macros.specs.declared.definition.Macro.{Macro}
 use Rattle.c_macros.specs.Parameters.{params_in}
-use Rattle.c_macros.specs.Table.{Table}
+use Rattle.c_macros.specs.Table.{Table, macro_at, spelling_of_file}
 
 -- what each id stands for
 abbrev pub Spelling : Type 0
@@ -61,7 +61,16 @@ pub record IsKnownMacro (names : List (List ℕ)) (m : Macro) : Type 0 where
 
 -- each name that has a macro is one of the table
 abbrev pub IsKnownTable : List (List ℕ) → Table → Type 0
-IsKnownTable names table = All (λ (entry : NameId × Macro). IsKnown names entry.0) table.macros
+IsKnownTable names table = (name : NameId) (m : Macro) → macro_at table name ≡ Some m → IsKnown names name
+
+-- each id that a table of macros tells of is one of the table of names
+pub record KnowsAll (names : List (List ℕ)) (table : Table) : Type 0 where
+  -- the name of a macro
+  pub named : IsKnownTable names table
+  -- the ids within it
+  pub macros : (name : NameId) (m : Macro) → macro_at table name ≡ Some m → IsKnownMacro names m
+  -- how `__FILE__` is spelled in a file
+  pub files : (file : ℕ) (spelled : NameId) → spelling_of_file table file ≡ Some spelled → IsKnown names spelled
 
 -- a table of macros through a table of names
 abbrev pub table_of : List (List ℕ) → Table → macros.MacroTable

@@ -1,5 +1,5 @@
 -- A run as nested lists: the calls that wait, the innermost first, and the vectors that hold them.
-use Rattle.std.specs.Prelude.{◌≡◌, ◌+◌, ℕ, Bool, List, [], ◌∷◌, ◌++◌, length}
+use Rattle.std.specs.Prelude.{◌≡◌, ◌+◌, ℕ, Bool, true, false, List, [], ◌∷◌, ◌++◌, length}
 use Rattle.number_sets.specs.declared.sets.SetId.{SetId}
 use Rattle.c_macros.specs.Arguments.{in_a_row, ends_from}
 use Rattle.c_macros.specs.declared.item.Item.{Item}
@@ -103,6 +103,21 @@ abbrev pub calls_of : List Waiting → List Call
 calls_of [] = []
 calls_of (w ∷ ws) = calls_of ws ++ call_of w ws ∷ []
 
+-- a call that begins, as the run notes it: its stops stand from this place on
+abbrev pub noted : Run → Item → SetId → (absent : Bool) → (first_stop : ℕ) → Call
+noted run name hides absent first_stop = record {
+  name = name;
+  hides = hides;
+  absent = absent;
+  outer = run.floor;
+  next_stop = first_stop + 1;
+  first_stop = first_stop;
+  first_put = length run.put.items;
+  first_put_end = length run.put_ends.items;
+  first_raw = length run.raw.items;
+  first_raw_end = length run.raw_ends.items;
+}
+
 -- the run has these calls, and reads and puts these tokens now
 pub record Holds (run : Run) (waits : List Waiting) (made now : List Item) : Type 0 where
   pub work : run.work.items ≡ work_of waits ++ backwards now
@@ -113,6 +128,47 @@ pub record Holds (run : Run) (waits : List Waiting) (made now : List Item) : Typ
   pub raw_ends : run.raw_ends.items ≡ raw_ends_of waits
   pub stops : run.stops.items ≡ stops_of waits
   pub calls : run.calls.items ≡ calls_of waits
+
+-- the call with its current argument ready
+abbrev pub one_done : Waiting → List Item → Waiting
+one_done w made = record w { done = w.done ++ record { raw = w.raw; put = made } ∷ []; raw = [] }
+
+-- with one more argument, which is empty, where it isn't there
+abbrev pub with_absent : Bool → Waiting → Waiting
+with_absent true w = one_done w []
+with_absent false w = w
+
+-- The current argument of the innermost call has ended. It is noted as ready, the comma or `)` behind it was taken, and the
+-- call isn't noted any more.
+pub record Ended (run : Run) (call : Call) (waits : List Waiting) (made now : List Item) : Type 0 where
+  pub w : Waiting
+  pub ws : List Waiting
+  pub are : waits ≡ w ∷ ws
+  pub none : now ≡ []
+  pub call_is : call ≡ call_of w ws
+  pub mark : Item
+  pub work : run.work.items ++ mark ∷ [] ≡ work_of (w ∷ ws)
+  pub put : run.put.items ≡ put_of (one_done w made ∷ ws)
+  pub put_ends : run.put_ends.items ≡ put_ends_of (one_done w made ∷ ws)
+  pub raw : run.raw.items ≡ raw_of (one_done w made ∷ ws)
+  pub raw_ends : run.raw_ends.items ≡ raw_ends_of (one_done w made ∷ ws)
+  pub stops : run.stops.items ≡ stops_of (w ∷ ws)
+  pub calls : run.calls.items ≡ calls_of ws
+
+-- where an argument ends that isn't there, behind so many items
+abbrev pub end_if : (absent : Bool) → ℕ → List ℕ
+end_if true count = count ∷ []
+end_if false count = []
+
+-- these lists stand in a row in the items, from the first on, and end so
+pub record InRow (items : List Item) (ends : List ℕ) (first first_end : ℕ) (lists : List (List Item)) : Type 0 where
+  -- what stands before them belongs to others
+  pub before : List Item
+  pub before_ends : List ℕ
+  pub items_are : items ≡ before ++ in_a_row lists
+  pub ends_are : ends ≡ before_ends ++ ends_from (length before) lists
+  pub first_is : first ≡ length before
+  pub first_end_is : first_end ≡ length before_ends
 
 -- some calls and tokens that the run has
 pub record Shape (run : Run) : Type 0 where

@@ -3,6 +3,7 @@ ghost use Rattle.std.specs.Prelude.{◌≡◌, ◌≤◌, ◌++◌, ℕ, List, A
 ghost use Rattle.number_sets.specs.NumberSets.{Table};
 ghost use Rattle.c_macros.specs.Argument.{if_asked};
 ghost use Rattle.c_macros.specs.Run.{IsKnownItem};
+ghost use Rattle.c_macros.specs.Stops.{AreClosings};
 ghost use Rattle.c_macros.specs.Waiting.{backwards};
 ghost use Rattle.c_macros.specs.declared.item.Item.{Item};
 
@@ -21,6 +22,7 @@ pub(crate) fn begin_argument(
     ensures work { (below now : List Item) → work.old.items ≡ below ++ backwards now → floor ≡ length below → OnOk result (work.new.items ≡ below ++ backwards (if_asked taken.apart now)) }
     ensures raw { (below now : List Item) → work.old.items ≡ below ++ backwards now → floor ≡ length below → OnOk result (raw.new.items ≡ raw.old.items ++ if_asked taken.raw now) }
     ensures count { OnOk result (length work.new.items ≤ length work.old.items) }
+    ensures closings { (closings : List ℕ) → AreClosings work.old.items closings → OnOk result (AreClosings work.new.items closings) }
     ensures known_work { (names : List (List ℕ)) (table : Table) → All (IsKnownItem names table) work.old.items → OnOk result (All (IsKnownItem names table) work.new.items) }
     ensures known_raw { (names : List (List ℕ)) (table : Table) → All (IsKnownItem names table) work.old.items → All (IsKnownItem names table) raw.old.items → OnOk result (All (IsKnownItem names table) raw.new.items) }
 {

@@ -1,5 +1,5 @@
 // A macro as the table keeps it: with its body read, once. What it becomes isn't known here.
-ghost use Rattle.std.specs.Prelude.{◌≡◌, ◌<◌, ℕ, Some, length, map, slice_get, IfOk};
+ghost use Rattle.std.specs.Prelude.{◌≡◌, ◌<◌, ℕ, Some, length, map, slice_get, IfOk, IfSome};
 ghost use Rattle.meaning_macros.specs.Bodies.{chains};
 ghost use Rattle.meaning_macros.specs.WellFormed.{IsWellFormed};
 ghost use Rattle.c_macros.specs.Parameters.{params_in};
@@ -59,5 +59,28 @@ impl Entry {
         ensures { (s : Spelling) → KeepsApart s → (k : ℕ) → k < length (params_in self.now.params) → slice_get result.now k ≡ Some (use_in k (chains (macro_by s self.now))) }
     {
         self.body.uses.as_slice()
+    }
+
+    /// How the body takes the argument of this parameter, where there is one of this number.
+    pub(crate) fn use_of(&self, parameter: usize) -> Option<ParameterUse>
+        ensures { IfSome result (λ taken. (s : Spelling) → KeepsApart s → taken ≡ use_in parameter (chains (macro_by s self.now))) }
+    {
+        if parameter >= self.definition().parameters().len() {
+            return None;
+        }
+        self.uses().get(parameter).copied()
+    }
+
+    /// How the body takes the first argument. Without parameters it takes none.
+    pub(crate) fn first_use(&self) -> Option<ParameterUse>
+        ensures { IfSome result (λ taken. (s : Spelling) → KeepsApart s → 0 < length (params_in self.now.params) → taken ≡ use_in 0 (chains (macro_by s self.now))) }
+    {
+        if self.definition().parameters().is_empty() {
+            return Some(ParameterUse {
+                apart: false,
+                raw: false,
+            });
+        }
+        self.use_of(0)
     }
 }

@@ -71,11 +71,13 @@ impl Run {
     fn new(alloc: Global, toks: &[Token]) -> Result<Self, AllocError>
         ensures holds { IfOk result (λ run. Holds run [] [] (map fresh_item toks.now)) }
         ensures sets { IfOk result (λ run. run.sets ≡ no_sets) }
+        ensures closings { IfOk result (λ run. run.closings.items ≡ []) }
     {
         let work = fresh_items(alloc, toks)?;
         Ok(Run {
             work,
             floor: 0,
+            closings: Vec::new(alloc),
             put: Vec::new(alloc),
             put_ends: Vec::new(alloc),
             raw: Vec::new(alloc),
@@ -119,7 +121,7 @@ impl Run {
         if self.work.len() > self.floor {
             return self.take(alloc, table, names, budget);
         }
-        Err(ExpandFault::Memory)
+        self.end_argument(alloc, table, names, budget)
     }
 }
 

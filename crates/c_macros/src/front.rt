@@ -1,7 +1,7 @@
 // Where a fault of a run is told. Why it comes isn't known here.
 ghost use Rattle.std.specs.Prelude.{◌≡◌};
 ghost use Rattle.c_macros.specs.Front.{front_of, told_by};
-ghost use Rattle.c_macros.specs.declared.expand_fault.ExpandFault.TheVariants.{Limit};
+ghost use Rattle.c_macros.specs.declared.expand_fault.ExpandFault.TheVariants.{Arguments, Limit, OpenCall};
 
 use crate::expand_fault::ExpandFault;
 use crate::run::Run;
@@ -37,6 +37,28 @@ impl Run {
         let front = self.front(place, before);
         ExpandFault::Limit {
             limit,
+            before: front.before,
+        }
+    }
+
+    /// No `)` ends a call at this place, behind so many tokens.
+    pub(crate) fn unclosed(&self, place: Place, before: usize) -> ExpandFault
+        ensures { result ≡ OpenCall (front_of self.now.calls.items place before).place (front_of self.now.calls.items place before).before }
+    {
+        let front = self.front(place, before);
+        ExpandFault::OpenCall {
+            place: front.place,
+            before: front.before,
+        }
+    }
+
+    /// A call at this place, behind so many tokens, has another number of arguments than parameters.
+    pub(crate) fn mismatched(&self, place: Place, before: usize) -> ExpandFault
+        ensures { result ≡ Arguments (front_of self.now.calls.items place before).place (front_of self.now.calls.items place before).before }
+    {
+        let front = self.front(place, before);
+        ExpandFault::Arguments {
+            place: front.place,
             before: front.before,
         }
     }

@@ -5,6 +5,7 @@ ghost use Rattle.c_macros.specs.Laid.{LaidItems, Lays, ends_of, items_of};
 ghost use Rattle.c_macros.specs.Lay.{PutOn, LaidOn, with_space};
 ghost use Rattle.c_macros.specs.Reading.{HasSet};
 ghost use Rattle.c_macros.specs.Run.{IsKnownItem};
+ghost use Rattle.c_macros.specs.Stops.{KeepsBelow};
 ghost use Rattle.c_macros.specs.Waiting.{backwards};
 ghost use Rattle.c_macros.specs.declared.item.Item.{Item};
 
@@ -28,6 +29,7 @@ pub(crate) fn lay(
         OnOk result (LaidOn sets.new hides parts below now work.new.items) }
     ensures count { (parts : List LaidItems) → Lays laid.old parts → (below now : List Item) → work.old.items ≡ below ++ backwards now → floor ≡ length below →
         OnOk result (length work.new.items ≡ length work.old.items + length laid.old.items.items) }
+    ensures below { OnOk result (KeepsBelow work.old.items work.new.items) }
     ensures known { (names : List (List ℕ)) → All (IsKnownItem names sets.old) laid.old.items.items → All (IsKnownItem names sets.old) work.old.items → OnOk result (All (IsKnownItem names sets.new) work.new.items) }
     ensures sets { Extends sets.old sets.new }
 {
@@ -60,6 +62,7 @@ fn put_part(
     requires hides { IsSet sets.old hides }
     requires items { All (HasSet sets.old) items.old.items }
     ensures put { (before part : List Item) → items.old.items ≡ before ++ part → first ≡ length before → OnOk result ((items.new.items ≡ before) × PutOn sets.new hides part work.old.items work.new.items) }
+    ensures below { OnOk result (KeepsBelow work.old.items work.new.items) }
     ensures rest { OnOk result (All (HasSet sets.new) items.new.items) }
     ensures count { OnOk result (length work.new.items + length items.new.items ≡ length work.old.items + length items.old.items) }
     ensures known { (names : List (List ℕ)) → All (IsKnownItem names sets.old) items.old.items → All (IsKnownItem names sets.old) work.old.items → OnOk result (All (IsKnownItem names sets.new) work.new.items × All (IsKnownItem names sets.new) items.new.items) }
@@ -81,6 +84,7 @@ fn put_part(
 /// White space goes before the next token above the floor.
 pub(crate) fn put_space(work: &mut Vec<Item>, floor: usize, space: bool)
     ensures stand { (below now : List Item) → work.old.items ≡ below ++ backwards now → floor ≡ length below → work.new.items ≡ below ++ backwards (with_space space now) }
+    ensures below { KeepsBelow work.old.items work.new.items }
     ensures count { length work.new.items ≡ length work.old.items }
     ensures known { (names : List (List ℕ)) (table : Table) → All (IsKnownItem names table) work.old.items → All (IsKnownItem names table) work.new.items }
 {

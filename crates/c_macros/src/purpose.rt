@@ -1,11 +1,12 @@
 // What the next token of a run is for. What becomes of it isn't known here.
-ghost use Rattle.std.specs.Prelude.{◌≡◌, ◌&&◌, ◌++◌, ℕ, List, not, length};
+ghost use Rattle.std.specs.Prelude.{◌≡◌, ◌<◌, ◌&&◌, ◌++◌, ℕ, List, IsTrue, not, length};
 ghost use Rattle.meaning_macros.specs.Macros.{predefined_of};
 ghost use Rattle.meaning_macros.specs.Signs.{is_identifier_kind};
 ghost use Rattle.c_macros.specs.Purpose.{Purposed, opens_with, purpose_of_predefined};
 ghost use Rattle.c_macros.specs.Reading.{HasName, HasSet, Reading, Reads};
 ghost use Rattle.c_macros.specs.Waiting.{backwards};
 ghost use Rattle.c_macros.specs.declared.item.Item.{Item};
+ghost use Rattle.c_macros.specs.declared.purpose.Purpose.TheVariants.{Called};
 
 use crate::item::Item;
 use crate::run::Run;
@@ -38,7 +39,8 @@ impl Run {
     pub(crate) fn purpose(&self, table: &MacroTable, names: &Names, item: &Item) -> Purpose
         requires name { HasName names.now item.now }
         requires set { HasSet self.now.sets item.now }
-        ensures { (r : Reading) → Reads names.now self.now.sets r → (below now : List Item) → self.now.work.items ≡ below ++ backwards now → self.now.floor ≡ length below → Purposed r table.now item.now now result }
+        ensures purpose { (r : Reading) → Reads names.now self.now.sets r → (below now : List Item) → self.now.work.items ≡ below ++ backwards now → self.now.floor ≡ length below → Purposed r table.now item.now now result }
+        ensures above { result ≡ Called → self.now.floor < length self.now.work.items }
     {
         if !self.may_be_replaced(item) {
             return Purpose::Stays;
@@ -67,7 +69,8 @@ impl Run {
 
     // The next token is a `(`.
     fn opens(&self) -> bool
-        ensures { (below now : List Item) → self.now.work.items ≡ below ++ backwards now → self.now.floor ≡ length below → result ≡ opens_with now }
+        ensures opens { (below now : List Item) → self.now.work.items ≡ below ++ backwards now → self.now.floor ≡ length below → result ≡ opens_with now }
+        ensures above { IsTrue result → self.now.floor < length self.now.work.items }
     {
         let count = self.work.len();
         count > self.floor && self.work[count - 1].token.kind == TokenKind::LeftParenthesis

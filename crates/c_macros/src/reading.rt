@@ -1,16 +1,19 @@
 // The call behind a function-like macro's name (C11 6.10.3 p4, p10 to p12). What becomes of it isn't known here.
-ghost use Rattle.std.specs.Prelude.{◌≡◌, ◌+◌, ◌≤◌, ◌++◌, ◌∷◌, List, length, IfOk, option_map, slice_get};
+ghost use Rattle.std.specs.Prelude.{◌≡◌, ◌+◌, ◌≤◌, ◌++◌, ◌∷◌, List, All, length, IfOk, OnOk, option_map, slice_get};
 ghost use Rattle.meaning_macros.specs.Calls.{matched, most_cuts};
 ghost use Rattle.meaning_macros.specs.Hiding.{Hiding};
-ghost use Rattle.c_macros.specs.Calls.{ReadsCall, fitted, is_nil};
+ghost use Rattle.number_sets.specs.NumberSets.{Table};
+ghost use Rattle.c_macros.specs.Calls.{HasClosing, ReadsCall, fitted, is_nil};
+ghost use Rattle.c_macros.specs.Reading.{HasSet};
+ghost use Rattle.c_macros.specs.Stops.{AreClosings};
 ghost use Rattle.c_macros.specs.Seen.{Spelling, macro_by};
 ghost use Rattle.c_macros.specs.Waiting.{backwards};
 ghost use Rattle.c_macros.specs.declared.item.Item.{Item};
 
 use crate::definition::Macro;
 use crate::item::Item;
-use crate::stops::note_stops;
-use std::alloc::AllocError;
+use crate::stops::{item_at, note_stops};
+use std::alloc::{AllocError, Global};
 
 /// What stands behind the `(` of a call.
 #[derive(Clone, Copy)]
@@ -25,16 +28,21 @@ pub(crate) enum CallRead {
 
 /// Notes how far the arguments of a call are read. The items behind its `(` stand on top, above the floor.
 pub(crate) fn read_call(
+    alloc: Global,
     work: &[Item],
     floor: usize,
     m: &Macro,
+    closings: &mut Vec<usize>,
     stops: &mut Vec<usize>,
 ) -> Result<CallRead, AllocError>
     requires above { floor ≤ length work.now }
-    ensures { (below now : List Item) → work.now ≡ below ++ backwards now → floor ≡ length below → IfOk result (ReadsCall m.now below now stops.old.items stops.new.items) }
+    requires closings { AreClosings work.now closings.old.items }
+    ensures read { (below now : List Item) → work.now ≡ below ++ backwards now → floor ≡ length below → IfOk result (ReadsCall m.now below now stops.old.items stops.new.items) }
+    ensures closings { OnOk result (AreClosings work.now closings.new.items) }
+    ensures closing { (table : Table) → All (HasSet table) work.now → IfOk result (HasClosing table) }
 {
     let before = stops.len();
-    if !note_stops(&work[floor..], floor, cuts_of(m), stops)? {
+    if !note_stops(alloc, work, floor, cuts_of(m), closings, stops)? {
         return Ok(CallRead::Open);
     }
     let noted = stops.as_slice();
@@ -88,20 +96,12 @@ fn fits(m: &Macro, found: usize, is_empty: bool) -> Option<bool>
     None
 }
 
-fn number_at(numbers: &[usize], index: usize) -> Option<usize>
+/// The number at this place, where there is one.
+pub(crate) fn number_at(numbers: &[usize], index: usize) -> Option<usize>
     ensures { result ≡ slice_get numbers.now index }
 {
     if index < numbers.len() {
         return Some(numbers[index]);
-    }
-    None
-}
-
-fn item_at(items: &[Item], index: usize) -> Option<Item>
-    ensures { result ≡ slice_get items.now index }
-{
-    if index < items.len() {
-        return Some(items[index]);
     }
     None
 }

@@ -31,6 +31,9 @@ pub(crate) struct Run {
     /// these, stand below the floor.
     pub(crate) work: Vec<Item>,
     pub(crate) floor: usize,
+    /// For each `(` of `work` whose `)` was met how far is read down to that, else 0. Where `work` is longer,
+    /// none was met.
+    pub(crate) closings: Vec<usize>,
     /// What is put: before the outermost call, then for each waiting call its ready arguments and what is
     /// put of its current one.
     pub(crate) put: Vec<Item>,

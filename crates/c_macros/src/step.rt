@@ -8,6 +8,7 @@ ghost use Rattle.c_macros.specs.Lay.{SpacedOn};
 ghost use Rattle.c_macros.specs.Reading.{HasSet, Reading, Reads};
 ghost use Rattle.c_macros.specs.Run.{Comes, Fails, IsKnownItem, IsKnownRun, KnowsTable, left_to_do};
 ghost use Rattle.c_macros.specs.Purpose.{IsReplaced, predefined_by, use_before};
+ghost use Rattle.c_macros.specs.Stops.{AreClosings};
 ghost use Rattle.c_macros.specs.Waiting.{Holds, Waiting, backwards};
 ghost use Rattle.c_macros.specs.declared.expand_fault.ExpandFault.TheVariants.{Memory};
 ghost use Rattle.c_macros.specs.declared.item.Item.{Item};
@@ -61,7 +62,7 @@ impl Run {
             }
             Purpose::Predefines(name) => self.put_predefined(table, names, item, name, budget),
             Purpose::Replaced => self.replace(alloc, table, names, item, budget),
-            Purpose::Called => Err(ExpandFault::Memory),
+            Purpose::Called => self.open_call(alloc, table, item, budget),
         }
     }
 
@@ -161,8 +162,8 @@ impl Run {
         }
     }
 
-    // The body goes on top of what is read, with the white space of the macro's name before it.
-    fn lay_body(
+    /// The body goes on top of what is read, with the white space of the macro's name before it.
+    pub(crate) fn lay_body(
         &mut self,
         name: &Item,
         hides: SetId,
@@ -175,12 +176,14 @@ impl Run {
             OnOk result (SpacedOn self.new.sets hides name.now.token.space_before parts below now self.new.work.items) }
         ensures count { (parts : List LaidItems) → Lays self.old.laid parts → (below now : List Item) → self.old.work.items ≡ below ++ backwards now → self.old.floor ≡ length below →
             OnOk result (length self.new.work.items ≡ length self.old.work.items + length self.old.laid.items.items) }
-        ensures others { OnOk result (self.new ≡ record self.old { work = self.new.work; sets = self.new.sets; laid = self.new.laid }) }
+        ensures others { OnOk result (self.new ≡ record self.old { work = self.new.work; closings = self.new.closings; sets = self.new.sets; laid = self.new.laid }) }
+        ensures closings { AreClosings self.old.work.items self.old.closings.items → OnOk result (AreClosings self.new.work.items self.new.closings.items) }
         ensures budget { budget.new ≡ record budget.old { tokens = budget.old.tokens - length self.old.laid.items.items } }
         ensures known { (names : List (List ℕ)) → All (IsKnownItem names self.old.sets) self.old.laid.items.items → All (IsKnownItem names self.old.sets) self.old.work.items → OnOk result (All (IsKnownItem names self.new.sets) self.new.work.items) }
         ensures sets { number_sets.Extends self.old.sets self.new.sets }
         ensures only { IfErr result (λ fault. fault ≡ Memory) }
     {
+        self.closings.truncate(self.work.len());
         let most = budget.tokens;
         budget.tokens = most - self.laid.items.len() as u32;
         lay(
@@ -198,8 +201,12 @@ impl Run {
 /// More names than this are want of memory.
 const MAX_NAME: u32 = 0x3fff_ffff;
 
-// The set with a name too.
-fn hidden_too(sets: &mut NumberSets, set: SetId, name: NameId) -> Result<SetId, AllocError>
+/// The set with a name too.
+pub(crate) fn hidden_too(
+    sets: &mut NumberSets,
+    set: SetId,
+    name: NameId,
+) -> Result<SetId, AllocError>
     requires set { IsSet sets.old set }
     ensures set { IfOk result (IsSet sets.new) }
     ensures numbers { IfOk result (λ found. (n : ℕ) → holds sets.new found n ≡ nat_eq n name.0 || holds sets.old set n) }

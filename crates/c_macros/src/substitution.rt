@@ -1,5 +1,5 @@
 // A body with its arguments in place (C11 6.10.3.1 to 6.10.3.3). Where it goes isn't known here.
-ghost use Rattle.std.specs.Prelude.{◌≡◌, ◌<◌, ◌++◌, ◌∷◌, ℕ, List, [], map, length, vec_len, All, IfOk, OnOk};
+ghost use Rattle.std.specs.Prelude.{◌≡◌, ◌<◌, ◌≤◌, ◌++◌, ◌∷◌, ℕ, List, [], map, length, vec_len, All, IfOk, OnOk};
 ghost use Rattle.meaning_macros.specs.Bodies as bodies;
 ghost use Rattle.meaning_macros.specs.Substitution.{part_of, substituted};
 ghost use Rattle.number_sets.specs.NumberSets as sets;
@@ -61,6 +61,7 @@ pub(crate) fn substitute(
     requires empty { Lays laid.old [] }
     ensures answer { (r : Reading) → ReadsNames names.new r → (raws readys : List (List Item)) → HasArguments raw.entry raws → HasArguments expanded.entry readys →
         Answers r most laid.new result (substituted (at_of place) (arguments_by r raws) (arguments_by r readys) (grouped (map (part_by r.spelled) parts.now))) }
+    ensures count { OnOk result (length laid.new.items.items ≤ most) }
     ensures known { OnOk result (All (HasName names.new) laid.new.items.items) }
     ensures sets { (table : sets.Table) → 0 < length table → All (HasSet table) raw.entry.items.now → All (HasSet table) expanded.entry.items.now → OnOk result (All (HasSet table) laid.new.items.items) }
     ensures keeps { Extends names.old names.new }
@@ -97,6 +98,7 @@ fn lay_chain<'p>(
     ensures answer { (parts : List LaidItems) → Lays laid.old parts → (r : Reading) → ReadsNames names.new r → (raws readys : List (List Item)) → HasArguments raw.entry raws → HasArguments expanded.entry readys →
         LaysMore r most laid.new result (λ later. with_parts r parts (with_chain (at_of place) (arguments_by r raws) (arguments_by r readys) (map (operand_by r.spelled) (first.now.operand ∷ joined_here others.now)) later)) }
     ensures rest { IfOk result (λ rest. rest.now ≡ behind_joined others.now) }
+    ensures count { OnOk result (length laid.new.items.items ≤ most) }
     ensures known { OnOk result (All (HasName names.new) laid.new.items.items) }
     ensures sets { (table : sets.Table) → 0 < length table → All (HasSet table) laid.old.items.items → All (HasSet table) raw.entry.items.now → All (HasSet table) expanded.entry.items.now → OnOk result (All (HasSet table) laid.new.items.items) }
     ensures keeps { Extends names.old names.new }

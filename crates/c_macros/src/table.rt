@@ -1,9 +1,10 @@
 // The macros that are defined, by the ids of their names. What they become isn't known here.
-ghost use Rattle.std.specs.Prelude.{◌≡◌, ◌≢◌, ◌↔◌, ℕ, Some, None, true, IsErrOf, OnOk, OnErr, is_some, option_copied};
+ghost use Rattle.std.specs.Prelude.{◌≡◌, ◌≢◌, ◌↔◌, List, ℕ, Some, None, true, IsErrOf, OnOk, OnErr, is_some, option_copied};
 ghost use Rattle.sparse_model.specs.declared.ids.NameId.{NameId};
 ghost use Rattle.meaning_macros.specs.WellFormed.{IsWellFormed};
+ghost use Rattle.c_tokens.specs.Seen.{IsKnown};
 ghost use Rattle.c_macros.specs.Redefinition.{defined_as, redefines};
-ghost use Rattle.c_macros.specs.Seen.{by_ids};
+ghost use Rattle.c_macros.specs.Seen.{IsKnownMacro, KnowsAll, by_ids};
 ghost use Rattle.c_macros.specs.Table.{macro_at, spelling_of_file};
 ghost use Rattle.c_macros.specs.declared.fault.DefineFault.TheVariants.{Redefined, Memory};
 
@@ -39,6 +40,7 @@ impl MacroTable {
     pub fn new(alloc: Global) -> Self
         ensures no_macros { (name : NameId) → macro_at result name ≡ None }
         ensures no_files { (file : ℕ) → spelling_of_file result file ≡ None }
+        ensures known { (names : List (List ℕ)) → KnowsAll names result }
     {
         MacroTable {
             alloc,
@@ -61,6 +63,9 @@ impl MacroTable {
         ensures others { (other : NameId) → other ≢ name → macro_at self.new other ≡ macro_at self.old other }
         ensures files { self.new.files ≡ self.old.files }
         ensures err { OnErr result (self.new ≡ self.old) }
+
+        // Where the name and the ids of the macro are known, nothing that isn't comes in.
+        ensures known { (names : List (List ℕ)) → KnowsAll names self.old → IsKnown names name → IsKnownMacro names m → KnowsAll names self.new }
     {
         if let Some(entry) = self.entries.get(&name) {
             if agrees(entry.definition(), &m) {
@@ -79,6 +84,7 @@ impl MacroTable {
         ensures dropped { macro_at self.new name ≡ None }
         ensures others { (other : NameId) → other ≢ name → macro_at self.new other ≡ macro_at self.old other }
         ensures files { self.new.files ≡ self.old.files }
+        ensures known { (names : List (List ℕ)) → KnowsAll names self.old → KnowsAll names self.new }
     {
         self.entries.swap_remove(&name).is_some()
     }
@@ -106,6 +112,7 @@ impl MacroTable {
         ensures others { (other : ℕ) → other ≢ file → spelling_of_file self.new other ≡ spelling_of_file self.old other }
         ensures macros { self.new.macros ≡ self.old.macros }
         ensures err { OnErr result (self.new ≡ self.old) }
+        ensures known { (names : List (List ℕ)) → KnowsAll names self.old → IsKnown names spelled → KnowsAll names self.new }
     {
         self.files.insert(file, spelled)?;
         Ok(())

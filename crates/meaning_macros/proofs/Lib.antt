@@ -2,3 +2,4 @@ pub mod Budgets
 pub mod Cases
 pub mod PlainTokens
 pub mod Agreeing
+pub mod TableLemmas

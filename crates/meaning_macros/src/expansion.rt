@@ -3,12 +3,17 @@ ghost use Rattle.meaning_macros.specs.examples.Expansions.{RescanningExamples, P
 ghost use Rattle.meaning_macros.specs.examples.Mixed.{MixedExamples};
 ghost use Rattle.meaning_macros.specs.examples.Budgets.{BudgetExamples};
 ghost use Rattle.meaning_macros.specs.examples.Definitions.{DefinitionExamples};
-ghost use Rattle.meaning_macros.specs.laws.Expansion.{ExpansionIsItsCases, NoMoreIsLeft, PlainTokensStay, TokensJoinAsSpelled};
+ghost use Rattle.meaning_macros.specs.laws.Expansion.{ExpansionIsItsCases, NoMoreIsLeft, PlainTokensStay, TablesAreWhatTheySay, TokensJoinAsSpelled};
 ghost use Rattle.meaning_macros.specs.laws.Agreement.{AgreementIsAnEquivalence};
 
 /// The expansion of a list is the five cases on its first token, with the expansion itself for what goes on.
 pub fn expansions_are_their_cases()
     ensures { ExpansionIsItsCases }
+{}
+
+/// Two tables in which each name stands for the same macro, and each file is spelled alike, expand alike.
+pub fn tables_are_what_they_say()
+    ensures { TablesAreWhatTheySay }
 {}
 
 /// No expansion leaves more replacements or made tokens than its budget had, and the count of `__COUNTER__` never falls.

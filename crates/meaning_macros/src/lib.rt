@@ -8,5 +8,5 @@ mod expansion;
 
 pub use expansion::{
     agreement_is_an_equivalence, budgets_are_used_up, expansions_are_their_cases,
-    plain_tokens_stay, tokens_join_as_spelled, worked_examples,
+    plain_tokens_stay, tables_are_what_they_say, tokens_join_as_spelled, worked_examples,
 };

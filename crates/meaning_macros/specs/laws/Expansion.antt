@@ -1,9 +1,9 @@
 -- What holds of each expansion.
-use Rattle.std.specs.Prelude.{◌≡◌, ◌≤◌, false, true, List, [], ◌∷◌, ◌++◌, Option, Some, None, ⊤}
+use Rattle.std.specs.Prelude.{◌≡◌, ◌≤◌, ℕ, false, true, List, [], ◌∷◌, ◌++◌, Option, Some, None, ⊤}
 use Rattle.vocabulary.specs.declared.token_kind.TokenKind.{TokenKind}
 use Rattle.meaning_text.specs.Kinds.{kind_in}
 use Rattle.meaning_macros.specs.Signs.{is_identifier_kind}
-use Rattle.meaning_macros.specs.Macros.{macro_of, predefined_of, MacroTable}
+use Rattle.meaning_macros.specs.Macros.{macro_of, predefined_of, spelled_file, MacroTable}
 use Rattle.meaning_macros.specs.Hiding.{Hiding}
 use Rattle.meaning_macros.specs.Substitution.{Joins, BadBehind, paste}
 use Rattle.meaning_macros.specs.Expansion.{Budget, End, Finished, Failed, Passed, expand_by, expansion}
@@ -11,6 +11,17 @@ use Rattle.meaning_macros.specs.Expansion.{Budget, End, Finished, Failed, Passed
 -- The expansion is its five cases over itself, so it doesn't matter how many replacements are allowed from without.
 abbrev pub ExpansionIsItsCases : Type 0
 ExpansionIsItsCases = (table : MacroTable) (b : Budget) (ts : List Hiding) → expansion table b ts ≡ expand_by (expansion table) table b ts
+
+-- in both tables each name stands for the same macro, and each file is spelled alike
+pub record HaveSameMacros (table other : MacroTable) : Type 0 where
+  pub macros : (name : List ℕ) → macro_of table.definitions name ≡ macro_of other.definitions name
+  pub files : (file : ℕ) → spelled_file table.files file ≡ spelled_file other.files file
+
+-- A table is what it says of names and files: neither the order of its entries matters, nor what stands behind the first of a
+-- name.
+abbrev pub TablesAreWhatTheySay : Type 0
+TablesAreWhatTheySay =
+    (table other : MacroTable) → HaveSameMacros table other → (b : Budget) (ts : List Hiding) → expansion table b ts ≡ expansion other b ts
 
 -- no more is left than there was, and the count of `__COUNTER__` doesn't fall
 pub record IsAtMost (left b : Budget) : Type 0 where

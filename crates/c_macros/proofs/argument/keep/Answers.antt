@@ -1,8 +1,7 @@
-use Rattle.std.proofs.Common.{◌≡◌, ◌∙◌, ◌<◌, sym, ap, subst, List, ◌∷◌, ◌++◌, [], length, All, arith}
+use Rattle.std.proofs.Common.{sym, subst, ◌∷◌, [], All, arith}
 use Rattle.std.proofs.lemmas.List.Elements.{All-push}
 use Rattle.c_macros.specs.Run.{IsKnownItem}
-use Rattle.c_macros.specs.declared.item.Item.{Item}
-use Rattle.c_macros.proofs.ArgumentLemmas.{Keeping, one_kept, all_kept}
+use Rattle.c_macros.proofs.ArgumentLemmas.{one_kept, all_kept}
 use Rattle.c_macros.proofs.KnownLemmas.{All-front, All-last}
 use Rattle.c_macros.proofs.argument.keep.Goals as goal
 

@@ -13,6 +13,7 @@ use Rattle.c_macros.specs.Run.{IsKnownItem}
 use Rattle.c_macros.specs.Seen.{table_of}
 use Rattle.c_macros.specs.Waiting.{put_of}
 use Rattle.c_macros.proofs.BorderLemmas.{knows-table, knows-later, last_reading, last-reads, asked-is, is-expansion, ended-is, tokens-known, made-read, fresh-known}
+use Rattle.c_macros.proofs.ClosingLemmas.{none-noted}
 use Rattle.c_macros.proofs.HideLemmas.{Reads-earlier}
 use Rattle.c_macros.proofs.expansion.expand.Goals as goal
 
@@ -28,6 +29,7 @@ steps-init c =
         raw = subst (λ (items : List Item). All (IsKnownItem c.args.names.now run.sets) items) (sym c.in_ok-run.ensures.holds.raw) (λ k d below. absurd (omega (arith, below)));
         calls = λ k d below. absurd (omega (arith, below, ap length c.in_ok-run.ensures.holds.calls));
         some_set = omega (arith, ap length c.in_ok-run.ensures.sets);
+        closings = none-noted run.work.items run.closings.items c.in_ok-run.ensures.closings;
       };
       sum = c.requires.sum;
       sets = ([], c.in_ok-run.ensures.sets);

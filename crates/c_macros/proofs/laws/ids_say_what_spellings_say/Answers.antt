@@ -2,6 +2,8 @@ use Rattle.std.proofs.Common.{◌∙◌, sym, subst}
 use Rattle.meaning_macros.specs.Agreement.{agree}
 use Rattle.meaning_macros.specs.WellFormed.{IsWellFormed}
 use Rattle.c_macros.specs.Seen.{own_text}
+use Rattle.c_tokens.specs.Seen.{IsKnown}
+use Rattle.c_macros.proofs.KnowsLemmas.{All-named}
 use Rattle.c_macros.proofs.ParameterLemmas.{own_text-KeepsApart}
 use Rattle.c_macros.proofs.ReadingLemmas.{found-known, macro_by-known, spelled_by, spelled_by-KeepsApart}
 use Rattle.c_macros.proofs.SpellingLemmas.{IsWellFormed-by, agree-by}
@@ -19,4 +21,4 @@ returns-clause-well_formed c = λ names m apart known. (
 )
 
 pub returns-clause-table : goal.returns-clause-table
-returns-clause-table c = λ names table name apart known here. found-known names apart table.macros name known here
+returns-clause-table c = λ names table name apart known here. found-known names apart table.macros name (All-named (IsKnown names) table.macros known) here

@@ -1,12 +1,14 @@
 use Rattle.std.proofs.Common.{◌≡◌, ◌∙◌, sym, ap, length, arith}
 use Rattle.c_tokens.proofs.SeenLemmas.{Extends-Extends}
 use Rattle.c_macros.specs.Laid.{items_of}
+use Rattle.c_macros.proofs.ClosingLemmas.{keeps-both}
 use Rattle.c_macros.proofs.LayLemmas.{last_part, one_laid, all_laid, no_parts}
 use Rattle.c_macros.proofs.lay.lay.Goals as goal
 
 pub loop-part-preserved : goal.loop-part-preserved
 loop-part-preserved c = record {
   grows = Extends-Extends c.args.sets.now c.loop-part.sets c.put_part.new.sets c.loop-part.invariant.grows c.put_part.ensures.sets;
+  below = keeps-both c.args.work.now.items c.put_part.new.work.items c.put_space.new.work.items (keeps-both c.args.work.now.items c.loop-part.work.items c.put_part.new.work.items c.loop-part.invariant.below c.in_ok-put_part.ensures.below) c.put_space.ensures.below;
   rest = c.in_ok-put_part.ensures.rest;
   lays = λ parts lays below now work floor.
       let l = c.loop-part.invariant.lays parts lays below now work floor in

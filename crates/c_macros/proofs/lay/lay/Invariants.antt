@@ -3,6 +3,7 @@ use Rattle.number_sets.specs.NumberSets.{Extends}
 use Rattle.c_macros.specs.Laid.{LaidItems, Lays}
 use Rattle.c_macros.specs.Reading.{HasSet}
 use Rattle.c_macros.specs.Run.{IsKnownItem}
+use Rattle.c_macros.specs.Stops.{KeepsBelow}
 use Rattle.c_macros.specs.Waiting.{backwards}
 use Rattle.c_macros.specs.declared.item.Item.{Item}
 use Rattle.c_macros.proofs.LayLemmas.{Laying}
@@ -12,6 +13,7 @@ abbrev pub invariant-loop-part : goal.invariant-loop-part
 invariant-loop-part l =
     record {
       grows : Extends l.fn.sets l.sets;
+      below : KeepsBelow l.fn.work.items l.work.items;
       rest : All (HasSet l.sets) l.laid.items.items;
       lays : (parts : List LaidItems) → Lays l.fn.laid parts → (below now : List Item) → l.fn.work.items ≡ below ++ backwards now → l.floor ≡ length below → Laying l.sets l.hides parts below now l.laid l.work.items;
       count : length l.work.items + length l.laid.items.items ≡ length l.fn.work.items + length l.fn.laid.items.items;

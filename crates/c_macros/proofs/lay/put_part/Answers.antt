@@ -6,6 +6,7 @@ use Rattle.c_tokens.proofs.SeenLemmas.{Extends-Extends}
 use Rattle.c_macros.specs.declared.item.Item.{Item}
 use Rattle.c_macros.specs.Reading.{HasSet}
 use Rattle.c_macros.specs.Run.{IsKnownItem}
+use Rattle.c_macros.proofs.ClosingLemmas.{keeps-push}
 use Rattle.c_macros.proofs.KnownLemmas.{IsSet-later, sets-later, items-later, All-front, All-last}
 use Rattle.c_macros.proofs.LayLemmas.{Putting, one_put}
 use Rattle.c_macros.proofs.lay.put_part.Goals as goal
@@ -21,6 +22,7 @@ loop-hides-preserved c =
     let new : Item = record { token = item.token; hides = c.in_ok-hidden.hidden } in
     record {
       grows = Extends-Extends c.args.sets.now before grown c.loop-hides.invariant.grows more;
+      below = keeps-push c.args.work.now.items c.loop-hides.work.items c.push.new.self.items new c.loop-hides.invariant.below c.in_ok-push.ensures.items;
       rest = sets-later before grown more fewer (All-front (HasSet before) fewer (item ∷ []) had);
       put = λ front part is first.
           subst (λ work. Putting grown c.args.hides front part c.args.work.now.items fewer work) (sym c.in_ok-push.ensures.items)

@@ -27,6 +27,7 @@ loop-first-preserved c =
           ∙ grouped-chain r.spelled c.in-Some.first.now c.in-Some.others.now
           ∙ ap (λ parts. map (operand_by r.spelled) (c.in-Some.first.now.operand ∷ joined_here c.in-Some.others.now) ∷ grouped (map (part_by r.spelled) parts)) (sym c.in-Ok.ensures.rest))
           (c.in-Ok.ensures.answer so_far.parts so_far.lays r reads raws readys has has_ready);
+      count = c.in-Ok.ensures.count;
       parts = All-same (IsKnownPart c.lay_chain.new.names) _ _ c.in-Ok.ensures.rest (parts-behind c.lay_chain.new.names c.in-Some.others.now (parts-grown _ _ keeps c.in-Some.others.now others));
       raw = names-grown _ _ keeps c.args.raw.items.now c.loop-first.invariant.raw;
       expanded = names-grown _ _ keeps c.args.expanded.items.now c.loop-first.invariant.expanded;

@@ -1,4 +1,4 @@
-use Rattle.std.proofs.Common.{◌<◌, List, map, length, All}
+use Rattle.std.proofs.Common.{◌<◌, ◌≤◌, List, map, length, All}
 use Rattle.meaning_macros.specs.Substitution.{substituted}
 use Rattle.number_sets.specs.NumberSets as sets
 use Rattle.c_tokens.specs.Seen.{Extends, at_of}
@@ -17,6 +17,7 @@ invariant-loop-first l = record {
       LaidSoFar r l.most l.laid
       (substituted (at_of l.place) (arguments_by r raws) (arguments_by r readys) (grouped (map (part_by r.spelled) l.rest)))
       (substituted (at_of l.place) (arguments_by r raws) (arguments_by r readys) (grouped (map (part_by r.spelled) l.parts)));
+  count : length l.laid.items.items ≤ l.most;
   parts : AreKnownParts l.names l.rest;
   raw : All (HasName l.names) l.raw.items.now;
   expanded : All (HasName l.names) l.expanded.items.now;

@@ -50,6 +50,7 @@ returns-clause-known c =
       raw = items-later names later sets sets c.in_ok-made.ensures.keeps same c.args.self.now.raw.items c.requires.known.raw;
       calls = calls-later names later sets sets c.in_ok-made.ensures.keeps same c.args.self.now.calls.items c.requires.known.calls;
       some_set = c.requires.known.some_set;
+      closings = c.requires.known.closings;
     }
 
 pub returns-clause-sum : goal.returns-clause-sum

@@ -17,10 +17,11 @@ use Rattle.c_macros.specs.Operands.{grouped, part_by}
 use Rattle.c_macros.specs.Reading.{hiding_by, hidings_by, HasSet}
 use Rattle.c_macros.specs.Run.{IsKnownItem, IsKnownRun, table_by, outcome, Comes, left_to_do}
 use Rattle.c_macros.specs.Seen.{macro_by}
+use Rattle.c_macros.specs.Stops.{AreClosings}
 use Rattle.c_macros.specs.Waiting.{work_of}
 use Rattle.c_macros.proofs.ExpansionLemmas.{replaces-none}
 use Rattle.c_macros.proofs.HideLemmas.{Reads-earlier, hidden-with}
-use Rattle.c_macros.proofs.KnownLemmas.{items-later, known-both, laid-known, on_ok_from}
+use Rattle.c_macros.proofs.KnownLemmas.{items-later, known-both, laid-known, on_ok_both, on_ok_from}
 use Rattle.c_macros.proofs.PartLemmas.{parts-known}
 use Rattle.c_macros.proofs.ReplaceLemmas.{any_reading, any_reads, count-is, substitution-fails, object-is, replaced-comes}
 use Rattle.c_macros.proofs.StepLemmas.{passed-ends}
@@ -57,7 +58,7 @@ returns-in-Ok-clause-comes c = λ waits made now holds uses.
     let whole = c.in-Ok.ensures.answer (any_reading c.substitute.new.names) (any_reads c.substitute.new.names c.apart.ensures.apart) [] [] (record { before = []; items = refl; first = refl; ends = refl }) (record { before = []; items = refl; first = refl; ends = refl }) in
     let found = sym c.entry.ensures ∙ ap option_copied c.in-Some.is in
     on_ok_from {X = (ps : List LaidItems) × Lays mid.laid ps} (λ p. SpacedOn next.sets c.in_ok-hides.hides item.token.space_before p.0 (work_of waits) now next.work.items)
-    (next ≡ record mid { work = next.work; sets = next.sets; laid = next.laid })
+    (next ≡ record mid { work = next.work; closings = next.closings; sets = next.sets; laid = next.laid })
     (Comes later next c.args.table.now waits made (item ∷ now) c.args.budget.now c.lay_body.new.budget)
     c.lay_body.result
     (λ p. c.lay_body.ensures.lays p.0 p.1 (work_of waits) now holds.work holds.floor)
@@ -83,15 +84,15 @@ returns-in-Ok-clause-known c =
     let next = c.lay_body.new.self in
     let same : Extends later later = ([], sym (append-nil later)) in
     let some : 0 < length hidden = omega (arith, c.requires.known.some_set, ap length c.in_ok-hides.ensures.keeps.1, length-append before c.in_ok-hides.ensures.keeps.0) in
-    on_ok_from {X = Unit {0}} (λ _. All (IsKnownItem later next.sets) next.work.items)
-    (next ≡ record c.args.self.now { work = next.work; sets = next.sets; laid = next.laid })
+    on_ok_from {X = Unit {0}} (λ _. AreClosings next.work.items next.closings.items × All (IsKnownItem later next.sets) next.work.items)
+    (next ≡ record c.args.self.now { work = next.work; closings = next.closings; sets = next.sets; laid = next.laid })
     (IsKnownRun later next) c.lay_body.result
-    (λ _. c.lay_body.ensures.known later
+    (λ _. on_ok_both (AreClosings next.work.items next.closings.items) (All (IsKnownItem later next.sets) next.work.items) c.lay_body.result (c.lay_body.ensures.closings c.requires.known.closings) (c.lay_body.ensures.known later
     (known-both later hidden c.substitute.new.laid.items.items c.in-Ok.ensures.known (c.in-Ok.ensures.sets hidden some none_known none_known))
-    (items-later names later before hidden c.substitute.ensures.keeps c.in_ok-hides.ensures.keeps c.args.self.now.work.items c.requires.known.work))
+    (items-later names later before hidden c.substitute.ensures.keeps c.in_ok-hides.ensures.keeps c.args.self.now.work.items c.requires.known.work)))
     c.lay_body.ensures.others
     (λ work others. laid-known names later c.args.self.now next before c.substitute.ensures.keeps (Extends-Extends before hidden next.sets c.in_ok-hides.ensures.keeps c.lay_body.ensures.sets) c.requires.known refl
-    (ap (λ (x : Run). x.put) others) (ap (λ (x : Run). x.raw) others) (ap (λ (x : Run). x.calls) others) (work tt))
+    (ap (λ (x : Run). x.put) others) (ap (λ (x : Run). x.raw) others) (ap (λ (x : Run). x.calls) others) (work tt).0 (work tt).1)
   where
     none_known : All (HasSet c.hidden_too.new.sets) []
     none_known = λ k d below. absurd (omega (arith, below))
@@ -103,7 +104,7 @@ returns-in-Ok-clause-smaller c = λ waits made now holds.
     let whole = c.in-Ok.ensures.answer (any_reading c.substitute.new.names) (any_reads c.substitute.new.names c.apart.ensures.apart) [] [] (record { before = []; items = refl; first = refl; ends = refl }) (record { before = []; items = refl; first = refl; ends = refl }) in
     let fits : length c.substitute.new.laid.items.items ≤ c.args.budget.now.tokens = omega (arith, whole.count, count-is (any_reading c.substitute.new.names) whole.parts, ap length whole.lays.items) in
     on_ok_from {X = Unit {0}} (λ _. length next.work.items ≡ length c.args.self.now.work.items + length c.substitute.new.laid.items.items)
-    (next ≡ record mid { work = next.work; sets = next.sets; laid = next.laid })
+    (next ≡ record mid { work = next.work; closings = next.closings; sets = next.sets; laid = next.laid })
     (left_to_do next c.lay_body.new.budget < left_to_do c.args.self.now c.args.budget.now + 2) c.lay_body.result
     (λ _. c.lay_body.ensures.count whole.parts whole.lays (work_of waits) now holds.work holds.floor)
     c.lay_body.ensures.others

@@ -1,6 +1,7 @@
 use Rattle.std.proofs.Common.{◌∙◌, Some, sym, ap, refl}
-use Rattle.c_macros.specs.Table.{macro_at}
 use Rattle.c_macros.proofs.TableLemmas.{differ, redefines-None, redefines-agreeing, redefines-other, defined_as-Some, defined_as-None, Ok-Err, Memory-Redefined}
+use Rattle.c_macros.specs.Table.{Table, macro_at}
+use Rattle.c_macros.proofs.KnowsLemmas.{KnowsAll-define}
 use Rattle.c_macros.proofs.table.MacroTable.define.Goals as goal
 
 pub returns-then-agrees-clause-defined : goal.returns-then-agrees-clause-defined
@@ -56,3 +57,8 @@ returns-in_err-entry-clause-redefined c = (
 
 pub returns-in_err-entry-clause-memory : goal.returns-in_err-entry-clause-memory
 returns-in_err-entry-clause-memory c = λ told. ap (λ table. macro_at table c.args.name) (sym c.self.view_is) ∙ sym c.in_default.ensures.value
+
+pub returns-clause-known : goal.returns-clause-known
+returns-clause-known c = λ names knows known known_m.
+    KnowsAll-define names c.args.self.now _ c.args.name c.args.m (returns-clause-defined c) (returns-clause-others c)
+    (ap (λ (table : Table). table.files) c.self.view_is) knows known known_m

@@ -23,7 +23,7 @@ use Rattle.c_macros.specs.declared.definition.Macro.{Macro}
 use Rattle.c_macros.specs.Redefinition.{defined_as, redefines}
 use Rattle.c_macros.specs.Seen.{IsKnownMacro, by_ids, macro_of}
 use Rattle.c_macros.specs.Table.{Table, macro_at}
-use Rattle.c_preproc.specs.Conditions.{HasMacros, name_alone}
+use Rattle.c_preproc.specs.Conditions.{AreNamed, HasMacros, name_alone}
 use Rattle.c_preproc.proofs.BodyLemmas.{equal-known}
 
 -- two ids are one, or they aren't
@@ -46,6 +46,15 @@ unequal first name text same differ = ⊎_elim
     (λ equal. absurd (true≢false (sym ((bytes_eq-Decides text name).1 (sym ((bytes_eq-Decides first text).0 equal) ∙ (bytes_eq-Decides first name).0 same)) ∙ differ)))
     (λ other. other)
     (cases_Bool (bytes_eq first text))
+
+-- what is left is named as before
+without-named : (names : List (List ℕ)) (name : List ℕ) (definitions : List Definition) → AreNamed names definitions → AreNamed names (without_definition name definitions)
+without-named names name [] named = tt
+without-named names name (d ∷ ds) named = by (bytes_eq d.name name) (without-named names name ds named.1)
+  where
+    by : (same : Bool) → AreNamed names (without_definition name ds) → AreNamed names (if not same then d ∷ without_definition name ds else without_definition name ds)
+    by true later = later
+    by false later = (named.0, later)
 
 without-other : (name text : List ℕ) (definitions : List Definition) → bytes_eq text name ≡ false → macros.macro_of (without_definition name definitions) text ≡ macros.macro_of definitions text
 without-other name text [] differ = refl
@@ -85,6 +94,7 @@ module _ (names : List (List ℕ)) (apart : AreApart names) where
         known = λ other m at. by_id other name
             (λ same. absurd (none-some m (sym (ap (macro_at new) same ∙ dropped) ∙ at)))
             (λ unlike differ. has.known other m (sym (others other differ) ∙ at));
+        named = without-named names (text_of names name) definitions has.named;
       }
 
   pub undefined : (hash : Tok) (ts : List Tok) (groups : List Group) (s : UnitState) (old new : Table) (name : NameId) → Some (text_of names name) ≡ name_alone ts → IsKnown names name
@@ -107,18 +117,19 @@ module _ (names : List (List ℕ)) (apart : AreApart names) where
   define-by hash ts groups s name m old is had =
       ap (λ found. definition_turn hash found groups s) is ∙ ap (λ found. table_turn hash (defined name m) (defined_beside (defined name m) found s.definitions) groups s) had
 
-  new-has : (definitions : List Definition) (old new : Table) (name : NameId) (m : Macro) → IsKnown names name → IsKnownMacro names m → HasMacros names definitions old → macro_at new name ≡ Some m
+  pub new-has : (definitions : List Definition) (old new : Table) (name : NameId) (m : Macro) → IsKnown names name → IsKnownMacro names m → HasMacros names definitions old → macro_at new name ≡ Some m
       → ((other : NameId) → other ≢ name → macro_at new other ≡ macro_at old other) → HasMacros names (defined name m ∷ definitions) new
-  new-has definitions old new name m known known_macro has stands others =
+  new-has definitions old new name m stands_there known_macro has stands others =
       record {
         found = λ other here. by_id other name
             (λ same. ap (λ b. if b then Some (macro_of names m) else macros.macro_of definitions (text_of names other)) ((bytes_eq-Decides _ _).1 (ap (text_of names) (sym same)))
             ∙ sym (ap (option_map (macro_of names)) (ap (macro_at new) same ∙ stands)))
-            (λ unlike differ. ap (λ b. if b then Some (macro_of names m) else macros.macro_of definitions (text_of names other)) (equal-known names apart name other known here ∙ nat_eq_equiv.symm name.0 other.0 ∙ unlike)
+            (λ unlike differ. ap (λ b. if b then Some (macro_of names m) else macros.macro_of definitions (text_of names other)) (equal-known names apart name other stands_there here ∙ nat_eq_equiv.symm name.0 other.0 ∙ unlike)
             ∙ has.found other here ∙ ap (option_map (macro_of names)) (sym (others other differ)));
         known = λ other n at. by_id other name
             (λ same. subst (IsKnownMacro names) (same_Some _ _ (sym stands ∙ ap (macro_at new) (sym same) ∙ at)) known_macro)
             (λ unlike differ. has.known other n (sym (others other differ) ∙ at));
+        named = ((name, stands_there, refl), has.named);
       }
 
   kept-has : (definitions : List Definition) (old new : Table) (name : NameId) → HasMacros names definitions old → macro_at new name ≡ macro_at old name
@@ -129,6 +140,7 @@ module _ (names : List (List ℕ)) (apart : AreApart names) where
       record {
         found = λ other here. has.found other here ∙ ap (option_map (macro_of names)) (sym (all other));
         known = λ other n at. has.known other n (sym (all other) ∙ at);
+        named = has.named;
       }
 
   -- a definition that is new, or no other one

@@ -1,5 +1,5 @@
 -- How lines of names and conditions are seen by the definitions of `meaning_preprocessing`.
-use Rattle.std.specs.Prelude.{◌≡◌, ℕ, List, [], ◌∷◌, All, Option, Some, None, option_map, ⊤, if◌then◌else◌}
+use Rattle.std.specs.Prelude.{◌≡◌, ℕ, Bool, List, [], ◌∷◌, All, Option, Some, None, option_map, ⊤, if◌then◌else◌}
 use Rattle.meaning_text.specs.Tokens.{Tok}
 use Rattle.meaning_macros.specs.Signs.{is_identifier_kind}
 use Rattle.meaning_macros.specs.Macros.{Definition}
@@ -23,15 +23,30 @@ name_alone [] = None
 name_alone (t ∷ []) = if is_identifier_kind t.kind then Some t.text else None
 name_alone (t ∷ u ∷ ts) = None
 
+-- the text is how an id of the table is spelled
+abbrev pub IsSpelling : List (List ℕ) → List ℕ → Type 0
+IsSpelling names text = (name : NameId) × IsKnown names name × (text_of names name ≡ text)
+
+-- so is the name of each definition
+abbrev pub AreNamed : List (List ℕ) → List Definition → Type 0
+AreNamed names [] = ⊤
+AreNamed names (definition ∷ definitions) = IsSpelling names definition.name × AreNamed names definitions
+
 -- The names of a table have these macros, whatever order those stand in.
 pub record HasMacros (names : List (List ℕ)) (definitions : List Definition) (table : Table) : Type 0 where
   pub found : (name : NameId) → IsKnown names name → macros.macro_of definitions (text_of names name) ≡ option_map (macro_of names) (macro_at table name)
   -- each id of a macro is one of the table of names
   pub known : (name : NameId) (m : Macro) → macro_at table name ≡ Some m → IsKnownMacro names m
+  -- no other text names a macro
+  pub named : AreNamed names definitions
 
 -- each id of the tokens is one of the table
 abbrev pub AreKnown : List (List ℕ) → List Token → Type 0
 AreKnown names tokens = All (λ (token : Token). IsKnown names token.name) tokens
+
+-- a token that is kept where a condition leaves it
+abbrev pub is_left_identifier : Token → Bool
+is_left_identifier token = is_identifier_kind token.kind
 
 abbrev pub waiting_seen : List (List ℕ) → Waiting → lines.Waiting
 waiting_seen names Nothing = lines.Nothing

@@ -1,9 +1,13 @@
 pub mod Conditions
 pub mod Definitions
 pub mod Directives
+pub mod Files
 pub mod Frames
 pub mod Groups
 pub mod Headers
 pub mod Lines
 pub mod Made
 pub mod Seen
+pub mod States
+pub mod Texts
+pub mod Units

@@ -5,10 +5,10 @@ ghost use Rattle.meaning_text.specs.Tokens.{Tok};
 ghost use Rattle.meaning_macros.specs.Signs.{is_identifier_kind};
 ghost use Rattle.meaning_macros.specs.Macros.{Definition};
 ghost use Rattle.meaning_preprocessing.specs.DefinitionLines.{is_spelled};
-ghost use Rattle.meaning_preprocessing.specs.ConditionLines.{Nothing, answered, is_identifier_token, truth_token};
+ghost use Rattle.meaning_preprocessing.specs.ConditionLines.{Nothing, answered, truth_token};
 ghost use Rattle.meaning_preprocessing.specs.ConditionLines as line;
 ghost use Rattle.c_tokens.specs.Seen.{IsKnown, tok_of, toks_of};
-ghost use Rattle.c_preproc.specs.Conditions.{AreKnown, HasMacros, IsKnownStep, IsKnownWaiting, step_seen, waiting_seen};
+ghost use Rattle.c_preproc.specs.Conditions.{AreKnown, HasMacros, IsKnownStep, IsKnownWaiting, is_left_identifier, step_seen, waiting_seen};
 ghost use Rattle.c_preproc.specs.Made.{AreMadeWords};
 
 use crate::made::MadeWords;
@@ -186,7 +186,7 @@ fn truth_token(names: &Names, made: MadeWords, word: Token, holds: bool) -> Toke
 
 /// Keeps the identifiers that are left of a line.
 pub(crate) fn keep_undefined(undefined: &mut Vec<Token>, tokens: &[Token]) -> Result<(), AllocError>
-    ensures { OnOk result ((names : List (List ℕ)) → toks_of names undefined.new.items ≡ toks_of names undefined.old.items ++ filter is_identifier_token (toks_of names tokens.now)) }
+    ensures { OnOk result (undefined.new.items ≡ undefined.old.items ++ filter is_left_identifier tokens.now) }
 {
     let mut left = tokens;
     'tokens: while let Some((token, others)) = left.split_first() {

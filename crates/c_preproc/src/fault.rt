@@ -47,7 +47,7 @@ impl<T: Drop> From<AllocFailed<T>> for IfFault {
 
 /// Why a directive isn't done.
 #[derive(Clone, Copy, Debug, PartialEq, Eq)]
-pub(crate) enum LineFault {
+pub enum LineFault {
     /// The unit ends with this error at the `#`. Its text may name a word.
     Refused(ErrorKind, Option<NameId>),
     Memory,

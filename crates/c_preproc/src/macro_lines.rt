@@ -1,10 +1,11 @@
 //! `#define` and `#undef` over the table of macros (C11 6.10.3, 6.10.3.5).
-ghost use Rattle.std.specs.Prelude.{◌≡◌, List, ℕ};
+ghost use Rattle.std.specs.Prelude.{◌≡◌, List, ℕ, OnErr};
 ghost use Rattle.meaning_text.specs.Tokens.{Tok};
 ghost use Rattle.meaning_preprocessing.specs.Directives.{define_turn, undef_turn};
 ghost use Rattle.meaning_preprocessing.specs.Groups.{Group};
 ghost use Rattle.meaning_preprocessing.specs.State.{UnitState};
 ghost use Rattle.c_tokens.specs.Seen.{toks_of};
+ghost use Rattle.c_macros.specs.Seen.{KnowsAll};
 ghost use Rattle.c_preproc.specs.Conditions.{AreKnown, HasMacros};
 ghost use Rattle.c_preproc.specs.Groups.{IsKept};
 ghost use Rattle.c_preproc.specs.Made.{AreMadeWords};
@@ -31,8 +32,11 @@ pub(crate) fn turn_define(
 ) -> Result<(), LineFault>
     requires known { AreKnown names.now line.now }
     requires made { AreMadeWords names.now made }
-    ensures { (hash : Tok) (groups : List Group) (s : UnitState) → HasMacros names.now s.definitions macros.old →
+    ensures kept { (hash : Tok) (groups : List Group) (s : UnitState) → HasMacros names.now s.definitions macros.old →
         IsKept names.now s hash groups macros.new result (define_turn hash (toks_of names.now line.now) groups s) }
+    ensures knows { KnowsAll names.now macros.old → KnowsAll names.now macros.new }
+    ensures files { macros.new.files ≡ macros.old.files }
+    ensures err { OnErr result (macros.new ≡ macros.old) }
 {
     let (name, m) = match read_definition(alloc, names, made, line) {
         Ok(definition) => definition,
@@ -57,8 +61,11 @@ pub(crate) fn turn_undef(
     line: &[Token],
 ) -> Result<(), LineFault>
     requires { AreKnown names.now line.now }
-    ensures { (hash : Tok) (groups : List Group) (s : UnitState) → HasMacros names.now s.definitions macros.old →
+    ensures kept { (hash : Tok) (groups : List Group) (s : UnitState) → HasMacros names.now s.definitions macros.old →
         IsKept names.now s hash groups macros.new result (undef_turn hash (toks_of names.now line.now) groups s) }
+    ensures knows { KnowsAll names.now macros.old → KnowsAll names.now macros.new }
+    ensures files { macros.new.files ≡ macros.old.files }
+    ensures err { OnErr result (macros.new ≡ macros.old) }
 {
     let Some(name) = name_alone(line) else {
         return Err(LineFault::Refused(ErrorKind::MalformedDirective, None));

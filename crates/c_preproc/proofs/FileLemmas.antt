@@ -1,0 +1,153 @@
+-- What the parts of a file, read one by one, come to.
+use Rattle.std.proofs.Common.{◌≡◌, ◌<◌, ◌≤◌, ◌+◌, ℕ, List, [], ◌∷◌, ◌++◌, length, take, drop, map, All, Option, Some, None, IfSome, option_map, Result, Ok, Err, refl, sym, ap, subst, ◌∙◌, append_assoc, arith, length-append}
+use Rattle.std.specs.Global.{Global, Vec}
+use Rattle.std.proofs.Math.Seq.{drop-append_seam, take-append_seam}
+use Rattle.std.proofs.lemmas.List.{append-nil, length-map}
+use Rattle.std.proofs.lemmas.List.Elements.{All-drop, All-head, All-same, All-tail, All-take}
+use Rattle.std.proofs.lemmas.Option.{same_Some, none-some}
+use Rattle.meaning_text.specs.Tokens.{Tok, AtLineStart, LexesFile, OpensFile}
+use Rattle.meaning_text.specs.Tokens as tokens
+use Rattle.meaning_text.specs.Logical.{logical_text}
+use Rattle.meaning_text.specs.Lexing.{Lexed, Tokens, Refused, lexed_file}
+use Rattle.meaning_text.proofs.Lexing.{tokens_are_unique, faults_are_unique}
+use Rattle.meaning_preprocessing.specs.Directives.{turn_of}
+use Rattle.meaning_preprocessing.specs.Groups as groups
+use Rattle.meaning_preprocessing.specs.Groups.{Evaluation, Turn, Turns, Halts, closed_file}
+use Rattle.meaning_preprocessing.specs.Lines.{file_parts, lines_of}
+use Rattle.meaning_preprocessing.specs.State.{UnitState, Stop, Continues, IsOver, Piece, only_ending, tokens_before, and_then}
+use Rattle.meaning_preprocessing.specs.Unit.{Reader, over_parts, turn_piece, text_piece, text_of_file, lexed_piece, stop_of_fault, unit_limits, capped}
+use Rattle.c_tokens.specs.declared.token.Token.{Token}
+use Rattle.c_tokens.specs.declared.fault.LexFault.{LexFault}
+use Rattle.c_tokens.specs.Seen.{Extends, IsKnown, fault_of, text_of, tok_of, toks_of}
+use Rattle.c_tokens.proofs.SeenLemmas.{text_of-Extends, toks_of-Extends}
+use Rattle.c_preproc.specs.Conditions.{AreKnown}
+use Rattle.c_preproc.specs.Groups.{groups_seen}
+use Rattle.c_preproc.specs.Lines.{parts_of}
+use Rattle.c_preproc.specs.States.{EndsUnit, GoesOn, Holds, IsDone, put_of, stop_of}
+use Rattle.c_preproc.specs.declared.groups.Group.{Group}
+use Rattle.c_preproc.specs.declared.pre_fault.PreFault.{PreFault}
+use Rattle.c_preproc.specs.declared.state.State.{State}
+use Rattle.c_preproc.proofs.PieceLemmas.{capped-within, stops-behind}
+use Rattle.c_preproc.proofs.StateLemmas.{put-later, put-same}
+
+-- what is known of tokens is known of those in front and of those behind
+pub known-front : (names : List (List ℕ)) (front behind : List Token) → AreKnown names (front ++ behind) → AreKnown names front
+known-front names front behind known =
+    All-same (λ (t : Token). IsKnown names t.name) front (take (length front) (front ++ behind)) (sym (take-append_seam front behind))
+    (All-take (λ (t : Token). IsKnown names t.name) (length front) (front ++ behind) known)
+
+pub known-back : (names : List (List ℕ)) (front behind : List Token) → AreKnown names (front ++ behind) → AreKnown names behind
+known-back names front behind known =
+    All-same (λ (t : Token). IsKnown names t.name) behind (drop (length front) (front ++ behind)) (sym (drop-append_seam front behind))
+    (All-drop (λ (t : Token). IsKnown names t.name) (length front) (front ++ behind) known)
+
+-- the tokens of a directive and those around it are known
+pub record KnownParts (names : List (List ℕ)) (text : List Token) (hash : Token) (rest behind : List Token) : Type 0 where
+  pub text_known : AreKnown names text
+  pub hash_known : IsKnown names hash.name
+  pub rest_known : AreKnown names rest
+  pub behind_known : AreKnown names behind
+
+pub known-parts : (names : List (List ℕ)) (all text : List Token) (hash : Token) (rest behind : List Token) → text ++ hash ∷ rest ++ behind ≡ all → AreKnown names all → KnownParts names text hash rest behind
+known-parts names all text hash rest behind is known =
+    let parts : AreKnown names (text ++ (hash ∷ rest ++ behind)) = subst (AreKnown names) (sym is ∙ append_assoc text (hash ∷ rest) behind) known in
+    let line = known-back names text (hash ∷ rest ++ behind) parts in
+    let others = All-tail (λ (t : Token). IsKnown names t.name) hash (rest ++ behind) line in
+    record {
+      text_known = known-front names text (hash ∷ rest ++ behind) parts;
+      hash_known = All-head (λ (t : Token). IsKnown names t.name) hash (rest ++ behind) line;
+      rest_known = known-front names rest behind others;
+      behind_known = known-back names rest behind others;
+    }
+
+-- fewer tokens are left
+pub behind-shorter : (all text : List Token) (hash : Token) (rest behind : List Token) → text ++ hash ∷ rest ++ behind ≡ all → length behind < length all
+behind-shorter all text hash rest behind is =
+    omega (arith, ap length is, length-append (text ++ hash ∷ rest) behind, length-append text (hash ∷ rest))
+
+-- A directive
+
+tok-later : (names later : List (List ℕ)) → Extends names later → (token : Token) → IsKnown names token.name → tok_of later token ≡ tok_of names token
+tok-later names later more token known = λ i. record (tok_of names token) { text = text_of-Extends names later more token.name known i }
+
+-- what comes behind the text before a directive
+abbrev pub behind_text : Evaluation → Reader → List (List ℕ) → Token → (rest behind : List Token) → List groups.Group → UnitState → Piece
+behind_text value include names hash rest behind open_groups s =
+    turn_piece include open_groups (λ others u. over_parts value include (parts_of names behind) others u) (turn_of value (tok_of names hash) (toks_of names rest) open_groups s)
+
+module _ (value : Evaluation) (include : Reader) (names mid later : List (List ℕ)) (first : Extends names mid) (more : Extends mid later) (all : Extends names later)
+    (text : List Token) (hash : Token) (rest behind : List Token) (known : KnownParts names text hash rest behind)
+    (open_groups : List groups.Group) (path : List ℕ) (old new : State) (whole : Piece)
+    (s : UnitState) (holds : Holds mid path old s) (comes : tokens_before (put_of mid old) (behind_text value include names hash rest behind open_groups s) ≡ whole) where
+  same-turn : turn_of value (tok_of mid hash) (toks_of mid rest) open_groups s ≡ turn_of value (tok_of names hash) (toks_of names rest) open_groups s
+  same-turn = λ i. turn_of value (tok-later names mid first hash known.hash_known i) (toks_of-Extends names mid first rest known.rest_known i) open_groups s
+
+  -- it was done
+  pub part-goes : new.tokens ≡ old.tokens → (next_groups : List Group) → IsDone later path new next_groups (Ok tt) (turn_of value (tok_of mid hash) (toks_of mid rest) open_groups s)
+      → GoesOn later path new whole (λ u. over_parts value include (parts_of later behind) (groups_seen next_groups) u)
+  part-goes same next_groups done = (
+    done.0,
+    done.1,
+    (λ i. tokens_before (put-same mid later more path old new s holds same i)
+        (over_parts value include (groups_parts i) (groups_seen next_groups) done.0))
+        ∙ ap (λ turn. tokens_before (put_of mid old) (turn_piece include open_groups (λ others u. over_parts value include (parts_of names behind) others u) turn)) (sym (sym same-turn ∙ done.2))
+        ∙ comes,
+  )
+    where
+      groups_parts : parts_of later behind ≡ parts_of names behind
+      groups_parts = ap (λ ts. file_parts (lines_of ts)) (toks_of-Extends names later all behind known.behind_known)
+
+  -- the unit ends at it
+  pub part-ends : (fault : PreFault) (next_groups : List Group) → IsDone later path new next_groups (Err fault) (turn_of value (tok_of mid hash) (toks_of mid rest) open_groups s) → EndsUnit later whole fault
+  part-ends fault next_groups done = by (stop_of later fault) done
+    where
+      by : (found : Option Stop) → IfSome found (λ stop. turn_of value (tok_of mid hash) (toks_of mid rest) open_groups s ≡ Halts stop)
+          → IfSome found (λ stop. (capped unit_limits.unit_tokens whole).ending ≡ IsOver stop)
+      by None is = tt
+      by (Some stop) is =
+          let ended : tokens_before (put_of mid old) (only_ending (IsOver stop)) ≡ whole =
+          ap (λ turn. tokens_before (put_of mid old) (turn_piece include open_groups (λ others u. over_parts value include (parts_of names behind) others u) turn)) (sym (sym same-turn ∙ is)) ∙ comes in
+          ap (λ p. (capped unit_limits.unit_tokens p).ending) (sym ended)
+          ∙ ap (λ (p : Piece). p.ending) (capped-within unit_limits.unit_tokens (tokens_before (put_of mid old) (only_ending (IsOver stop)))
+          (omega (arith, holds.few, length-append (put_of mid old) [], length-map old.tokens.items (tok_of mid))))
+
+-- The end of a file
+
+pub ends-file : (names : List (List ℕ)) (path : List ℕ) (state : State) (s : UnitState) → Holds names path state s → (fault : PreFault) (stop : Stop) (piece whole : Piece) → piece ≡ only_ending (IsOver stop)
+    → tokens_before (put_of names state) piece ≡ whole → stop_of names fault ≡ Some stop → EndsUnit names whole fault
+ends-file names path state s holds fault stop piece whole is comes told =
+    subst (λ (p : Piece). EndsUnit names p fault) comes
+    (stops-behind names (put_of names state) piece fault
+    (omega (arith, holds.few, ap (λ (p : Piece). length p.tokens) is, length-append (put_of names state) piece.tokens, length-map state.tokens.items (tok_of names)))
+    (subst (λ (o : Option Stop). IfSome o (λ (found : Stop). piece.ending ≡ IsOver found)) (sym told) (ap (λ (p : Piece). p.ending) is)))
+
+-- The tokens of a text
+
+pub lexed-tokens : (file : ℕ) (text : List ℕ) (found : List Tok) → LexesFile file text found → lexed_file file text ≡ Tokens found
+lexed-tokens file text found lexes = tokens_are_unique AtLineStart (logical_text file text) found lexes
+
+pub lexed-refused : (file : ℕ) (text : List ℕ) (fault : tokens.LexFault) → OpensFile file text fault → lexed_file file text ≡ Refused fault
+lexed-refused file text fault opens = faults_are_unique AtLineStart (logical_text file text) fault opens
+
+module _ (value : Evaluation) (include : Reader) (names later : List (List ℕ)) (more : Extends names later) (path : List ℕ) (state : State) (s : UnitState) (holds : Holds names path state s) (number : ℕ) (text : List ℕ) where
+  -- a file is what its tokens are
+  pub file-read : (found read : List Token) (next : UnitState → Piece) → read ≡ found → LexesFile number text (toks_of later found)
+      → tokens_before (put_of later state) (and_then (over_parts value include (parts_of later read) [] s) next) ≡ tokens_before (put_of names state) (and_then (text_of_file value include number text s) next)
+  file-read found tokens_ next are lexes =
+      ap (λ (ts : List Token). tokens_before (put_of later state) (and_then (over_parts value include (parts_of later ts) [] s) next)) are
+      ∙ ap (λ lexed. tokens_before (put_of later state) (and_then (lexed_piece value include lexed s) next)) (sym (lexed-tokens number text (toks_of later found) lexes))
+      ∙ ap (λ put. tokens_before put (and_then (text_of_file value include number text s) next)) (put-later names later more path state s holds)
+
+  -- or it ends the unit
+  pub file-refused : (fault : LexFault) (told : PreFault) (next : UnitState → Piece) → IfSome (fault_of fault) (OpensFile number text) → stop_of later told ≡ option_map (stop_of_fault s) (fault_of fault)
+      → EndsUnit later (tokens_before (put_of names state) (and_then (text_of_file value include number text s) next)) told
+  file-refused fault told next opens is = by (fault_of fault) opens is
+    where
+      by : (found : Option tokens.LexFault) → IfSome found (OpensFile number text) → stop_of later told ≡ option_map (stop_of_fault s) found
+          → EndsUnit later (tokens_before (put_of names state) (and_then (text_of_file value include number text s) next)) told
+      by None opens is = subst (λ (o : Option Stop). IfSome o (λ stop. (capped unit_limits.unit_tokens (tokens_before (put_of names state) (and_then (text_of_file value include number text s) next))).ending ≡ IsOver stop)) (sym is) tt
+      by (Some opened) opens is =
+          subst (λ (lexed : Lexed). EndsUnit later (tokens_before (put_of names state) (and_then (lexed_piece value include lexed s) next)) told) (sym (lexed-refused number text opened opens))
+          (stops-behind later (put_of names state) (only_ending (IsOver (stop_of_fault s opened))) told
+          (omega (arith, holds.few, length-append (put_of names state) [], length-map state.tokens.items (tok_of names)))
+          (subst (λ (o : Option Stop). IfSome o (λ (found : Stop). IsOver (stop_of_fault s opened) ≡ IsOver found)) (sym is) refl))

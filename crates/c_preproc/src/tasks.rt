@@ -1,0 +1,186 @@
+//! What is left to do at a directive, done: conditions are judged, macros are defined, and errors told.
+ghost use Rattle.std.specs.Prelude.{◌≡◌, ◌∷◌, Bool, List, ℕ, Ok, Some, IfErr, OnOk};
+ghost use Rattle.vocabulary.specs.declared.error_kind.ErrorKind.TheVariants.{ErrorDirective};
+ghost use Rattle.meaning_preprocessing.specs.Directives.{define_turn, error_words, undef_turn};
+ghost use Rattle.meaning_preprocessing.specs.Groups.{Evaluation, Halts, Turn, Turns, evaluated_line, group_of};
+ghost use Rattle.meaning_preprocessing.specs.State.{UnitState, refused};
+ghost use Rattle.meaning_preprocessing.specs.Unit.{IsEvaluation};
+ghost use Rattle.c_tokens.specs.Seen.{Extends, tok_of, toks_of};
+ghost use Rattle.c_preproc.specs.Conditions.{AreKnown};
+ghost use Rattle.c_preproc.specs.Directives.{IsDirective, IsKnownTask};
+ghost use Rattle.c_preproc.specs.Groups.{groups_seen, with_part};
+ghost use Rattle.c_preproc.specs.States.{Holds, IsDone, IsFaultInText, IsHeld};
+
+use crate::directive::Task;
+use crate::error_words::intern_words;
+use crate::fault::LineFault;
+use crate::groups::{Group, open_group};
+use crate::macro_lines::{turn_define, turn_undef};
+use crate::pre_fault::PreFault;
+use crate::state::State;
+use c_tokens::{Names, Token};
+use sparse_model::ErrorKind;
+use std::alloc::{AllocError, Global};
+
+impl State {
+    /// Does what is left to do at a directive within these groups. A file that is to be included isn't read.
+    pub(crate) fn do_task(
+        &mut self,
+        alloc: Global,
+        names: &mut Names,
+        groups: &mut Vec<Group>,
+        hash: &Token,
+        task: Task<'_>,
+    ) -> Result<(), PreFault>
+        requires held { IsHeld names.old self.old }
+        requires known { IsKnownTask names.old task }
+        ensures done { (value : Evaluation) (path : List ℕ) (s : UnitState) (turn : Turn) → IsEvaluation value → Holds names.old path self.old s →
+            IsDirective names.old value s (tok_of names.old hash.now) groups.old.items (Ok task.entry) turn →
+            IsDone names.new path self.new groups.new.items result turn }
+        ensures put { OnOk result (self.new.tokens ≡ self.old.tokens) }
+        ensures known { IfErr result (IsFaultInText names.new) }
+        ensures keeps { Extends names.old names.new }
+    {
+        match task {
+            Task::Nothing => Ok(()),
+            Task::If { tokens } => self.begin_if(alloc, names, groups, hash, &tokens),
+            Task::Elif { tokens } => self.begin_part(alloc, names, groups, hash, &tokens),
+            Task::Include { line: _ } => Err(PreFault::Memory),
+            Task::Define { line } => self.define(alloc, names, hash, line),
+            Task::Undef { line } => self.undef(names, hash, line),
+            Task::Error { line } => self.tell_error(alloc, names, hash, line),
+        }
+    }
+
+    // Begins the group of an `#if`, by what its tokens come to.
+    fn begin_if(
+        &mut self,
+        alloc: Global,
+        names: &mut Names,
+        groups: &mut Vec<Group>,
+        hash: &Token,
+        tokens: &Vec<Token>,
+    ) -> Result<(), PreFault>
+        requires held { IsHeld names.old self.old }
+        requires known { AreKnown names.old tokens.now.items }
+        ensures done { (value : Evaluation) (path : List ℕ) (s : UnitState) → IsEvaluation value → Holds names.old path self.old s →
+            IsDone names.new path self.new groups.new.items result
+            (evaluated_line value (tok_of names.old hash.now) (Some (toks_of names.old tokens.now.items)) s
+            (λ holds u. Turns (group_of (tok_of names.old hash.now) holds ∷ groups_seen groups.old.items) u)) }
+        ensures put { OnOk result (self.new.tokens ≡ self.old.tokens) }
+        ensures known { IfErr result (IsFaultInText names.new) }
+        ensures keeps { Extends names.old names.new }
+    {
+        match self.judge_line(alloc, names, hash, tokens.as_slice()) {
+            Ok(holds) => match open_group(groups, hash, holds) {
+                Ok(()) => Ok(()),
+                Err(_) => Err(PreFault::Memory),
+            },
+            Err(fault) => Err(fault),
+        }
+    }
+
+    // Begins the next part of the innermost group, by what the tokens of its `#elif` come to.
+    fn begin_part(
+        &mut self,
+        alloc: Global,
+        names: &mut Names,
+        groups: &mut Vec<Group>,
+        hash: &Token,
+        tokens: &Vec<Token>,
+    ) -> Result<(), PreFault>
+        requires held { IsHeld names.old self.old }
+        requires known { AreKnown names.old tokens.now.items }
+        ensures done { (value : Evaluation) (path : List ℕ) (s : UnitState) → IsEvaluation value → Holds names.old path self.old s →
+            IsDone names.new path self.new groups.new.items result
+            (evaluated_line value (tok_of names.old hash.now) (Some (toks_of names.old tokens.now.items)) s
+            (λ holds u. Turns (with_part holds (groups_seen groups.old.items)) u)) }
+        ensures put { OnOk result (self.new.tokens ≡ self.old.tokens) }
+        ensures known { IfErr result (IsFaultInText names.new) }
+        ensures keeps { Extends names.old names.new }
+    {
+        match self.judge_line(alloc, names, hash, tokens.as_slice()) {
+            Ok(holds) => match set_part(groups, holds) {
+                Ok(()) => Ok(()),
+                Err(_) => Err(PreFault::Memory),
+            },
+            Err(fault) => Err(fault),
+        }
+    }
+
+    // `#define`, with the tokens behind it.
+    fn define(
+        &mut self,
+        alloc: Global,
+        names: &Names,
+        hash: &Token,
+        line: &[Token],
+    ) -> Result<(), PreFault>
+        requires held { IsHeld names.now self.old }
+        requires known { AreKnown names.now line.now }
+        ensures done { (path : List ℕ) (s : UnitState) (groups : List Group) → Holds names.now path self.old s →
+            IsDone names.now path self.new groups result (define_turn (tok_of names.now hash.now) (toks_of names.now line.now) (groups_seen groups) s) }
+        ensures put { OnOk result (self.new.tokens ≡ self.old.tokens) }
+        ensures known { IfErr result (IsFaultInText names.now) }
+    {
+        match turn_define(alloc, names, self.made, &mut self.macros, line) {
+            Ok(()) => Ok(()),
+            Err(LineFault::Refused(kind, word)) => Err(self.line_error(names, kind, hash, word)),
+            Err(LineFault::Memory) => Err(PreFault::Memory),
+        }
+    }
+
+    // `#undef`, with the tokens behind it.
+    fn undef(&mut self, names: &Names, hash: &Token, line: &[Token]) -> Result<(), PreFault>
+        requires held { IsHeld names.now self.old }
+        requires known { AreKnown names.now line.now }
+        ensures done { (path : List ℕ) (s : UnitState) (groups : List Group) → Holds names.now path self.old s →
+            IsDone names.now path self.new groups result (undef_turn (tok_of names.now hash.now) (toks_of names.now line.now) (groups_seen groups) s) }
+        ensures put { OnOk result (self.new.tokens ≡ self.old.tokens) }
+        ensures known { IfErr result (IsFaultInText names.now) }
+    {
+        match turn_undef(names, &mut self.macros, line) {
+            Ok(()) => Ok(()),
+            Err(LineFault::Refused(kind, word)) => Err(self.line_error(names, kind, hash, word)),
+            Err(LineFault::Memory) => Err(PreFault::Memory),
+        }
+    }
+
+    // `#error`, with the tokens behind it.
+    fn tell_error(
+        &mut self,
+        alloc: Global,
+        names: &mut Names,
+        hash: &Token,
+        line: &[Token],
+    ) -> Result<(), PreFault>
+        requires held { IsHeld names.old self.old }
+        requires known { AreKnown names.old line.now }
+        ensures done { (path : List ℕ) (s : UnitState) (groups : List Group) → Holds names.old path self.old s →
+            IsDone names.new path self.new groups result (Halts (refused s ErrorDirective (tok_of names.old hash.now).at (error_words (toks_of names.old line.now)))) }
+        ensures put { OnOk result (self.new.tokens ≡ self.old.tokens) }
+        ensures known { IfErr result (IsFaultInText names.new) }
+        ensures keeps { Extends names.old names.new }
+    {
+        let word = intern_words(alloc, names, line)?;
+        names.apart();
+        Err(self.error(names, ErrorKind::ErrorDirective, hash.place, word))
+    }
+}
+
+// Whether the next part of the innermost group is read.
+fn set_part(groups: &mut Vec<Group>, holds: bool) -> Result<(), AllocError>
+    ensures { OnOk result (groups_seen groups.new.items ≡ with_part holds (groups_seen groups.old.items)) }
+{
+    let Some(group) = groups.pop() else {
+        return Ok(());
+    };
+    groups.push(Group {
+        place: group.place,
+        outer: group.outer,
+        taken: holds,
+        reads: holds,
+        last: group.last,
+    })?;
+    Ok(())
+}

@@ -1,8 +1,10 @@
 // A command: a tool over a file, to a text. Who writes it isn't known here.
 ghost use Rattle.std.specs.Prelude.{◌≡◌, IsErrOf};
 ghost use Rattle.meaning_outside.specs.Faults.{Told};
+ghost use Rattle.workbench.specs.Asked.{MayRun};
 
 use crate::tool::Tool;
+use crate::units::preprocessed;
 use sparse_outside::{Files, Load, Words, load_leaves_buffer};
 use std::alloc::{AllocError, Global};
 use thiserror::Error;
@@ -13,7 +15,7 @@ const MOST_BYTES: usize = 67_108_864;
 /// Why there is no text.
 #[derive(Clone, Copy, Debug, Error)]
 pub enum Stop {
-    #[error("usage: workbench TOOL FILE, where TOOL is if_value")]
+    #[error("usage: workbench TOOL FILE, where TOOL is if_value, scopes or preprocess, or workbench expand FILE [replacements=N] [tokens=N] [counter=N] [spelled=TEXT] [places]")]
     Usage,
     #[error("no such file, or more than 67108864 bytes")]
     NoFile,
@@ -34,26 +36,31 @@ impl From<AllocError> for Stop {
     }
 }
 
-/// What the tool that the first word names makes of the file that the second one names.
+/// What the tool that the first word names makes of the file that the second one names. Further words say
+/// what is asked of it.
 ///
 /// # Errors
-/// `Usage` where the words aren't these two; `NoFile`; `ReadFault` exactly where the count of faults rose;
+/// `Usage` where the words aren't these; `NoFile`; `ReadFault` exactly where the count of faults rose;
 /// `NoMemory`.
 pub fn workbench<F: Files>(alloc: Global, words: &Words, files: &mut F) -> Result<Vec<u8>, Stop>
     ensures read { Told (F.faults files.old) (F.faults files.new) (IsErrOf result Stop.ReadFault) }
     ensures keeps { F.holds files.new ≡ F.holds files.old }
 {
-    let (Some(name), Some(path), None) = (words.get(0), words.get(1), words.get(2)) else {
+    let (Some(name), Some(path)) = (words.get(0), words.get(1)) else {
         return Err(Stop::Usage);
     };
-    let Some(tool) = Tool::named(name) else {
+    if name == b"preprocess".as_slice() && words.len() == 2 {
+        return preprocessed(alloc, path, files);
+    }
+    let Some(tool) = Tool::read(words) else {
         return Err(Stop::Usage);
     };
     run(alloc, tool, path, files)
 }
 
 // What the tool makes of the file at this path.
-fn run<F: Files>(alloc: Global, tool: Tool, path: &[u8], files: &mut F) -> Result<Vec<u8>, Stop>
+fn run<F: Files>(alloc: Global, tool: Tool<'_>, path: &[u8], files: &mut F) -> Result<Vec<u8>, Stop>
+    requires { MayRun tool }
     ensures read { Told (F.faults files.old) (F.faults files.new) (IsErrOf result Stop.ReadFault) }
     ensures keeps { F.holds files.new ≡ F.holds files.old }
 {

@@ -5,10 +5,19 @@
 //! line is shown is said in `specs/Shown.antt`. Start reading at [`workbench`](command).
 #![tactic(auto)]
 
+mod asked;
 mod command;
+mod definitions;
+mod expansions;
+mod lines;
+mod scopes;
 mod tool;
+mod units;
 mod values;
 
+pub use asked::Asked;
 pub use command::{Stop, workbench};
+pub use expansions::expand_text;
+pub use scopes::scope_answers;
 pub use tool::Tool;
 pub use values::{Shown, answer_line, if_values};

@@ -1,21 +1,48 @@
-// The tools by their names.
-ghost use Rattle.std.specs.Prelude.{◌^◌, ◌<◌, length};
+// The tools by their names, each with what its words ask.
+ghost use Rattle.std.specs.Prelude.{◌^◌, ◌<◌, IfSome, length};
+ghost use Rattle.workbench.specs.Asked.{MayRun};
 
+use crate::asked::Asked;
+use crate::expansions::expand_text;
+use crate::scopes::scope_answers;
 use crate::values::if_values;
+use sparse_outside::Words;
 use std::alloc::{AllocError, Global};
 
 /// A call of a library over a text.
 #[derive(Clone, Copy)]
-pub enum Tool {
+pub enum Tool<'w> {
     /// The values of lines, each taken as what stands behind an `#if`.
     IfValue,
+    /// The answers to commands on scopes.
+    Scopes,
+    /// The tokens that a text becomes behind definitions.
+    Expand(Asked<'w>),
 }
 
-impl Tool {
-    /// The tool with this name.
-    pub fn named(name: &[u8]) -> Option<Self> {
+impl<'w> Tool<'w> {
+    /// The tool that the first word names, where it takes the words behind the file's.
+    pub fn read(words: &'w Words) -> Option<Self>
+        ensures { IfSome result MayRun }
+    {
+        let name = words.get(0)?;
+        if name == b"expand".as_slice() {
+            return Some(Tool::Expand(Asked::read(words)?));
+        }
+        if words.len() != 2 {
+            return None;
+        }
+        Tool::plain(name)
+    }
+
+    // A tool that takes no words behind the file's.
+    fn plain(name: &[u8]) -> Option<Self>
+        ensures { IfSome result MayRun }
+    {
         if name == b"if_value".as_slice() {
             Some(Tool::IfValue)
+        } else if name == b"scopes".as_slice() {
+            Some(Tool::Scopes)
         } else {
             None
         }
@@ -23,10 +50,13 @@ impl Tool {
 
     /// What it makes of a text.
     pub fn run(self, alloc: Global, text: &[u8]) -> Result<Vec<u8>, AllocError>
-        requires { length text.now < 2 ^ 30 }
+        requires words { MayRun self }
+        requires size { length text.now < 2 ^ 30 }
     {
         match self {
             Tool::IfValue => if_values(alloc, text),
+            Tool::Scopes => scope_answers(alloc, text),
+            Tool::Expand(asked) => expand_text(alloc, asked, text),
         }
     }
 }

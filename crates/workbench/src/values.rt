@@ -3,10 +3,10 @@ ghost use Rattle.std.specs.Prelude.{◌≡◌, ◌^◌, ◌<◌, ◌++◌, IfOk,
 ghost use Rattle.std.specs.Fmt.{decimal};
 ghost use Rattle.workbench.specs.Shown.{IsShownOf, number_text, shown_line};
 
+use crate::lines::first_line;
 use c_preproc::{IfFault, IfNumber, if_value};
 use c_tokens::{LexFault, Names, lex};
 use itoa::Buffer;
-use memchr::memchr;
 use std::alloc::{AllocError, Global};
 
 /// What is shown of a line.
@@ -34,18 +34,6 @@ pub fn if_values(alloc: Global, text: &[u8]) -> Result<Vec<u8>, AllocError>
         rest = others;
     }
     Ok(shown)
-}
-
-// The first line of a text with its new-line, and what stands behind it.
-fn first_line(text: &[u8]) -> (&[u8], &[u8])
-    requires { 0 < length text.now }
-    ensures whole { text.now ≡ result.0.now ++ result.1.now }
-    ensures some { 0 < length result.0.now }
-{
-    match memchr(b'\n', text) {
-        Some(end) => text.split_at(end + 1),
-        None => (text, &[]),
-    }
 }
 
 /// What is shown of a line.

@@ -11,8 +11,9 @@ counted on a smaller file of the same kind. A second table has those of each sta
 which WORKBENCH makes.
 
 Exits 1 where a file of the first form takes more than a tenth longer by the token than a smaller one does,
-once the smaller one takes long enough to be measured, or where a largest file takes more than five seconds; and where a
-call takes more than eleven times as long with ten times as many tokens.
+once the smaller one takes long enough to be measured, or where a largest file takes more than five seconds; where a
+call takes more than eleven times as long with ten times as many tokens, or macros in chains more than sixteen times; and
+where 2,097,151 replacements take more than 0.3 seconds.
 """
 import os
 import re
@@ -20,6 +21,7 @@ import shutil
 import subprocess
 import sys
 import tempfile
+from typing import Callable, NamedTuple
 
 # The least seconds of a check that others are compared with: below, its start hides what it costs.
 LEAST_SECONDS = 0.1
@@ -33,10 +35,13 @@ MOST_BYTES = 8388608
 MOST_TOKENS = 2000000
 # The size of a file whose instructions are counted.
 COUNTED_BYTES = 262144
-# So many tokens have the texts of a call. Up to so many its instructions are counted.
+# So many tokens, or names in scopes, have the texts of a call. Up to so many its instructions are counted.
 CALL_TOKENS = (10000, 100000, 1000000)
 COUNTED_TOKENS = 100000
 MOST_CALL_RATIO = 11
+# The sets of names that a chain hides outgrow the caches.
+MOST_CHAIN_RATIO = 16
+MOST_DOUBLING_SECONDS = 0.3
 # A call that takes less is compared as one that takes this: its start hides what it costs.
 LEAST_CALL_SECONDS = 0.01
 
@@ -151,28 +156,116 @@ def nested(front, between, back=b""):
     return lambda tokens: front * (tokens // each) + between + back * (tokens // each) + b"\n"
 
 
+def names_of_one_scope(names):
+    """So many different names in a scope that is kept and opened again; then each is found."""
+    numbers = range(names)
+    bound = b"".join(b"unlinked n%d " % number for number in numbers)
+    found = b"".join(b"find n%d " % number for number in numbers)
+    return b"{ " + bound + b"keep reopen " + found + b"}\n"
+
+
+def scopes_of_one_name_each(names):
+    """So many scopes, each in the one before and with a name of its own; half of them are left, the others dropped open."""
+    opened = b"".join(b"{ unlinked n%d " % number for number in range(names))
+    return opened + b"find n0 " + b"} " * (names // 2) + b"find n0\n"
+
+
+def one_name_in_each_scope(names):
+    """The same with one name, which hides itself so often."""
+    return b"{ unlinked n " * names + b"find n " + b"} " * (names // 2) + b"find n\n"
+
+
 def tokens_in(text):
     """How many tokens a file of the first form without comments has."""
     return len(re.findall(rb"[A-Za-z0-9_]+|[^A-Za-z0-9_\s]", text))
 
 
-# Calls with their names, the words that make them, and texts of so many tokens.
+def defined(lines, text):
+    """A file of these definitions, and a text behind them."""
+    return b"".join(b"#define %b\n" % line for line in lines) + text + b"\n"
+
+
+def doubled(levels):
+    """Macros that are each twice the one before, down to one of nothing: 2^(levels + 1) - 1 replacements."""
+    lines = [b"a0"] + [b"a%d a%d a%d" % (level + 1, level, level) for level in range(levels)]
+    return defined(lines, b"a%d" % levels)
+
+
+def nested_calls(depth):
+    """Calls within one another."""
+    return defined([b"f(a) a"], b"f(" * depth + b"1" + b")" * depth)
+
+
+def chain(length):
+    """Macros each of which is the next one."""
+    return defined([b"a%d a%d" % (number, number + 1) for number in range(length)], b"a0")
+
+
+def crossing_chains(length):
+    """Macros each of which is the next one and one beside it, which hides the names of all before."""
+    lines = [b"a%d a%d b%d" % (number, number + 1, number) for number in range(length)]
+    return defined(lines + [b"b%d c" % number for number in range(length)], b"a0")
+
+
+def parameters(count):
+    """A macro of so many parameters, each used, and its call."""
+    names = [b"p%d" % number for number in range(count)]
+    return defined([b"f(" + b",".join(names) + b") " + b" ".join(names)], b"f(" + b",".join(names) + b")")
+
+
+class Call(NamedTuple):
+    """Calls of a library: their name, the words of the command before and behind the file, files of each of the sizes,
+    and how many times as long one of ten times the size may take.
+    """
+
+    name: str
+    words: list
+    behind: list
+    make: Callable
+    sizes: tuple
+    most_ratio: int
+
+
+def of_if(name, make):
+    """The value of an `#if` of so many tokens."""
+    return Call("#if: " + name, ["if_value"], [], make, CALL_TOKENS, MOST_CALL_RATIO)
+
+
+def of_macros(name, make, sizes, most_ratio=MOST_CALL_RATIO):
+    """The expansion of a text behind its definitions."""
+    return Call("macros: " + name, ["expand"], ["replacements=4000000", "tokens=16000000"], make, sizes, most_ratio)
+
+
+def of_scopes(name, make):
+    """Commands on scopes, over so many names."""
+    return Call("scopes: " + name, ["scopes"], [], make, CALL_TOKENS, MOST_CALL_RATIO)
+
+
+DOUBLED = of_macros("each twice the next", doubled, (20,))
+
 CALLS = (
-    ("#if: parentheses", "if_value", nested(b"(", b"1", b")")),
-    ("#if: a sum of ones", "if_value", nested(b"1+", b"1")),
-    ("#if: ?: to the right", "if_value", nested(b"0?2:", b"3")),
-    ("#if: ?: in the middle", "if_value", nested(b"1?", b"3", b":2")),
-    ("#if: prefixes !", "if_value", nested(b"!", b"1")),
-    ("#if: prefixes -", "if_value", nested(b"- ", b"1")),
+    of_if("parentheses", nested(b"(", b"1", b")")),
+    of_if("a sum of ones", nested(b"1+", b"1")),
+    of_if("?: to the right", nested(b"0?2:", b"3")),
+    of_if("?: in the middle", nested(b"1?", b"3", b":2")),
+    of_if("prefixes !", nested(b"!", b"1")),
+    of_if("prefixes -", nested(b"- ", b"1")),
+    of_macros("nested calls", nested_calls, (1000, 10000, 100000)),
+    of_macros("a chain", chain, (1000, 10000, 100000), MOST_CHAIN_RATIO),
+    of_macros("two chains", crossing_chains, (1000, 10000, 100000), MOST_CHAIN_RATIO),
+    of_macros("parameters", parameters, (10, 100, 1000)),
+    of_scopes("names of one scope", names_of_one_scope),
+    of_scopes("nested, of a name each", scopes_of_one_name_each),
+    of_scopes("nested, of one name", one_name_in_each_scope),
 )
 
 
 class Checker:
-    """A program that checks the file t.c, with the statuses with which it may end."""
+    """A program that checks the file t.c, with words behind it, and the statuses with which it may end."""
 
-    def __init__(self, name, command, statuses):
+    def __init__(self, name, command, statuses, behind=()):
         self.name = name
-        self.command = command
+        self.command = command + ["t.c"] + list(behind)
         self.statuses = statuses
         self.instructions_at_start = self.instructions(b"")
 
@@ -181,7 +274,7 @@ class Checker:
         best = None
         for _ in range(3):
             with Folder(text) as folder:
-                seconds, kibibytes, status = measured(self.command + ["t.c"], folder)
+                seconds, kibibytes, status = measured(self.command, folder)
             if status not in self.statuses:
                 return None
             best = (seconds, kibibytes) if best is None else min(best, (seconds, kibibytes))
@@ -195,7 +288,7 @@ class Checker:
         with Folder(text) as folder:
             try:
                 done = subprocess.run(
-                    valgrind + self.command + ["t.c"],
+                    valgrind + self.command,
                     cwd=folder,
                     stdout=subprocess.DEVNULL,
                     stderr=subprocess.PIPE,
@@ -314,16 +407,24 @@ def print_stages(checker):
         before = behind
 
 
-def call_grows_in_step(workbench, name, tool, make):
-    """Whether a call takes at most eleven times as long for ten times as many tokens. Prints its lines."""
-    checker = Checker(tool, [workbench, tool], (0,))
+def call_grows_in_step(workbench, call):
+    """Whether a call takes only so many times as long where its size is ten times as large. Prints its lines."""
+    checker = Checker(call.name, [workbench] + call.words, (0,), call.behind)
     before, passed = None, True
-    for tokens in CALL_TOKENS:
-        seconds = print_rows([checker], name, make(tokens), make(min(tokens, COUNTED_TOKENS)))
-        if before is not None and seconds > MOST_CALL_RATIO * max(before, LEAST_CALL_SECONDS):
+    for size in call.sizes:
+        text = call.make(size)
+        seconds = print_rows([checker], call.name, text, call.make(min(size, COUNTED_TOKENS)))
+        if before is not None and seconds > call.most_ratio * max(before, LEAST_CALL_SECONDS):
             passed = False
         before = seconds
     return passed
+
+
+def doubles_in_time(workbench):
+    """Whether 2,097,151 replacements take no more than is allowed. Prints their line."""
+    checker = Checker(DOUBLED.name, [workbench] + DOUBLED.words, (0,), DOUBLED.behind)
+    text = DOUBLED.make(DOUBLED.sizes[0])
+    return print_rows([checker], DOUBLED.name, text, None) <= MOST_DOUBLING_SECONDS
 
 
 def main():
@@ -343,8 +444,11 @@ def main():
             passed = False
     print_stages(checkers[0])
     print_line(["call", *heads])
-    for name, tool, make in CALLS:
-        if not call_grows_in_step(os.path.abspath(sys.argv[2]), name, tool, make):
+    workbench = os.path.abspath(sys.argv[2])
+    if not doubles_in_time(workbench):
+        passed = False
+    for call in CALLS:
+        if not call_grows_in_step(workbench, call):
             passed = False
     return 0 if passed else 1
 

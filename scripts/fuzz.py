@@ -6,15 +6,20 @@ usage: fuzz.py PROGRAM [COUNT [SEED]]
 A run must end by itself within ten seconds, write nothing to standard output, and give for a file the
 status and the bytes on standard error that `rules.py` works out from the rules alone. For words it must
 give one of the stated statuses, with lines of the stated form.
+
+Where a compiler is installed, random macros go through it and through `reference`, and both must come to the same tokens.
 """
 import os
 import random
 import re
+import shutil
 import subprocess
 import sys
 import tempfile
 
+import compilers
 import rules
+from made_units import Maker
 
 USAGE = re.compile(rb"ksparse: (?:bad word: .*|missing file)\n", re.DOTALL)
 MISSING = re.compile(rb"ksparse: error\[1\]: no such file: .*\n", re.DOTALL)
@@ -25,6 +30,8 @@ PIECES = [
     "\n", "\t", "if", "/*", "*/", "//", "\\\n", "\\", "\"", "'", "\"a\"", "'b'", "L", "u8", "#", "#include", "include", "<", ">", "<a>",
     "%:", "<%", "%>", "...", ".5", "1e+", "\\u00e9", "\r", "\0", "\x80", "\xff", "x" * 300,
 ]
+
+COMPILERS = ("gcc", "clang")
 
 # What can be a name, and what can't.
 WORDS = [
@@ -136,6 +143,27 @@ def check_words(program, folder, chance):
     return words, None if status == 2 and MISSING.fullmatch(err) else f"status {status}, {err!r}"
 
 
+def check_expansion(compiler, folder, chance):
+    """What is wrong about a compiler's expansion of random macros, or nothing; and the text."""
+    maker = Maker(chance, plain=True)
+    text = f"{maker.table()}{maker.text()}\n{maker.text()}\n".encode()
+    with open(os.path.join(folder, "m.c"), "wb") as file:
+        file.write(text)
+    found = compilers.difference(text, compilers.preprocess(compiler, "m.c", folder))
+    return None if found in compilers.ALIKE else found, text
+
+
+def check_expansions(folder, chance, count):
+    """Compares so many expansions with those of the compilers that are installed; true where all are alike."""
+    for compiler in filter(shutil.which, COMPILERS):
+        for number in range(count):
+            wrong, text = check_expansion(compiler, folder, chance)
+            if wrong:
+                print(f"fuzz: expansion {number} of {compiler}: {wrong}: {text!r}")
+                return False
+    return True
+
+
 def main():
     program = os.path.abspath(sys.argv[1])
     count = int(sys.argv[2]) if len(sys.argv) > 2 else 2000
@@ -155,6 +183,8 @@ def main():
             if wrong:
                 print(f"fuzz: words {words!r}: {wrong}")
                 return 1
+        if not check_expansions(folder, chance, count // 4):
+            return 1
     print("fuzz: ok")
     return 0
 

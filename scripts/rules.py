@@ -5,18 +5,9 @@ Nothing here is taken from the program. `answer` gives the status of a check and
 """
 import re
 
-# The tokens of C11 6.4, each a regular expression for the bytes of one logical line.
-UNIVERSAL = rb"\\u[0-9A-Fa-f]{4}|\\U[0-9A-Fa-f]{8}"
-HEADER = re.compile(rb'<[^\n>]+>|"[^\n"]+"')
-LITERAL = re.compile(rb"""(?:u8|[LuU])?"(?:[^"\\\n]|\\[^\n])*"|[LuU]?'(?:[^'\\\n]|\\[^\n])*'""")
-WORD = re.compile(rb"(?:[A-Za-z_]|" + UNIVERSAL + rb")(?:[A-Za-z0-9_]|" + UNIVERSAL + rb")*")
+from reference.scanning import Opening, Place, meant, scan
+
 PLAIN = re.compile(rb"[A-Za-z_][A-Za-z0-9_]*")
-NUMBER = re.compile(rb"\.?[0-9](?:[eEpP][+-]|" + UNIVERSAL + rb"|[A-Za-z0-9_.])*")
-PUNCTUATOR = re.compile(
-    rb"%:%:|\.\.\.|<<=|>>=|->|\+\+|--|<<|>>|<=|>=|==|!=|&&|\|\||\*=|/=|%=|\+=|-=|&=|\^=|\|=|##|<:|:>|<%|%>|%:|[^'\"]",
-    re.DOTALL,
-)
-DIGRAPHS = {b"<:": b"[", b":>": b"]", b"<%": b"{", b"%>": b"}", b"%:": b"#", b"%:%:": b"##"}
 
 # C11 6.4.1
 KEYWORDS = set(
@@ -27,62 +18,8 @@ KEYWORDS = set(
 PREDEFINED = set(b"__CHECKER__ __STDC__ __STDC_VERSION__ __LP64__ __FILE__ __LINE__ __COUNTER__".split())
 
 
-class Opening(Exception):
-    """What opens here is never closed."""
-
-
 class NotInForm(Exception):
     """The tokens aren't in the first form."""
-
-
-def logical(text):
-    """The bytes without each backslash and new-line, and the place of each."""
-    kept, places, line, column, at = bytearray(), [], 1, 1, 0
-    while at < len(text):
-        if text[at : at + 2] == b"\\\n":
-            line, column, at = line + 1, 1, at + 2
-            continue
-        kept.append(text[at])
-        places.append((line, column))
-        line, column = (line + 1, 1) if text[at] == 10 else (line, column + 1)
-        at += 1
-    return bytes(kept) + b"\n", places
-
-
-def token(text, at, behind_include):
-    """The longest token here, or None at a quotation mark alone."""
-    patterns = [LITERAL, WORD, NUMBER, PUNCTUATOR]
-    found = [match.group() for match in (pattern.match(text, at) for pattern in patterns) if match]
-    if behind_include and HEADER.match(text, at):
-        found.append(HEADER.match(text, at).group())
-    return max(found, key=len, default=None)
-
-
-def tokens(text):
-    """Each token, with its line and its column."""
-    text, places = logical(text)
-    at, behind = 0, "line start"
-    while at < len(text):
-        if text[at : at + 2] == b"//":
-            at = text.index(b"\n", at)
-        elif text[at : at + 2] == b"/*":
-            end = text.find(b"*/", at + 2)
-            if end < 0:
-                raise Opening(places[at], b"error[3]: unterminated comment")
-            at = end + 2
-        elif text[at] in b" \t\n\v\f":
-            behind = "line start" if text[at] == 10 else behind
-            at += 1
-        else:
-            spelled = token(text, at, behind == "include")
-            if spelled is None:
-                raise Opening(places[at], b"error[4]: unterminated literal")
-            yield spelled, places[at]
-            if behind == "line start":
-                behind = "hash" if spelled in (b"#", b"%:") else "elsewhere"
-            else:
-                behind = "include" if behind == "hash" and spelled == b"include" else "elsewhere"
-            at += len(spelled)
 
 
 def is_name(spelled):
@@ -109,20 +46,20 @@ class Reader:
         self.failures = []
 
     def sees(self, wanted):
-        spelled = self.found[self.at][0] if self.at < len(self.found) else b""
-        return DIGRAPHS.get(spelled, spelled) == wanted
+        return self.at < len(self.found) and meant(self.found[self.at]) == wanted
 
     def take(self, wanted):
         if not self.sees(wanted):
             raise NotInForm
         self.at += 1
-        return self.found[self.at - 1][1]
+        return self.found[self.at - 1].place
 
     def take_one(self, test):
-        if self.at == len(self.found) or not test(self.found[self.at][0]):
+        if self.at == len(self.found) or not test(self.found[self.at].spelled):
             raise NotInForm
         self.at += 1
-        return self.found[self.at - 1]
+        token = self.found[self.at - 1]
+        return token.spelled, token.place
 
     def unit(self):
         while self.at < len(self.found):
@@ -231,15 +168,15 @@ def spelled_type(found):
 
 
 def line(place, text):
-    return b"t.c:%d:%d: %b\n" % (*place, text)
+    return b"t.c:%d:%d: %b\n" % (place.line, place.column, text)
 
 
 def answer(text):
     """The status of the check of `t.c` with this text, and what goes to standard error."""
     try:
-        failures = Reader(list(tokens(text))).unit()
+        failures = Reader(list(scan(1, text))).unit()
     except Opening as opening:
         return 2, line(*opening.args)
     except NotInForm:
-        return 2, line((1, 1), b"error[29]: form not built")
+        return 2, line(Place(1, 1, 1), b"error[29]: form not built")
     return (1 if failures else 0), b"".join(line(*failure) for failure in failures)

@@ -1,0 +1,115 @@
+#!/usr/bin/env python3
+"""Preprocesses files of a kernel tree with the program and with the user's compiler, and compares the tokens.
+
+usage: headers.py PROGRAM TREE FILE ..
+
+Each FILE is read through a file that first includes what the compiler predefines, as a header, and then what a build of the
+kernel puts before each file. Both sides get `__CHECKER__` and the `__STDC_VERSION__` of C11, and `__has_attribute` and its
+like as macros that are 0, which the compiler has built in. CC names another compiler than gcc.
+
+Prints for each file whether its tokens are equal, where they first differ or why it is refused, and the time and the peak
+memory of both. Exits 1 where a file isn't equal.
+"""
+import os
+import subprocess
+import sys
+import tempfile
+
+from reference.scanning import scan
+
+COMPILER = os.environ.get("CC", "gcc")
+DIRECTORIES = (
+    "arch/{0}/include", "arch/{0}/include/generated", "include", "arch/{0}/include/uapi", "arch/{0}/include/generated/uapi",
+    "include/uapi", "include/generated/uapi",
+)
+# What a build includes before each file, where the tree has it
+BEFORE = ("linux/compiler-version.h", "linux/kconfig.h", "linux/compiler_types.h")
+ARCHITECTURES = {"x86_64": "x86", "aarch64": "arm64", "ppc64le": "powerpc", "riscv64": "riscv"}
+WORDS = ["-D__KERNEL__", '-DKBUILD_MODNAME="file"', '-DKBUILD_BASENAME="file"', '-DKBUILD_MODFILE="file"']
+BUILT_IN = ("__has_attribute", "__has_builtin", "__has_feature", "__has_extension")
+
+# Runs a command and prints its seconds, its peak kibibytes and its status behind what it writes to standard error. A
+# process begins with the peak of the one that started it, so this runs in a small process of its own.
+MEASURE = """
+import os, subprocess, sys
+with open(sys.argv[1], "wb") as out:
+    child = subprocess.Popen(sys.argv[2:], stdout=out)
+    _, status, usage = os.wait4(child.pid, 0)
+print(usage.ru_utime + usage.ru_stime, usage.ru_maxrss, os.waitstatus_to_exitcode(status))
+"""
+
+
+def measured(command, folder, out):
+    """What a command prints, its standard error and status, and a text of its time and peak memory."""
+    done = subprocess.run([sys.executable, "-c", MEASURE, out, *command], cwd=folder, capture_output=True, check=True)
+    seconds, kibibytes, status = done.stdout.split()
+    with open(out, "rb") as file:
+        text = file.read()
+    return text, done.stderr, int(status), f"{float(seconds):.2f} s {int(kibibytes) // 1024} MiB"
+
+
+def predefined():
+    """The compiler's own macros, as the lines of a header, and its built-in tests as macros."""
+    command = [COMPILER, "-std=gnu11", "-dM", "-E", "-x", "c", os.devnull]
+    lines = subprocess.run(command, capture_output=True, check=True, text=True).stdout.splitlines(keepends=True)
+    return "".join(lines) + "".join(f"#define {name}(x) 0\n" for name in BUILT_IN)
+
+
+def directories(tree):
+    """The directories of the tree in which a build looks for headers."""
+    architecture = ARCHITECTURES.get(os.uname().machine, os.uname().machine)
+    found = [directory.format(architecture) for directory in DIRECTORIES]
+    return [directory for directory in found if os.path.isdir(os.path.join(tree, directory))]
+
+
+def wrapper(tree, found, folder, file):
+    """A file that includes what stands before FILE, and then FILE."""
+    before = [header for header in BEFORE if any(os.path.exists(os.path.join(tree, directory, header)) for directory in found)]
+    lines = [f'"{folder}/predefined.h"', *(f"<{header}>" for header in before), f'"{os.path.join(os.path.abspath(tree), file)}"']
+    return "".join(f"#include {line}\n" for line in lines)
+
+
+def first_difference(found, wanted):
+    """The number of the first token that differs, and a few of both from there."""
+    number = next((number for number, pair in enumerate(zip(found, wanted)) if pair[0] != pair[1]), min(len(found), len(wanted)))
+    near = [b" ".join(tokens[number : number + 6]).decode("utf-8", "replace") for tokens in (found, wanted)]
+    return f"different at token {number}: {near[0]!r} in place of {near[1]!r}"
+
+
+def compare(program, tree, file, folder):
+    """What the comparison of a file comes to, and whether it is equal."""
+    found = directories(tree)
+    with open(os.path.join(folder, "unit.c"), "w", encoding="utf-8") as unit:
+        unit.write(wrapper(tree, found, folder, file))
+    words = [*WORDS, *(f"-I{directory}" for directory in found), os.path.join(folder, "unit.c")]
+    text, err, status, ours = measured([program, "-E", *words], tree, os.path.join(folder, "ours.i"))
+    flags = ["-E", "-P", "-undef", "-nostdinc", "-std=gnu11", "-w", "-x", "c", "-D__CHECKER__=1"]
+    theirs_text, theirs_err, theirs_status, theirs = measured([COMPILER, *flags, *words], tree, os.path.join(folder, "theirs.i"))
+    times = f"({ours}; {COMPILER} {theirs})"
+    if status or theirs_status:
+        refusal = (err or theirs_err).decode("utf-8", "replace").strip()
+        return f"refused {times}: {refusal}", False
+    ours_tokens, theirs_tokens = ([token.spelled for token in scan(1, each)] for each in (text, theirs_text))
+    if ours_tokens == theirs_tokens:
+        return f"equal, {len(ours_tokens)} tokens {times}", True
+    return f"{first_difference(ours_tokens, theirs_tokens)} {times}", False
+
+
+def main():
+    if len(sys.argv) < 4:
+        print(__doc__.split("\n\n")[1], file=sys.stderr)
+        return 2
+    program, tree, *files = sys.argv[1:]
+    is_equal = True
+    with tempfile.TemporaryDirectory() as folder:
+        with open(os.path.join(folder, "predefined.h"), "w", encoding="utf-8") as header:
+            header.write(predefined())
+        for file in files:
+            told, equal = compare(os.path.abspath(program), tree, file, folder)
+            is_equal = is_equal and equal
+            print(f"{file}: {told}", flush=True)
+    return 0 if is_equal else 1
+
+
+if __name__ == "__main__":
+    sys.exit(main())

@@ -1,0 +1,6 @@
+"""The preprocessor and the check written once more, from the rules alone, for scripts to compare the program with.
+
+Nothing here is taken from the program. Modules: `scanning` (bytes to tokens), `macros` (definitions and what calls become),
+`conditions` (the value of an `#if`), `preprocessing` (files to the tokens of a unit), `commands` (words and files to what is
+written).
+"""

@@ -1,0 +1,101 @@
+"""Words and files to what a command writes and its status."""
+import rules
+
+from .macros import Passed
+from .preprocessing import NoSuchFile, Refusal, Unit, text_of
+from .scanning import IS_WORD, Place
+
+KEPT_WORDS = (b"eval", b"gen", b"link", b"index", b"annotate")
+ON = (b"address-space", b"bitwise", b"context", b"non-pointer-null")
+OFF = (b"cast-to-as", b"decl", b"shadow", b"undef", b"return-void", b"do-while", b"strict-prototypes",
+       b"one-bit-signed-bitfield", b"cast-truncate")
+
+CLEAN, WARNED, REFUSED, USAGE, LIMIT = 0, 1, 2, 3, 7
+
+
+class BadWord(Exception):
+    """A word that no rule allows."""
+
+
+class Command:
+    """The words of a command, read."""
+
+    def __init__(self, words):
+        self.expands = False
+        self.directories = []
+        self.lines = b""
+        self.classes = set(ON)
+        self.file = None
+        for number, word in enumerate(words):
+            if number == 0 and word in KEPT_WORDS or not self.takes(word):
+                raise BadWord(word)
+
+    def takes(self, word):
+        """Takes a word, where it is none that no rule allows."""
+        if not word.startswith(b"-"):
+            is_first = self.file is None
+            self.file = word if is_first else self.file
+            return is_first
+        if word == b"-E":
+            self.expands = True
+            return True
+        value = word[2:]
+        takes = {b"-I": self.takes_directory, b"-D": self.takes_definition, b"-U": self.takes_name, b"-W": self.takes_class}
+        return word[:2] in takes and takes[word[:2]](value)
+
+    def takes_directory(self, value):
+        self.directories.append(value)
+        return value != b""
+
+    def takes_definition(self, value):
+        name, equals, text = value.partition(b"=")
+        self.lines += b"#define %b %b\n" % (name, text if equals else b"1")
+        return IS_WORD.fullmatch(name) and b"\n" not in text
+
+    def takes_name(self, value):
+        self.lines += b"#undef %b\n" % value
+        return IS_WORD.fullmatch(value)
+
+    def takes_class(self, value):
+        is_off = value.startswith(b"no-")
+        name = value[3:] if is_off else value
+        (self.classes.discard if is_off else self.classes.add)(name)
+        return name in ON + OFF
+
+
+def line(paths, place, text):
+    return b"%b:%d:%d: %b\n" % (paths[place.file], place.line, place.column, text)
+
+
+def checked(unit, classes):
+    """The status of the check of a unit, and its warnings."""
+    undefined = [(place, b"warning: undefined preprocessor identifier '%b'" % name) for place, name in unit.undefined]
+    try:
+        found = rules.Reader(unit.tokens).unit()
+    except rules.NotInForm:
+        return REFUSED, line(unit.paths, Place(1, 1, 1), b"error[29]: form not built")
+    shown = undefined * (b"undef" in classes) + found * (b"address-space" in classes)
+    return WARNED if shown else CLEAN, b"".join(line(unit.paths, *failure) for failure in shown)
+
+
+def answer(words, files):
+    """What a command writes to standard output and to standard error, and its status. `files` has their bytes by path."""
+    try:
+        command = Command(words)
+    except BadWord as bad:
+        return b"", b"ksparse: bad word: %b\n" % bad.args[0], USAGE
+    if command.file is None:
+        return b"", b"ksparse: missing file\n", USAGE
+    unit = Unit(files, command.directories, command.lines)
+    try:
+        unit.preprocess(command.file)
+    except Refusal as refusal:
+        return b"", line(unit.paths, *refusal.args), REFUSED
+    except NoSuchFile as missing:
+        return b"", b"ksparse: error[1]: no such file: %b\n" % missing.args[0], REFUSED
+    except Passed as passed:
+        return b"", b"ksparse: limit: %b\n" % passed.args[0], LIMIT
+    if command.expands:
+        return text_of(unit.tokens), b"", CLEAN
+    status, err = checked(unit, command.classes)
+    return b"", err, status

@@ -11,11 +11,7 @@ mod bytes;
 #[cfg(test)]
 mod conditions;
 #[cfg(test)]
-mod expansions;
-#[cfg(test)]
 mod faults;
-#[cfg(test)]
-mod grammar;
 #[cfg(test)]
 mod growth;
 #[cfg(test)]

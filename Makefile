@@ -9,7 +9,7 @@ WORKBENCH := build/workbench
 # Names with spaces, which a program's own run reads, are none for make.
 SOURCES := $(shell find crates crates.txt HANDLES -name out -prune -o -type f ! -name '* *' -print)
 
-.PHONY: all run test edits believe names docs costs bench fuzz rows headers smoke install clean kit
+.PHONY: all run test edits believe names docs costs bench fuzz rows compare headers smoke install clean kit
 
 all: $(PROGRAM)
 
@@ -65,6 +65,10 @@ fuzz: $(PROGRAM)
 # Worked rows over the checker that fuzz compares the program with.
 rows:
 	$(PYTHON) scripts/preprocessing_rows.py crates/cases/data/if_values.txt crates/cases/data/directives.txt crates/cases/data/conditionals.txt scripts/reference/rows/*.txt
+
+# Expressions whose types and values gcc says, beside the committed examples.
+compare:
+	$(PYTHON) scripts/constants.py
 
 # Files of a kernel tree, preprocessed by the program and by the compiler: make headers LINUX=/path/to/a/tree FILES="lib/ctype.c"
 headers: $(PROGRAM)

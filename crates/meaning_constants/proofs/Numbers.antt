@@ -8,8 +8,7 @@ use Rattle.std.specs.Ordering.{int_eq}
 use Rattle.vocabulary.specs.declared.int_kind.IntKind.{IntKind}
 use Rattle.vocabulary.specs.declared.int_kind.IntKind.TheVariants as kinds
 use Rattle.meaning_types.specs.Ranges.{least, greatest}
-use Rattle.meaning_machine.specs.Values.{IsInRange}
-use Rattle.meaning_machine.specs.Conversion.{number_count, wrapped, truth_of, converted}
+use Rattle.meaning_constants.specs.Numbers.{IsInRange, number_count, wrapped, truth_of, converted}
 
 -- Remainders
 
@@ -111,3 +110,15 @@ pub converted_is_apart : (kind : IntKind) (number : ℤ) → kind ≢ kinds.Bool
 converted_is_apart =
     by_kind (λ kind convert. (number : ℤ) → kind ≢ kinds.Bool → IsApart kind number (convert number)) (λ number other. absurd (other refl))
     (λ kind number other. apart (least kind) (greatest kind) number (least-below kind))
+
+-- a wrapped number is one of the kind, _Bool too
+pub wrapped_is_in_range : (kind : IntKind) (number : ℤ) → IsInRange kind (wrapped kind number)
+wrapped_is_in_range kind number = between (least kind) (greatest kind) number (least-below kind)
+
+-- the truth of a number is a number of int
+truth-is_an_int : (is_zero : Bool) → IsInRange kinds.Int (if is_zero then pos 0 else pos 1)
+truth-is_an_int true = (le_z_yes tt, le_z_yes tt)
+truth-is_an_int false = (le_z_yes tt, le_z_yes tt)
+
+pub truth_is_an_int : (number : ℤ) → IsInRange kinds.Int (truth_of number)
+truth_is_an_int number = truth-is_an_int (int_eq number (pos 0))

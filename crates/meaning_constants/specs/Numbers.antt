@@ -1,11 +1,14 @@
 -- What becomes of a number in an integer type (C11 6.3.1.2, 6.3.1.3).
-use Rattle.std.specs.Prelude.{ℤ, pos, ◌+ℤ◌, ◌-ℤ◌, if◌then◌else◌}
+use Rattle.std.specs.Prelude.{ℤ, pos, ◌+ℤ◌, ◌-ℤ◌, ◌≤ℤ◌, if◌then◌else◌}
 use Rattle.std.specs.Int.{int_rem_euclid}
 use Rattle.std.specs.Ordering.{int_eq}
 use Rattle.vocabulary.specs.declared.int_kind.IntKind.{IntKind}
 use Rattle.vocabulary.specs.declared.int_kind.IntKind.TheVariants as kinds
 use Rattle.meaning_types.specs.Ranges.{least, greatest}
-use Rattle.meaning_machine.specs.Values.{Spot, Null}
+
+-- the kind has the number
+abbrev pub IsInRange : IntKind → ℤ → Type 0
+IsInRange kind number = (least kind ≤ℤ number) × (number ≤ℤ greatest kind)
 
 -- how many numbers a kind has
 abbrev pub number_count : IntKind → ℤ
@@ -19,11 +22,6 @@ wrapped kind number = least kind +ℤ int_rem_euclid (number -ℤ least kind) (n
 -- each number but 0 is true (6.3.1.2)
 abbrev pub truth_of : ℤ → ℤ
 truth_of number = if int_eq number (pos 0) then pos 0 else pos 1
-
--- and so is each pointer but a null one
-abbrev pub spot_truth : Spot → ℤ
-spot_truth Null = pos 0
-spot_truth spot = pos 1
 
 -- the number that a number becomes in a kind
 abbrev pub converted : IntKind → ℤ → ℤ

@@ -59,8 +59,8 @@ costs: | kit
 bench: $(PROGRAM) $(WORKBENCH)
 	$(PYTHON) scripts/bench.py $(PROGRAM) $(WORKBENCH)
 
-fuzz: $(PROGRAM)
-	$(PYTHON) scripts/fuzz.py $(PROGRAM)
+fuzz: $(PROGRAM) $(WORKBENCH)
+	$(PYTHON) scripts/fuzz.py $(PROGRAM) $(WORKBENCH)
 
 # Worked rows over the checker that fuzz compares the program with.
 rows:

@@ -1,11 +1,15 @@
 #!/usr/bin/env python3
-"""Batters the program with random files in, near and outside the first form, and with random words.
+"""Batters the program with random files in, near and outside the first form, and with random words; and the calls of libraries
+that no command makes yet.
 
-usage: fuzz.py PROGRAM [COUNT [SEED]]
+usage: fuzz.py PROGRAM WORKBENCH [COUNT [SEED]]
 
 A run must end by itself within ten seconds, write nothing to standard output, and give for a file the
 status and the bytes on standard error that `rules.py` works out from the rules alone. For words it must
 give one of the stated statuses, with lines of the stated form.
+
+Units of random conditionals and definitions, and random macros, go through the tools of WORKBENCH, which must print what
+`workbench_answers.py` works out. A unit with another answer is made smaller before it is printed.
 
 Where a compiler is installed, random macros go through it and through `reference`, and both must come to the same tokens.
 """
@@ -19,7 +23,9 @@ import tempfile
 
 import compilers
 import rules
+import workbench_answers
 from made_units import Maker
+from shrinking import shrunk
 
 USAGE = re.compile(rb"ksparse: (?:bad word: .*|missing file)\n", re.DOTALL)
 MISSING = re.compile(rb"ksparse: error\[1\]: no such file: .*\n", re.DOTALL)
@@ -143,6 +149,49 @@ def check_words(program, folder, chance):
     return words, None if status == 2 and MISSING.fullmatch(err) else f"status {status}, {err!r}"
 
 
+def tool_differs(workbench, folder, words):
+    """A test of a text: whether this command of the workbench answers otherwise for a file of it."""
+    path = words[1]
+
+    def differs(text):
+        with open(os.path.join(folder, path.decode()), "wb") as file:
+            file.write(text)
+        status, out, _ = run(workbench, words, folder)
+        return status != 0 or out != workbench_answers.answer(words, {path: text})
+
+    return differs
+
+
+def unit_command(chance):
+    """A unit, and the words of a tool that shows it."""
+    return Maker(chance, has_headers=False).file(), [chance.choice([b"preprocess", b"preprocess", b"left_names"]), b"u.c"]
+
+
+def expansion_command(chance):
+    """Definitions and a text, and the words of the tool that expands it, often within a small budget."""
+    maker = Maker(chance)
+    words = [b"expand", b"e.txt", b'spelled="e.txt"']
+    words += [b"%b=%d" % (name, chance.randrange(30)) for name in (b"replacements", b"tokens", b"counter") if maker.often(30)]
+    words += [b"places"] * maker.often(50)
+    return f"{maker.table()}{maker.text()}\n{maker.text()}\n", words
+
+
+def check_tools(workbench, folder, chance, count):
+    """Compares so many answers of each tool; true where all are alike."""
+    for number in range(count):
+        for command in (unit_command, expansion_command):
+            text, words = command(chance)
+            differs = tool_differs(workbench, folder, words)
+            if differs(text.encode()):
+                small = shrunk(text.encode(), differs)
+                differs(small)
+                print(f"fuzz: workbench {b' '.join(words).decode()}, text {number}, made smaller: {small!r}")
+                print(f"fuzz: it prints {run(workbench, words, folder)[1:]!r}")
+                print(f"fuzz: in place of {workbench_answers.answer(words, {words[1]: small})!r}")
+                return False
+    return True
+
+
 def check_expansion(compiler, folder, chance):
     """What is wrong about a compiler's expansion of random macros, or nothing; and the text."""
     maker = Maker(chance, plain=True)
@@ -165,9 +214,9 @@ def check_expansions(folder, chance, count):
 
 
 def main():
-    program = os.path.abspath(sys.argv[1])
-    count = int(sys.argv[2]) if len(sys.argv) > 2 else 2000
-    seed = int(sys.argv[3]) if len(sys.argv) > 3 else random.randrange(1 << 32)
+    program, workbench = map(os.path.abspath, sys.argv[1:3])
+    count = int(sys.argv[3]) if len(sys.argv) > 3 else 2000
+    seed = int(sys.argv[4]) if len(sys.argv) > 4 else random.randrange(1 << 32)
     chance = random.Random(seed)
     print(f"fuzz: {count} files, seed {seed}")
     makers = [(unit, True), (rewritten, True), (renamed, False), (spoiled, False), (soup, False), (noise, False)]
@@ -183,7 +232,7 @@ def main():
             if wrong:
                 print(f"fuzz: words {words!r}: {wrong}")
                 return 1
-        if not check_expansions(folder, chance, count // 4):
+        if not check_tools(workbench, folder, chance, count) or not check_expansions(folder, chance, count // 4):
             return 1
     print("fuzz: ok")
     return 0

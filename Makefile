@@ -64,7 +64,7 @@ fuzz: $(PROGRAM) $(WORKBENCH)
 
 # Worked rows over the checker that fuzz compares the program with.
 rows:
-	$(PYTHON) scripts/preprocessing_rows.py crates/cases/data/if_values.txt crates/cases/data/directives.txt crates/cases/data/conditionals.txt scripts/reference/rows/*.txt
+	$(PYTHON) scripts/preprocessing_rows.py $$(grep -l '^[$$] workbench' crates/cases/data/*.txt) scripts/reference/rows/*.txt
 
 # Files of a kernel tree, preprocessed by the program and by the compiler: make headers LINUX=/path/to/a/tree FILES="lib/ctype.c"
 headers: $(PROGRAM)

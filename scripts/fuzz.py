@@ -6,7 +6,8 @@ usage: fuzz.py PROGRAM WORKBENCH [COUNT [SEED]]
 
 A run must end by itself within ten seconds, write nothing to standard output, and give for a file the
 status and the bytes on standard error that `rules.py` works out from the rules alone. For words it must
-give one of the stated statuses, with lines of the stated form.
+give one of the stated statuses, with lines of the stated form; where the program preprocesses, random words and files with
+headers must have the bytes and the status that `reference` works out.
 
 Units of random conditionals and definitions, and random macros, go through the tools of WORKBENCH, which must print what
 `workbench_answers.py` works out. A unit with another answer is made smaller before it is printed.
@@ -17,15 +18,14 @@ import os
 import random
 import re
 import shutil
-import subprocess
 import sys
 import tempfile
 
 import compilers
 import rules
-import workbench_answers
+from fuzz_units import check_commands, check_tools, preprocesses, run
 from made_units import Maker
-from shrinking import shrunk
+from reference.commands import answer
 
 USAGE = re.compile(rb"ksparse: (?:bad word: .*|missing file)\n", re.DOTALL)
 MISSING = re.compile(rb"ksparse: error\[1\]: no such file: .*\n", re.DOTALL)
@@ -118,20 +118,23 @@ def noise(chance):
     return bytes(chance.randrange(256) for _ in range(chance.randrange(200)))
 
 
-def run(program, words, folder):
-    done = subprocess.run([program, *words], cwd=folder, capture_output=True, timeout=10)
-    return done.returncode, done.stdout, done.stderr
+def wanted(text, has_macros):
+    """The status of the check of a text, and what goes to standard error, by a program that replaces macros or doesn't."""
+    if not has_macros:
+        return rules.answer(text)
+    _, err, status = answer([b"t.c"], {b"t.c": text})
+    return status, err
 
 
-def check_text(program, folder, text, in_form):
+def check_text(program, folder, text, in_form, has_macros):
     """What is wrong about the check of this text, or nothing."""
     with open(os.path.join(folder, "t.c"), "wb") as file:
         file.write(text)
     status, out, err = run(program, ["t.c"], folder)
     if in_form and status not in (0, 1):
         return "a unit of the first form is refused"
-    if (status, err) != rules.answer(text):
-        return f"status {status}, {err!r} in place of {rules.answer(text)!r}"
+    if (status, err) != wanted(text, has_macros):
+        return f"status {status}, {err!r} in place of {wanted(text, has_macros)!r}"
     return "something on standard output" if out else None
 
 
@@ -149,49 +152,6 @@ def check_words(program, folder, chance):
     return words, None if status == 2 and MISSING.fullmatch(err) else f"status {status}, {err!r}"
 
 
-def tool_differs(workbench, folder, words):
-    """A test of a text: whether this command of the workbench answers otherwise for a file of it."""
-    path = words[1]
-
-    def differs(text):
-        with open(os.path.join(folder, path.decode()), "wb") as file:
-            file.write(text)
-        status, out, _ = run(workbench, words, folder)
-        return status != 0 or out != workbench_answers.answer(words, {path: text})
-
-    return differs
-
-
-def unit_command(chance):
-    """A unit, and the words of a tool that shows it."""
-    return Maker(chance, has_headers=False).file(), [chance.choice([b"preprocess", b"preprocess", b"left_names"]), b"u.c"]
-
-
-def expansion_command(chance):
-    """Definitions and a text, and the words of the tool that expands it, often within a small budget."""
-    maker = Maker(chance)
-    words = [b"expand", b"e.txt", b'spelled="e.txt"']
-    words += [b"%b=%d" % (name, chance.randrange(30)) for name in (b"replacements", b"tokens", b"counter") if maker.often(30)]
-    words += [b"places"] * maker.often(50)
-    return f"{maker.table()}{maker.text()}\n{maker.text()}\n", words
-
-
-def check_tools(workbench, folder, chance, count):
-    """Compares so many answers of each tool; true where all are alike."""
-    for number in range(count):
-        for command in (unit_command, expansion_command):
-            text, words = command(chance)
-            differs = tool_differs(workbench, folder, words)
-            if differs(text.encode()):
-                small = shrunk(text.encode(), differs)
-                differs(small)
-                print(f"fuzz: workbench {b' '.join(words).decode()}, text {number}, made smaller: {small!r}")
-                print(f"fuzz: it prints {run(workbench, words, folder)[1:]!r}")
-                print(f"fuzz: in place of {workbench_answers.answer(words, {words[1]: small})!r}")
-                return False
-    return True
-
-
 def check_expansion(compiler, folder, chance):
     """What is wrong about a compiler's expansion of random macros, or nothing; and the text."""
     maker = Maker(chance, plain=True)
@@ -200,6 +160,23 @@ def check_expansion(compiler, folder, chance):
         file.write(text)
     found = compilers.difference(text, compilers.preprocess(compiler, "m.c", folder))
     return None if found in compilers.ALIKE else found, text
+
+
+def check_first_form(program, folder, chance, count, has_macros):
+    """Compares so many checks of files in and near the first form, and of random words; true where all are alike."""
+    makers = [(unit, True), (rewritten, True), (renamed, False), (spoiled, False), (soup, False), (noise, False)]
+    for number in range(count):
+        maker, in_form = makers[number % len(makers)]
+        text = maker(chance)
+        wrong = check_text(program, folder, text, in_form, has_macros)
+        if wrong:
+            print(f"fuzz: file {number}: {wrong}: {text!r}")
+            return False
+        words, wrong = (None, None) if has_macros else check_words(program, folder, chance)
+        if wrong:
+            print(f"fuzz: words {words!r}: {wrong}")
+            return False
+    return True
 
 
 def check_expansions(folder, chance, count):
@@ -219,21 +196,16 @@ def main():
     seed = int(sys.argv[4]) if len(sys.argv) > 4 else random.randrange(1 << 32)
     chance = random.Random(seed)
     print(f"fuzz: {count} files, seed {seed}")
-    makers = [(unit, True), (rewritten, True), (renamed, False), (spoiled, False), (soup, False), (noise, False)]
     with tempfile.TemporaryDirectory() as folder:
-        for number in range(count):
-            maker, in_form = makers[number % len(makers)]
-            text = maker(chance)
-            wrong = check_text(program, folder, text, in_form)
-            if wrong:
-                print(f"fuzz: file {number}: {wrong}: {text!r}")
-                return 1
-            words, wrong = check_words(program, folder, chance)
-            if wrong:
-                print(f"fuzz: words {words!r}: {wrong}")
-                return 1
-        if not check_tools(workbench, folder, chance, count) or not check_expansions(folder, chance, count // 4):
-            return 1
+        has_macros = preprocesses(program, folder)
+        passed = (
+            check_first_form(program, folder, chance, count, has_macros)
+            and (not has_macros or check_commands(program, folder, chance, count))
+            and check_tools(workbench, folder, chance, count)
+            and check_expansions(folder, chance, count // 4)
+        )
+    if not passed:
+        return 1
     print("fuzz: ok")
     return 0
 

@@ -59,12 +59,12 @@ costs: | kit
 bench: $(PROGRAM) $(WORKBENCH)
 	$(PYTHON) scripts/bench.py $(PROGRAM) $(WORKBENCH)
 
-fuzz: $(PROGRAM)
-	$(PYTHON) scripts/fuzz.py $(PROGRAM)
+fuzz: $(PROGRAM) $(WORKBENCH)
+	$(PYTHON) scripts/fuzz.py $(PROGRAM) $(WORKBENCH)
 
 # Worked rows over the checker that fuzz compares the program with.
 rows:
-	$(PYTHON) scripts/preprocessing_rows.py crates/cases/data/if_values.txt crates/cases/data/directives.txt crates/cases/data/conditionals.txt scripts/reference/rows/*.txt
+	$(PYTHON) scripts/preprocessing_rows.py $$(grep -l '^[$$] workbench' crates/cases/data/*.txt) scripts/reference/rows/*.txt
 
 # Expressions whose types and values gcc says, beside the committed examples.
 compare:

@@ -213,6 +213,33 @@ def parameters(count):
     return defined([b"f(" + b",".join(names) + b") " + b" ".join(names)], b"f(" + b",".join(names) + b")")
 
 
+def used_definitions(count):
+    """So many macros, with a use of each behind them."""
+    numbers = range(count)
+    return b"".join(b"#define n%d %d\n" % (number, number) for number in numbers) + b"".join(b"n%d\n" % number for number in numbers)
+
+
+def calls_in_lines(count):
+    """So many function-like macros, each used behind its definition."""
+    return b"".join(b"#define f%d(a) a + %d\nf%d(x)\n" % (number, number, number) for number in range(count))
+
+
+def groups(count):
+    """So many groups one behind the other, of which each other one is skipped."""
+    return b"".join(b"#ifdef __LP64__\na\n#else\nb\n#endif\n#if 0\nc\n#elif 1\nd\n#endif\n" for _ in range(count // 2))
+
+
+def nested_groups(depth):
+    """Groups within one another, read and then skipped."""
+    read = b"#if 1\n" * depth + b"a\n" + b"#endif\n" * depth
+    return read + b"#if 0\n" + read + b"#endif\n"
+
+
+def conditions(count):
+    """So many lines of `#if` with a macro, a `defined` and a name that is left."""
+    return b"#define m(a) a\n" + b"#if m(1) < 2 && defined m || x\n#endif\n" * count
+
+
 class Call(NamedTuple):
     """Calls of a library: their name, the words of the command before and behind the file, files of each of the sizes,
     and how many times as long one of ten times the size may take.
@@ -236,6 +263,11 @@ def of_macros(name, make, sizes, most_ratio=MOST_CALL_RATIO):
     return Call("macros: " + name, ["expand"], ["replacements=4000000", "tokens=16000000"], make, sizes, most_ratio)
 
 
+def of_directives(name, make, sizes):
+    """The preprocessed unit of a file."""
+    return Call("units: " + name, ["preprocess"], [], make, sizes, MOST_CALL_RATIO)
+
+
 def of_scopes(name, make):
     """Commands on scopes, over so many names."""
     return Call("scopes: " + name, ["scopes"], [], make, CALL_TOKENS, MOST_CALL_RATIO)
@@ -254,6 +286,11 @@ CALLS = (
     of_macros("a chain", chain, (1000, 10000, 100000), MOST_CHAIN_RATIO),
     of_macros("two chains", crossing_chains, (1000, 10000, 100000), MOST_CHAIN_RATIO),
     of_macros("parameters", parameters, (10, 100, 1000)),
+    of_directives("definitions with uses", used_definitions, (5000, 10000, 50000, 100000)),
+    of_directives("calls in lines", calls_in_lines, (5000, 10000, 50000, 100000)),
+    of_directives("groups", groups, (5000, 10000, 50000, 100000)),
+    of_directives("nested groups", nested_groups, (1000, 10000, 100000)),
+    of_directives("lines of #if", conditions, (10000, 100000)),
     of_scopes("names of one scope", names_of_one_scope),
     of_scopes("nested, of a name each", scopes_of_one_name_each),
     of_scopes("nested, of one name", one_name_in_each_scope),
@@ -410,13 +447,13 @@ def print_stages(checker):
 def call_grows_in_step(workbench, call):
     """Whether a call takes only so many times as long where its size is ten times as large. Prints its lines."""
     checker = Checker(call.name, [workbench] + call.words, (0,), call.behind)
-    before, passed = None, True
+    seconds, passed = {}, True
     for size in call.sizes:
         text = call.make(size)
-        seconds = print_rows([checker], call.name, text, call.make(min(size, COUNTED_TOKENS)))
-        if before is not None and seconds > call.most_ratio * max(before, LEAST_CALL_SECONDS):
+        seconds[size] = print_rows([checker], call.name, text, call.make(min(size, COUNTED_TOKENS)))
+        before = seconds.get(size // 10)
+        if before is not None and seconds[size] > call.most_ratio * max(before, LEAST_CALL_SECONDS):
             passed = False
-        before = seconds
     return passed
 
 

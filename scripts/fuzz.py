@@ -1,11 +1,16 @@
 #!/usr/bin/env python3
-"""Batters the program with random files in, near and outside the first form, and with random words.
+"""Batters the program with random files in, near and outside the first form, and with random words; and the calls of libraries
+that no command makes yet.
 
-usage: fuzz.py PROGRAM [COUNT [SEED]]
+usage: fuzz.py PROGRAM WORKBENCH [COUNT [SEED]]
 
 A run must end by itself within ten seconds, write nothing to standard output, and give for a file the
 status and the bytes on standard error that `rules.py` works out from the rules alone. For words it must
-give one of the stated statuses, with lines of the stated form.
+give one of the stated statuses, with lines of the stated form; where the program preprocesses, random words and files with
+headers must have the bytes and the status that `reference` works out.
+
+Units of random conditionals and definitions, and random macros, go through the tools of WORKBENCH, which must print what
+`workbench_answers.py` works out. A unit with another answer is made smaller before it is printed.
 
 Where a compiler is installed, random macros go through it and through `reference`, and both must come to the same tokens.
 """
@@ -13,13 +18,14 @@ import os
 import random
 import re
 import shutil
-import subprocess
 import sys
 import tempfile
 
 import compilers
 import rules
+from fuzz_units import check_commands, check_tools, preprocesses, run
 from made_units import Maker
+from reference.commands import answer
 
 USAGE = re.compile(rb"ksparse: (?:bad word: .*|missing file)\n", re.DOTALL)
 MISSING = re.compile(rb"ksparse: error\[1\]: no such file: .*\n", re.DOTALL)
@@ -112,20 +118,23 @@ def noise(chance):
     return bytes(chance.randrange(256) for _ in range(chance.randrange(200)))
 
 
-def run(program, words, folder):
-    done = subprocess.run([program, *words], cwd=folder, capture_output=True, timeout=10)
-    return done.returncode, done.stdout, done.stderr
+def wanted(text, has_macros):
+    """The status of the check of a text, and what goes to standard error, by a program that replaces macros or doesn't."""
+    if not has_macros:
+        return rules.answer(text)
+    _, err, status = answer([b"t.c"], {b"t.c": text})
+    return status, err
 
 
-def check_text(program, folder, text, in_form):
+def check_text(program, folder, text, in_form, has_macros):
     """What is wrong about the check of this text, or nothing."""
     with open(os.path.join(folder, "t.c"), "wb") as file:
         file.write(text)
     status, out, err = run(program, ["t.c"], folder)
     if in_form and status not in (0, 1):
         return "a unit of the first form is refused"
-    if (status, err) != rules.answer(text):
-        return f"status {status}, {err!r} in place of {rules.answer(text)!r}"
+    if (status, err) != wanted(text, has_macros):
+        return f"status {status}, {err!r} in place of {wanted(text, has_macros)!r}"
     return "something on standard output" if out else None
 
 
@@ -153,6 +162,23 @@ def check_expansion(compiler, folder, chance):
     return None if found in compilers.ALIKE else found, text
 
 
+def check_first_form(program, folder, chance, count, has_macros):
+    """Compares so many checks of files in and near the first form, and of random words; true where all are alike."""
+    makers = [(unit, True), (rewritten, True), (renamed, False), (spoiled, False), (soup, False), (noise, False)]
+    for number in range(count):
+        maker, in_form = makers[number % len(makers)]
+        text = maker(chance)
+        wrong = check_text(program, folder, text, in_form, has_macros)
+        if wrong:
+            print(f"fuzz: file {number}: {wrong}: {text!r}")
+            return False
+        words, wrong = (None, None) if has_macros else check_words(program, folder, chance)
+        if wrong:
+            print(f"fuzz: words {words!r}: {wrong}")
+            return False
+    return True
+
+
 def check_expansions(folder, chance, count):
     """Compares so many expansions with those of the compilers that are installed; true where all are alike."""
     for compiler in filter(shutil.which, COMPILERS):
@@ -165,26 +191,21 @@ def check_expansions(folder, chance, count):
 
 
 def main():
-    program = os.path.abspath(sys.argv[1])
-    count = int(sys.argv[2]) if len(sys.argv) > 2 else 2000
-    seed = int(sys.argv[3]) if len(sys.argv) > 3 else random.randrange(1 << 32)
+    program, workbench = map(os.path.abspath, sys.argv[1:3])
+    count = int(sys.argv[3]) if len(sys.argv) > 3 else 2000
+    seed = int(sys.argv[4]) if len(sys.argv) > 4 else random.randrange(1 << 32)
     chance = random.Random(seed)
     print(f"fuzz: {count} files, seed {seed}")
-    makers = [(unit, True), (rewritten, True), (renamed, False), (spoiled, False), (soup, False), (noise, False)]
     with tempfile.TemporaryDirectory() as folder:
-        for number in range(count):
-            maker, in_form = makers[number % len(makers)]
-            text = maker(chance)
-            wrong = check_text(program, folder, text, in_form)
-            if wrong:
-                print(f"fuzz: file {number}: {wrong}: {text!r}")
-                return 1
-            words, wrong = check_words(program, folder, chance)
-            if wrong:
-                print(f"fuzz: words {words!r}: {wrong}")
-                return 1
-        if not check_expansions(folder, chance, count // 4):
-            return 1
+        has_macros = preprocesses(program, folder)
+        passed = (
+            check_first_form(program, folder, chance, count, has_macros)
+            and (not has_macros or check_commands(program, folder, chance, count))
+            and check_tools(workbench, folder, chance, count)
+            and check_expansions(folder, chance, count // 4)
+        )
+    if not passed:
+        return 1
     print("fuzz: ok")
     return 0
 

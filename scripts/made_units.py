@@ -25,11 +25,13 @@ ODD_WORDS = ["-E", "-", "--help", "t.c", "no.c", "eval", "gen", "", "-DF(x)=x", 
 
 
 class Maker:
-    """Makes texts by chance. What only some compilers read alike is left out where `plain` asks for it."""
+    """Makes texts by chance. What only some compilers read alike is left out where `plain` asks for it, and headers are where
+    `has_headers` says that there are none."""
 
-    def __init__(self, chance, plain=False):
+    def __init__(self, chance, plain=False, has_headers=True):
         self.chance = chance
         self.plain = plain
+        self.has_headers = has_headers
         self.blanks = BLANKS[:4] if plain else BLANKS
         self.tokens = PLAIN if plain else PLAIN + ODD
         # How many arguments a macro takes, by its name
@@ -149,7 +151,7 @@ class Maker:
             return f"#undef {name}\n{definition}" if self.often(70) else definition
         if kind < 33:
             return f"#undef {self.chance.choice(NAMES)}"
-        if kind < 45:
+        if kind < 45 and self.has_headers:
             return self.include()
         if kind < 49:
             return self.chance.choice(UNREAD_LINES)

@@ -3,7 +3,7 @@
 
 usage: preprocessing_rows.py [ARCHIVE ..]
 
-The commands of archives are `ksparse`, as it is once it preprocesses, and those of `workbench` that are known here. Where a
+The commands of archives are `ksparse`, as it is once it preprocesses, and those of `workbench`. Where a
 compiler is installed, what `-E` writes in the archives whose names begin with `kernel_` is compared with its tokens too.
 Prints each row in which the two differ, and exits 1 where there is one.
 """
@@ -14,7 +14,8 @@ import tempfile
 
 import archives
 import compilers
-from reference import conditions, macros
+import workbench_answers
+from reference import macros
 from reference.commands import answer
 from reference.preprocessing import Unit
 from reference.scanning import scan
@@ -54,29 +55,13 @@ def left_of_budget(definitions, text, budget):
     return b" ".join(token.spelled for token in put), end
 
 
-def if_value(line):
-    """What is shown of a line that is taken as what stands behind an `#if`."""
-    try:
-        value = conditions.value(list(scan(1, line)))
-    except conditions.BadExpression as bad:
-        return b"bad expression at %d\n" % bad.args[0]
-    except conditions.ZeroDivisor as bad:
-        return b"zero divisor at %d\n" % bad.args[0]
-    return b"%d%b\n" % (value.number, b"u" * value.unsigned)
-
-
 def ran(case):
     """What the command of a case leaves by the rules, or None for a program that isn't known here."""
     if case.program == "ksparse":
         out, err, status = answer(case.words, case.files)
         return {"out": out, "err": err, "status": b"%d\n" % status}
-    if case.program == "workbench" and case.words[:1] == [b"if_value"]:
-        lines = case.files[case.words[1]].split(b"\n")[:-1]
-        return {"out": b"".join(map(if_value, lines)), "err": b"", "status": b"0\n"}
-    if case.program == "workbench" and case.words[:1] == [b"preprocess"]:
-        out, err, _ = answer([b"-E", *case.words[1:]], case.files)
-        return {"out": out + err.removeprefix(b"ksparse: "), "err": b"", "status": b"0\n"}
-    return None
+    made = workbench_answers.answer(case.words, case.files) if case.program == "workbench" else None
+    return None if made is None else {"out": made, "err": b"", "status": b"0\n"}
 
 
 def is_compiled_alike(case):
@@ -95,7 +80,7 @@ def differences(path):
         cases = archives.read(file.read())
     is_of_kernel = os.path.basename(path).startswith("kernel_")
     for case in cases:
-        if is_of_kernel and shutil.which("gcc") and not is_compiled_alike(case):
+        if is_of_kernel and case.program == "ksparse" and shutil.which("gcc") and not is_compiled_alike(case):
             yield f"{path}:{case.line}: the compiler has other tokens"
         left = ran(case)
         for stream in archives.STREAMS if left else ():

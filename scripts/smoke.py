@@ -77,6 +77,16 @@ FILES = {
     "string.c": "extern int x; \"x\nextern int y;\n",
     "character.c": "'x",
     "large.c": "extern int a; void f(void) { " + "a = a; " * 400000 + "}",
+    "k.c": '#include "k.h"\nextern int *p;\nvoid f(void) { SET(p, u); }\n',
+    "include/k.h": "#define __user __attribute__((noderef, address_space(__user)))\n"
+    "extern int __user *u;\n#define SET(a, b) a = b\n",
+    "x.c": "X\n",
+    "ifdef.c": "#ifdef X\nint X;\n#endif\n",
+    "if.c": "#if FOO\n#endif\n",
+    "lines.c": "#define f(a) a\nx f(1\n) y\n z\n",
+    "self.c": '#include "self.c"\n',
+    "no_header.c": '#include "no.h"\n',
+    "folder_as_header.c": "#include <folder>\n",
 }
 
 # Names of other files, and what each leads to.
@@ -142,6 +152,64 @@ USES = [
     (["/dev/zero"], "ksparse: limit: file size\n", 7),
 ]
 
+K_WARNINGS = WARNINGS.format("k.c").replace("3:18", "3:16")
+K_TEXT = (
+    "extern int __attribute__ ( ( noderef , address_space ( __user ) ) ) * u ;\n"
+    "extern int * p ;\n"
+    "void f ( void ) { p = u ; }\n"
+)
+
+# Commands as a user types them, with what they write and their status, for a program that preprocesses.
+TYPED = [
+    ("ksparse -Iinclude k.c", "", K_WARNINGS, 1),
+    ("ksparse k.c -I include", "", "ksparse: bad word: -I\n", 3),
+    ("ksparse -E -Iinclude k.c", K_TEXT, "", 0),
+    ("ksparse k.c -E -Iinclude/", K_TEXT, "", 0),
+    ('ksparse -E -I"$PWD/include" k.c', K_TEXT, "", 0),
+    ("ksparse -E k.c", "", "k.c:1:10: error[2]: include not found: k.h\n", 2),
+    ("ksparse -E lines.c", "x 1\ny\nz\n", "", 0),
+    ("ksparse -E empty.c", "", "", 0),
+    ("ksparse -E longest.c", "", "", 0),
+    ("ksparse -E -DX=a ifdef.c", "int a ;\n", "", 0),
+    ("ksparse -E -DX -UX ifdef.c", "", "", 0),
+    ("ksparse -E '-DX=(a) b' x.c", "( a ) b\n", "", 0),
+    ("ksparse -E -DX='\"a  b\"' x.c", '"a  b"\n', "", 0),
+    ("ksparse -E -DX= x.c", "", "", 0),
+    ("ksparse -E -DX -DX=2 x.c", "", "<command>:2:1: error[10]: macro 'X' redefined\n", 2),
+    ("ksparse -E -DX -DY=\\' x.c", "", "<command>:2:11: error[4]: unterminated literal\n", 2),
+    ("ksparse -E -Ddefined x.c", "", "<command>:1:1: error[11]: bad macro definition\n", 2),
+    ("ksparse -E missing.c", "", "ksparse: error[1]: no such file: missing.c\n", 2),
+    ("ksparse no_header.c", "", "no_header.c:1:10: error[2]: include not found: no.h\n", 2),
+    ("ksparse self.c", "", "ksparse: limit: include depth\n", 7),
+    ("ksparse '-DX=extern int x;' x.c", "", "", 0),
+    ("ksparse '-DX=extern int x;' -UX x.c", "", "x.c:1:1: error[29]: form not built\n", 2),
+    ("ksparse if.c", "", "", 0),
+    ("ksparse -Wundef if.c", "", "if.c:1:5: warning: undefined preprocessor identifier 'FOO'\n", 1),
+    ("ksparse -Wundef -Wno-undef if.c", "", "", 0),
+    ("ksparse -E -Wundef if.c", "", "", 0),
+    ("ksparse -Wno-address-space t.c", "", "", 0),
+    ("ksparse -Wno-address-space -Waddress-space t.c", "", WARNINGS.format("t.c"), 1),
+    ("ksparse -Wall t.c", "", "ksparse: bad word: -Wall\n", 3),
+    ("ksparse -EE t.c", "", "ksparse: bad word: -EE\n", 3),
+    ("ksparse -D 1 t.c", "", "ksparse: bad word: -D\n", 3),
+    ("ksparse -Df(x)=x t.c".replace("(x)", r"\(x\)"), "", "ksparse: bad word: -Df(x)=x\n", 3),
+    ("ksparse $'-DX=a\\nb' t.c", "", "ksparse: bad word: -DX=a\nb\n", 3),
+    ("ksparse -E", "", "ksparse: missing file\n", 3),
+    ("ksparse - <t.c", "", "ksparse: bad word: -\n", 3),
+    ("ksparse -DX eval", "", WARNINGS.format("eval"), 1),
+    # What is there as a header and can't be read.
+    ("ksparse -E -I. folder_as_header.c", "", "", 4),
+    ("ksparse -Iinclude/k.h k.c", "", "", 4),
+    ("ksparse -E folder", "", "", 4),
+    # The text goes to standard output alone.
+    ("ksparse -E -Iinclude k.c 2>/dev/full", K_TEXT, "", 0),
+    ("ksparse -E -Iinclude k.c 2>&-", K_TEXT, "", 0),
+    ("ksparse -E -Iinclude k.c >/dev/full", "", "", 5),
+    ("ksparse -E -Iinclude k.c >&-", "", "", 5),
+    ("ksparse -E empty.c >/dev/full", "", "", 0),
+    ("ksparse -E missing.c >/dev/full", "", "ksparse: error[1]: no such file: missing.c\n", 2),
+]
+
 # Where a stream goes when it takes nothing: the write fails, and nothing else is said.
 TAKES_NOTHING = [">/dev/full", ">&-", "</dev/null"]
 
@@ -194,6 +262,22 @@ def failures_of_uses(program):
     return failures
 
 
+# Whether `-E` is a word of the program yet.
+def preprocesses(program):
+    return subprocess.run([program, "-E", "empty.c"], capture_output=True, timeout=60, check=False).returncode == 0
+
+
+def failures_of_typed_commands(program):
+    failures = 0
+    path = f"{os.path.dirname(program)}:{os.environ['PATH']}"
+    for script, out, err, status in TYPED:
+        command = ["bash", "-c", script]
+        ran = subprocess.run(command, env={**os.environ, "PATH": path}, capture_output=True, timeout=60, check=False)
+        failures += differs(script, (out.encode(), err.encode(), status), (ran.stdout, ran.stderr, ran.returncode))
+    ran = into_closed_pipe(program, "stdout", ["-E", "t.c"], stderr=subprocess.PIPE)
+    return failures + differs("ksparse -E t.c >closed pipe", (b"", 5), (ran.stderr, ran.returncode))
+
+
 # With ample memory no unit is too wide.
 def failures_of_wide_units(program):
     failures = 0
@@ -216,7 +300,7 @@ def failures_of_unused_output(program):
         ran = subprocess.run(["bash", "-c", script, program], stderr=subprocess.PIPE, timeout=60, check=False)
         got = (ran.stderr, ran.returncode)
         failures += differs(f"ksparse t.c 1{sink}", (WARNINGS.format("t.c").encode(), 1), got)
-    ran = into_closed_pipe(program, "stdout", stderr=subprocess.PIPE)
+    ran = into_closed_pipe(program, "stdout", ["t.c"], stderr=subprocess.PIPE)
     got = (ran.stderr, ran.returncode)
     return failures + differs("ksparse t.c 1>closed pipe", (WARNINGS.format("t.c").encode(), 1), got)
 
@@ -228,15 +312,15 @@ def failures_of_sinks(program):
             script = f'"$0" {word} 2{sink}'
             ran = subprocess.run(["bash", "-c", script, program], stdout=subprocess.PIPE, timeout=60, check=False)
             failures += differs(f"ksparse {word} 2{sink}", (b"", status), (ran.stdout, ran.returncode))
-    ran = into_closed_pipe(program, "stderr", stdout=subprocess.PIPE)
+    ran = into_closed_pipe(program, "stderr", ["t.c"], stdout=subprocess.PIPE)
     return failures + differs("ksparse t.c 2>closed pipe", (b"", 5), (ran.stdout, ran.returncode))
 
 
 # Runs the program with this stream on a pipe that nobody reads.
-def into_closed_pipe(program, stream, **others):
+def into_closed_pipe(program, stream, words, **others):
     reading, writing = os.pipe()
     os.close(reading)
-    ran = subprocess.run([program, "t.c"], **{stream: writing}, **others, timeout=60, check=False)
+    ran = subprocess.run([program, *words], **{stream: writing}, **others, timeout=60, check=False)
     os.close(writing)
     return ran
 
@@ -311,13 +395,16 @@ def failures_of_memory(program):
 def failures_of_permission(program):
     failures = 0
     user = OTHER_USER if os.geteuid() == 0 else None
-    for denied, word in [("clean.c", "clean.c"), ("folder", "folder/t.c"), ("folder", "folder/missing.c")]:
+    denials = [("clean.c", ["clean.c"]), ("folder", ["folder/t.c"]), ("folder", ["folder/missing.c"])]
+    if preprocesses(program):
+        denials += [("include/k.h", ["-Iinclude", "k.c"]), ("include", ["-E", "-Iinclude", "k.c"])]
+    for denied, words in denials:
         mode = os.stat(denied).st_mode
         os.chmod(denied, 0)
-        ran = subprocess.run([program, word], user=user, capture_output=True, timeout=60, check=False)
+        ran = subprocess.run([program, *words], user=user, capture_output=True, timeout=60, check=False)
         os.chmod(denied, mode)
         got = (ran.stdout, ran.stderr, ran.returncode)
-        failures += differs(f"ksparse {word} without permission", (b"", b"", 4), got)
+        failures += differs(f"ksparse {' '.join(words)} without permission", (b"", b"", 4), got)
     return failures
 
 
@@ -328,6 +415,7 @@ def main():
         program = shutil.copy(sys.argv[1], os.path.join(folder, "ksparse"))
         os.chdir(folder)
         os.mkdir("folder")
+        os.mkdir("include")
         for name, target in LINKS.items():
             os.symlink(target, name)
         for name, text in FILES.items():
@@ -337,6 +425,8 @@ def main():
         failures += failures_of_sinks(program) + failures_of_unused_output(program)
         failures += failures_of_fronts(program) + failures_of_closed_streams(program)
         failures += failures_of_memory(program) + failures_of_permission(program)
+        if preprocesses(program):
+            failures += failures_of_typed_commands(program)
         os.chdir("/")
     print(f"smoke: {failures} differences")
     return 1 if failures else 0

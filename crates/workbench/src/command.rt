@@ -4,7 +4,7 @@ ghost use Rattle.meaning_outside.specs.Faults.{Told};
 ghost use Rattle.workbench.specs.Asked.{MayRun};
 
 use crate::tool::Tool;
-use crate::units::preprocessed;
+use crate::units::{View, preprocessed};
 use sparse_outside::{Files, Load, Words, load_leaves_buffer};
 use std::alloc::{AllocError, Global};
 use thiserror::Error;
@@ -15,7 +15,7 @@ const MOST_BYTES: usize = 67_108_864;
 /// Why there is no text.
 #[derive(Clone, Copy, Debug, Error)]
 pub enum Stop {
-    #[error("usage: workbench TOOL FILE, where TOOL is if_value, scopes or preprocess, or workbench expand FILE [replacements=N] [tokens=N] [counter=N] [spelled=TEXT] [places]")]
+    #[error("usage: workbench TOOL FILE, where TOOL is if_value, scopes, preprocess or left_names, or workbench expand FILE [replacements=N] [tokens=N] [counter=N] [spelled=TEXT] [places]")]
     Usage,
     #[error("no such file, or more than 67108864 bytes")]
     NoFile,
@@ -49,8 +49,13 @@ pub fn workbench<F: Files>(alloc: Global, words: &Words, files: &mut F) -> Resul
     let (Some(name), Some(path)) = (words.get(0), words.get(1)) else {
         return Err(Stop::Usage);
     };
-    if name == b"preprocess".as_slice() && words.len() == 2 {
-        return preprocessed(alloc, path, files);
+    if words.len() == 2 {
+        if name == b"preprocess".as_slice() {
+            return preprocessed(alloc, View::Text, path, files);
+        }
+        if name == b"left_names".as_slice() {
+            return preprocessed(alloc, View::LeftNames, path, files);
+        }
     }
     let Some(tool) = Tool::read(words) else {
         return Err(Stop::Usage);

@@ -1,8 +1,9 @@
-// A file to its preprocessed unit, shown as the text that its tokens spell, or to the line of the error or the limit at
-// which it ends.
+// A file to its preprocessed unit, shown as the text that its tokens spell or by the names that its `#if` lines leave, or to
+// the line of the error or the limit at which it ends.
 ghost use Rattle.std.specs.Prelude.{◌≡◌, All, IsErrOf};
 ghost use Rattle.meaning_outside.specs.Faults.{Told};
 ghost use Rattle.c_tokens.specs.Seen.{IsKnown};
+ghost use Rattle.c_preproc.specs.Units.{IsKnownUnit};
 
 use crate::command::Stop;
 use c_preproc::{PreFault, UnitTokens, preprocess};
@@ -11,12 +12,22 @@ use sparse_model::{Bytes, ClassSet, ErrorKind, Options, PathList, Place};
 use sparse_outside::Files;
 use std::alloc::{AllocError, Global};
 
+/// What is shown of a unit.
+#[derive(Clone, Copy)]
+pub(crate) enum View {
+    /// The text that its tokens spell.
+    Text,
+    /// The failures of its `#if` lines, each with the name that was left.
+    LeftNames,
+}
+
 /// What becomes of the file at a path, without directories or definitions from words.
 ///
 /// # Errors
 /// `ReadFault` exactly where the count of faults rose; `NoMemory`.
 pub(crate) fn preprocessed<F: Files>(
     alloc: Global,
+    view: View,
     path: &[u8],
     files: &mut F,
 ) -> Result<Vec<u8>, Stop>
@@ -30,7 +41,7 @@ pub(crate) fn preprocessed<F: Files>(
     };
     let mut names = Names::new(alloc)?;
     match preprocess(alloc, &options, files, &mut names, path) {
-        Ok(unit) => Ok(unit_text(alloc, &names, &unit)?),
+        Ok(unit) => Ok(view.shown(alloc, &names, &unit)?),
         Err(PreFault::Error(kind, place, word, path)) => {
             let path = names.spelling(path);
             let word = names.spelling(word);
@@ -40,6 +51,40 @@ pub(crate) fn preprocessed<F: Files>(
         Err(PreFault::ReadFault) => Err(Stop::ReadFault),
         Err(PreFault::Memory) => Err(Stop::NoMemory),
     }
+}
+
+impl View {
+    fn shown(self, alloc: Global, names: &Names, unit: &UnitTokens) -> Result<Vec<u8>, AllocError>
+        requires { IsKnownUnit names.now unit.now }
+    {
+        match self {
+            View::Text => unit_text(alloc, names, unit),
+            View::LeftNames => left_names(alloc, names, unit),
+        }
+    }
+}
+
+// A line for each failure: the number of its token among the names that were left, then that name's place, and the name.
+fn left_names(alloc: Global, names: &Names, unit: &UnitTokens) -> Result<Vec<u8>, AllocError>
+    requires { IsKnownUnit names.now unit.now }
+{
+    let tokens = unit.undef_tokens.as_slice();
+    let mut text = Vec::new(alloc);
+    for failure in unit.undefs.as_slice() {
+        let number = failure.token;
+        let Some(token) = tokens.get(number as usize) else {
+            continue;
+        };
+        let Place { file, line, column } = token.place;
+        text.extend_from_slice(format!(in alloc; "{number} ")?.as_bytes())?;
+        if let Some(&path) = unit.files.as_slice().get(file as usize) {
+            text.extend_from_slice(names.spelling(path))?;
+        }
+        text.extend_from_slice(format!(in alloc; ":{line}:{column}: ")?.as_bytes())?;
+        text.extend_from_slice(names.spelling(token.name))?;
+        text.push(b'\n')?;
+    }
+    Ok(text)
 }
 
 // The tokens, each in a line of its own where its file or line is another one than that of the token before, else behind

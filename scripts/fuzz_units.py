@@ -1,0 +1,125 @@
+"""Random units, macros and commands through programs, compared with `reference`, for scripts/fuzz.py."""
+import os
+import shutil
+import subprocess
+
+import workbench_answers
+from made_units import Maker
+from reference.commands import answer
+from shrinking import shrunk
+
+
+def run(program, words, folder):
+    done = subprocess.run([program, *words], cwd=folder, capture_output=True, timeout=10)
+    return done.returncode, done.stdout, done.stderr
+
+
+def write(folder, path, text):
+    path = os.path.join(folder, path.decode())
+    os.makedirs(os.path.dirname(path), exist_ok=True)
+    with open(path, "wb") as file:
+        file.write(text)
+
+
+def tool_differs(workbench, folder, words):
+    """A test of a text: whether this command of the workbench answers otherwise for a file of it."""
+    path = words[1]
+
+    def differs(text):
+        write(folder, path, text)
+        status, out, _ = run(workbench, words, folder)
+        return status != 0 or out != workbench_answers.answer(words, {path: text})
+
+    return differs
+
+
+def unit_command(chance):
+    """A unit, and the words of a tool that shows it."""
+    return Maker(chance, has_headers=False).file(), [chance.choice([b"preprocess", b"preprocess", b"left_names"]), b"u.c"]
+
+
+def expansion_command(chance):
+    """Definitions and a text, and the words of the tool that expands it, often within a small budget."""
+    maker = Maker(chance)
+    words = [b"expand", b"e.txt", b'spelled="e.txt"']
+    words += [b"%b=%d" % (name, chance.randrange(30)) for name in (b"replacements", b"tokens", b"counter") if maker.often(30)]
+    words += [b"places"] * maker.often(50)
+    return f"{maker.table()}{maker.text()}\n{maker.text()}\n", words
+
+
+def check_tools(workbench, folder, chance, count):
+    """Compares so many answers of each tool; true where all are alike."""
+    for number in range(count):
+        for command in (unit_command, expansion_command):
+            text, words = command(chance)
+            differs = tool_differs(workbench, folder, words)
+            if differs(text.encode()):
+                small = shrunk(text.encode(), differs)
+                differs(small)
+                print(f"fuzz: workbench {b' '.join(words).decode()}, text {number}, made smaller: {small!r}")
+                print(f"fuzz: it prints {run(workbench, words, folder)[1:]!r}")
+                print(f"fuzz: in place of {workbench_answers.answer(words, {words[1]: small})!r}")
+                return False
+    return True
+
+
+class Folder:
+    """The files of a folder, by their paths from it."""
+
+    def __init__(self, folder):
+        self.folder = folder
+
+    def get(self, path):
+        folder = os.open(self.folder, os.O_RDONLY)
+        try:
+            with open(path, "rb", opener=lambda name, flags: os.open(name, flags, dir_fd=folder)) as file:
+                return file.read()
+        except FileNotFoundError:
+            return None
+        finally:
+            os.close(folder)
+
+
+def wanted(words, folder):
+    """What a command has to write in a folder, and its status: one of its own where a file is there and can't be read."""
+    try:
+        return answer(words, Folder(folder))
+    except OSError:
+        return b"", b"", 4
+
+
+def preprocesses(program, folder):
+    """Whether `-E` is a word of the program."""
+    write(folder, b"t.c", b"")
+    return run(program, [b"-E", b"t.c"], folder)[0] == 0
+
+
+def command_differs(program, folder, words):
+    """A test of a text: whether this command answers otherwise where the text is that of `t.c`."""
+
+    def differs(text):
+        write(folder, b"t.c", text)
+        status, out, err = run(program, words, folder)
+        return (out, err, status) != wanted(words, folder)
+
+    return differs
+
+
+def check_commands(program, folder, chance, count):
+    """Compares so many answers to random words and files; true where all are alike."""
+    for number in range(count):
+        maker = Maker(chance)
+        files, words = maker.files(), maker.words()
+        room = os.path.join(folder, "files")
+        for path, text in files.items():
+            write(room, path, text)
+        differs = command_differs(program, room, words)
+        if differs(files[b"t.c"]):
+            small = shrunk(files[b"t.c"], differs)
+            differs(small)
+            print(f"fuzz: command {number}: {words!r}, files {files | {b't.c': small}!r}")
+            print(f"fuzz: it answers {run(program, words, room)!r}")
+            print(f"fuzz: in place of {wanted(words, room)!r}")
+            return False
+        shutil.rmtree(room)
+    return True

@@ -56,8 +56,9 @@ docs:
 costs: | kit
 	$(PYTHON) scripts/costs.py $(RT)
 
+# All, or the calls of some families: make bench FAMILIES=macros
 bench: $(PROGRAM) $(WORKBENCH)
-	$(PYTHON) scripts/bench.py $(PROGRAM) $(WORKBENCH)
+	$(PYTHON) scripts/bench.py $(PROGRAM) $(WORKBENCH) $(FAMILIES)
 
 fuzz: $(PROGRAM) $(WORKBENCH)
 	$(PYTHON) scripts/fuzz.py $(PROGRAM) $(WORKBENCH)

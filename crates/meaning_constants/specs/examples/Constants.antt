@@ -69,7 +69,9 @@ pub record OperatorExamples : Type 0 where
   pub wraps :
       constants (Between operators.LeftShift (int 1) (int 31) ∷ Between operators.Addition (int 2147483647) (int 1) ∷ [])
       ≡ replicate 2 (is kinds.Int (negsuc 2147483647))
-  pub sign_copied : constants (Between operators.RightShift (negative (int 1)) (int 1) ∷ []) ≡ is kinds.Int (negsuc 0) ∷ []
+  pub sign_copied :
+      constants (Between operators.RightShift (negative (int 1)) (int 1) ∷ Between operators.RightShift (negative (long 5)) (int 1) ∷ [])
+      ≡ is kinds.Int (negsuc 0) ∷ is kinds.Long (negsuc 2) ∷ []
   pub least_int :
       map (λ operator. constant_of (Between operator (Between operators.Subtraction (negative (int 2147483647)) (int 1)) (negative (int 1))))
       (operators.Division ∷ operators.Remainder ∷ [])

@@ -22,8 +22,8 @@ pub record EnumeratorExamples : Type 0 where
   -- no type holds the next one
   pub last : behind (constant kinds.ULong (pos 18446744073709551615) ∷ []) ≡ None ∷ []
   pub written :
-      map enumerator_of (constant kinds.ULong (pos 3) ∷ constant kinds.Long (pos 3000000000) ∷ [])
-      ≡ constant kinds.Int (pos 3) ∷ constant kinds.Long (pos 3000000000) ∷ []
+      map enumerator_of (constant kinds.ULong (pos 3) ∷ constant kinds.Long (negsuc 299) ∷ constant kinds.Long (pos 3000000000) ∷ [])
+      ≡ constant kinds.Int (pos 3) ∷ constant kinds.Int (negsuc 299) ∷ constant kinds.Long (pos 3000000000) ∷ []
   pub restricted : restricted_enumerator_of (constant kinds.UInt (pos 2)) ≡ constant kinds.UInt (pos 2)
   -- `~` of a restricted unsigned short is fouled, and an enumerator isn't
   pub fouled : restricted_enumerator_of (constant kinds.UShort (negsuc 1)) ≡ constant kinds.UShort (pos 65534)

@@ -1,12 +1,11 @@
 -- Each action that goes on leaves values of the sorts that its effect says.
 use Rattle.std.proofs.Common.{◌≡◌, ℕ, zero, suc, ◌+◌, Bool, true, false, List, [], ◌∷◌, ◌++◌, drop, length, slice_get, Option, Some, None, refl, sym, ap, subst, ◌∙◌, arith, if◌then◌else◌, nat_lt}
-use Rattle.std.specs.Option.{option_and_then}
 use Rattle.std.proofs.lemmas.List.{map-append}
 use Rattle.std.proofs.lemmas.Option.{same_Some, slice_get_within}
 use Rattle.vocabulary.specs.declared.limit.LimitKind.TheVariants.{Parameters}
 use Rattle.vocabulary.specs.declared.scope.NameSpace.TheVariants.{Ordinary, Tags}
 use Rattle.vocabulary.specs.declared.scope.Bound.{Bound}
-use Rattle.vocabulary.specs.declared.scope.Bound.TheVariants.{Unlinked}
+use Rattle.vocabulary.specs.declared.scope.Bound.TheVariants.{Enumerator, Unlinked}
 use Rattle.vocabulary.specs.declared.action.Action.{Action}
 use Rattle.vocabulary.specs.declared.action.Action.TheVariants.{Append, AppendAttribute, AppendDeclarator, AppendLeadingAttributes, AwaitBody, BeginAtNext, BeginDeclarators, BeginList, BindDeclarator, BindEnumerator, BindFurtherDeclarator, BindParameter, CloseParameters, CloseScope, CountParameter, DeclareTag, DefineTag, JoinAnyParts, JoinParts, JoinSuffixes, MakeForPart, MakeOptionalDeclarator, MakeParenthesizedAttributes, NoteFunctionDeclarator, OpenBody, OpenScope, RequireType, RequireTypeOrAttributes, UseName, UseTag, UseTypedefName, WithoutTag}
 use Rattle.vocabulary.specs.declared.production_item.ProductionItem.{ProductionItem}
@@ -18,8 +17,8 @@ use Rattle.meaning_grammar.specs.Sorts.{Sort, AWord, ATree, AList, is_same_sort,
 use Rattle.meaning_derivation.specs.Values.{Value, WordValue, TreeValue, ListValue, sort_of, sorts_of, value_at, text_of, parts_of, name_of}
 use Rattle.meaning_derivation.specs.State.{State, Fault, ActionOutcome, Goes, Refuses, made_as, most_nodes, with_limit}
 use Rattle.meaning_derivation.specs.Lists.{has_spelling, name_or, unnamed_declarator, attributes_list, leading_attributes, part_of_for, part_count, most_parameters}
-use Rattle.meaning_derivation.specs.Scoping.{declared, bound, last_handle, parameter_bound, tag_at, found_name, found_here, parts_below, ends_with_parameters, name_used, typedef_named}
-use Rattle.meaning_derivation.specs.Actions.{act, below}
+use Rattle.meaning_derivation.specs.Scoping.{declared, bound, bound_as, last_handle, parameter_bound, tag_at, found_name, found_here, parts_below, ends_with_parameters, name_used, typedef_named}
+use Rattle.meaning_derivation.specs.Actions.{below}
 use Rattle.meaning_derivation.specs.laws.Sorts.{ActionsAreSorted, ActionsLeadOn}
 
 -- Stacks of sorts
@@ -229,31 +228,31 @@ typedef-sorted s next (Some declaration) word after is = made-sorted UseTypedefN
 -- Each action
 
 pub actions_are_sorted : ActionsAreSorted
-actions_are_sorted BeginList s next sorts is = replaced BeginList 0 (_ ∷ []) s next sorts (reached _ next is) (λ rest. refl)
-actions_are_sorted BeginAtNext s next sorts is = replaced BeginAtNext 0 (_ ∷ _ ∷ []) s next sorts (reached _ next is) (λ rest. refl)
-actions_are_sorted (Append role) s next sorts is = replaced (Append role) 2 (_ ∷ []) s next sorts (reached _ next is) (λ rest. refl)
-actions_are_sorted BeginDeclarators s next sorts is = replaced BeginDeclarators 2 (_ ∷ []) s next sorts (reached _ next is) (λ rest. refl)
-actions_are_sorted AppendDeclarator s next sorts is = replaced AppendDeclarator 3 (_ ∷ []) s next sorts (reached _ next is) (λ rest. refl)
+actions_are_sorted BeginList s next sorts is finds = replaced BeginList 0 (_ ∷ []) s next sorts (reached _ next is) (λ rest. refl) finds
+actions_are_sorted BeginAtNext s next sorts is finds = replaced BeginAtNext 0 (_ ∷ _ ∷ []) s next sorts (reached _ next is) (λ rest. refl) finds
+actions_are_sorted (Append role) s next sorts is finds = replaced (Append role) 2 (_ ∷ []) s next sorts (reached _ next is) (λ rest. refl) finds
+actions_are_sorted BeginDeclarators s next sorts is finds = replaced BeginDeclarators 2 (_ ∷ []) s next sorts (reached _ next is) (λ rest. refl) finds
+actions_are_sorted AppendDeclarator s next sorts is finds = replaced AppendDeclarator 3 (_ ∷ []) s next sorts (reached _ next is) (λ rest. refl) finds
 actions_are_sorted AppendLeadingAttributes s next sorts is finds =
     leading-sorted s next _ _ sorts (sort_below AppendLeadingAttributes s sorts 1 AList (λ rest. refl) finds) is finds
-actions_are_sorted BindDeclarator s next sorts is = kept-sorted BindDeclarator s next sorts (declared-values s next _ _ is) (λ rest. refl)
-actions_are_sorted BindFurtherDeclarator s next sorts is =
-    kept-sorted BindFurtherDeclarator s next sorts (declared-values s next _ _ is) (λ rest. refl)
-actions_are_sorted NoteFunctionDeclarator s next sorts is =
+actions_are_sorted BindDeclarator s next sorts is finds = kept-sorted BindDeclarator s next sorts (declared-values s next (below s 0) (bound_as s (below s 1) (below s 0)) is) (λ rest. refl) finds
+actions_are_sorted BindFurtherDeclarator s next sorts is finds =
+    kept-sorted BindFurtherDeclarator s next sorts (declared-values s next (below s 0) (bound_as s (below s 2) (below s 0)) is) (λ rest. refl) finds
+actions_are_sorted NoteFunctionDeclarator s next sorts is finds =
     kept-sorted NoteFunctionDeclarator s next sorts
-    (reached _ next is ∙ noted-values (ends_with_parameters (parts_below (below s 1))) s (record s { function_end = Some s.taken }) refl) (λ rest. refl)
-actions_are_sorted AwaitBody s next sorts is = kept-sorted AwaitBody s next sorts (reached _ next is) (λ rest. refl)
-actions_are_sorted RequireType s next sorts is = kept-sorted RequireType s next sorts (reached _ next is) (λ rest. refl)
-actions_are_sorted RequireTypeOrAttributes s next sorts is =
-    kept-sorted RequireTypeOrAttributes s next sorts (reached _ next is) (λ rest. refl)
-actions_are_sorted DeclareTag s next sorts is = kept-sorted DeclareTag s next sorts (reached _ next is) (λ rest. refl)
-actions_are_sorted UseTypedefName s next sorts is =
-    typedef-sorted s next (found_name s Ordinary (text_of (below s 0))) (below s 0) sorts is
-actions_are_sorted DefineTag s next sorts is =
-    tag-sorted DefineTag s next (found_here (found_name s Tags (text_of (below s 0)))) _ _ sorts is (λ rest. refl)
-actions_are_sorted UseTag s next sorts is = tag-sorted UseTag s next (found_name s Tags (text_of (below s 0))) _ _ sorts is (λ rest. refl)
-actions_are_sorted WithoutTag s next sorts is = replaced WithoutTag 0 (_ ∷ _ ∷ []) s next sorts (reached _ next is) (λ rest. refl)
-actions_are_sorted BindEnumerator s next sorts is = kept-sorted BindEnumerator s next sorts (declared-values s next _ _ is) (λ rest. refl)
+    (reached _ next is ∙ noted-values (ends_with_parameters (parts_below (below s 1))) s (record s { function_end = Some s.taken }) refl) (λ rest. refl) finds
+actions_are_sorted AwaitBody s next sorts is finds = kept-sorted AwaitBody s next sorts (reached _ next is) (λ rest. refl) finds
+actions_are_sorted RequireType s next sorts is finds = kept-sorted RequireType s next sorts (reached _ next is) (λ rest. refl) finds
+actions_are_sorted RequireTypeOrAttributes s next sorts is finds =
+    kept-sorted RequireTypeOrAttributes s next sorts (reached _ next is) (λ rest. refl) finds
+actions_are_sorted DeclareTag s next sorts is finds = kept-sorted DeclareTag s next sorts (reached _ next is) (λ rest. refl) finds
+actions_are_sorted UseTypedefName s next sorts is finds =
+    typedef-sorted s next (found_name s Ordinary (text_of (below s 0))) (below s 0) sorts is finds
+actions_are_sorted DefineTag s next sorts is finds =
+    tag-sorted DefineTag s next (found_here (found_name s Tags (text_of (below s 0)))) _ _ sorts is (λ rest. refl) finds
+actions_are_sorted UseTag s next sorts is finds = tag-sorted UseTag s next (found_name s Tags (text_of (below s 0))) _ _ sorts is (λ rest. refl) finds
+actions_are_sorted WithoutTag s next sorts is finds = replaced WithoutTag 0 (_ ∷ _ ∷ []) s next sorts (reached _ next is) (λ rest. refl) finds
+actions_are_sorted BindEnumerator s next sorts is finds = kept-sorted BindEnumerator s next sorts (declared-values s next (below s 0) Enumerator is) (λ rest. refl) finds
 actions_are_sorted AppendAttribute s next sorts is finds =
     replaced AppendAttribute 2 (below s 1 ∷ []) s next sorts (reached _ next is)
     (λ rest. ap (λ sort. sort ∷ rest) (sort_below AppendAttribute s sorts 1 AList (λ others. refl) finds)) finds
@@ -265,23 +264,23 @@ actions_are_sorted JoinAnyParts s next sorts is finds =
     let place = sort_below JoinAnyParts s sorts 3 AWord (λ others. refl) finds in
     replaced JoinAnyParts 4 (_ ∷ name_or (below s 3) (below s 1) ∷ []) s next sorts (reached _ next is)
     (λ rest. ap (λ sort. AList ∷ sort ∷ rest) (word-sort (has_spelling (below s 1)) (below s 3) (below s 1) place name)) finds
-actions_are_sorted JoinSuffixes s next sorts is = replaced JoinSuffixes 2 (_ ∷ []) s next sorts (reached _ next is) (λ rest. refl)
-actions_are_sorted MakeParenthesizedAttributes s next sorts is = attributes-sorted s next _ (parts_of (below s 0)) sorts is
-actions_are_sorted MakeOptionalDeclarator s next sorts is = optional-sorted (has_spelling (below s 1)) s next _ _ (parts_of (below s 0)) sorts is
-actions_are_sorted CountParameter s next sorts is =
+actions_are_sorted JoinSuffixes s next sorts is finds = replaced JoinSuffixes 2 (_ ∷ []) s next sorts (reached _ next is) (λ rest. refl) finds
+actions_are_sorted MakeParenthesizedAttributes s next sorts is finds = attributes-sorted s next (below s 1) (parts_of (below s 0)) sorts is finds
+actions_are_sorted MakeOptionalDeclarator s next sorts is finds = optional-sorted (has_spelling (below s 1)) s next _ (below s 1) (parts_of (below s 0)) sorts is finds
+actions_are_sorted CountParameter s next sorts is finds =
     kept-sorted CountParameter s next sorts
-    (reached _ next is ∙ limited-values (nat_lt (part_count (parts_of (below s 0))) most_parameters) s (with_limit Parameters s) refl) (λ rest. refl)
-actions_are_sorted BindParameter s next sorts is =
-    kept-sorted BindParameter s next sorts (parameter-values s next (below s 1) (parts_of (below s 0)) is) (λ rest. refl)
-actions_are_sorted CloseParameters s next sorts is = kept-sorted CloseParameters s next sorts (reached _ next is) (λ rest. refl)
-actions_are_sorted OpenScope s next sorts is = kept-sorted OpenScope s next sorts (reached _ next is) (λ rest. refl)
-actions_are_sorted CloseScope s next sorts is = kept-sorted CloseScope s next sorts (reached _ next is) (λ rest. refl)
-actions_are_sorted OpenBody s next sorts is = kept-sorted OpenBody s next sorts (reached _ next is) (λ rest. refl)
-actions_are_sorted MakeForPart s next sorts is = for_part-sorted s next (parts_of (below s 1)) (below s 0) sorts is
-actions_are_sorted UseName s next sorts is = name-sorted s next (found_name s Ordinary (text_of (below s 0))) (below s 0) sorts is
+    (reached _ next is ∙ limited-values (nat_lt (part_count (parts_of (below s 0))) most_parameters) s (with_limit Parameters s) refl) (λ rest. refl) finds
+actions_are_sorted BindParameter s next sorts is finds =
+    kept-sorted BindParameter s next sorts (parameter-values s next (below s 1) (parts_of (below s 0)) is) (λ rest. refl) finds
+actions_are_sorted CloseParameters s next sorts is finds = kept-sorted CloseParameters s next sorts (reached _ next is) (λ rest. refl) finds
+actions_are_sorted OpenScope s next sorts is finds = kept-sorted OpenScope s next sorts (reached _ next is) (λ rest. refl) finds
+actions_are_sorted CloseScope s next sorts is finds = kept-sorted CloseScope s next sorts (reached _ next is) (λ rest. refl) finds
+actions_are_sorted OpenBody s next sorts is finds = kept-sorted OpenBody s next sorts (reached _ next is) (λ rest. refl) finds
+actions_are_sorted MakeForPart s next sorts is finds = for_part-sorted s next (parts_of (below s 1)) (below s 0) sorts is finds
+actions_are_sorted UseName s next sorts is finds = name-sorted s next (found_name s Ordinary (text_of (below s 0))) (below s 0) sorts is finds
 -- each other action puts one tree in the place of all that it takes
-actions_are_sorted action s next sorts is =
-    made-sorted action (length (action_effect action).takes) (TreeValue _) s next sorts is (λ rest. refl)
+actions_are_sorted action s next sorts is finds =
+    made-sorted action (length (action_effect action).takes) (TreeValue _) s next sorts is (λ rest. refl) finds
 
 -- behind no stack there is none
 effects-none : (items : List ProductionItem) → effects items None ≡ None

@@ -1,5 +1,5 @@
 -- Look-ups in a list of nodes that always answer.
-use Rattle.std.specs.Prelude.{◌≡◌, ℕ, ◌-◌, Option, Some, None, slice_get, nat_lt, if◌then◌else◌}
+use Rattle.std.specs.Prelude.{ℕ, ◌-◌, Option, None, slice_get, nat_lt, if◌then◌else◌}
 use Rattle.std.specs.Option.{option_and_then}
 use Rattle.meaning_tree.specs.Nodes.{TreeNode, NodeList}
 

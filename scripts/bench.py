@@ -218,13 +218,13 @@ def parameters(count):
 
 def used_definitions(count):
     """So many macros, with a use of each behind them."""
-    numbers = range(count)
-    return b"".join(b"#define n%d %d\n" % (number, number) for number in numbers) + b"".join(b"n%d\n" % number for number in numbers)
+    names = [b"n%06d" % number for number in range(count)]
+    return b"".join(b"#define %b 1\n" % name for name in names) + b"".join(b"%b\n" % name for name in names)
 
 
 def calls_in_lines(count):
     """So many function-like macros, each used behind its definition."""
-    return b"".join(b"#define f%d(a) a + %d\nf%d(x)\n" % (number, number, number) for number in range(count))
+    return b"".join(b"#define f%06d(a) a + 1\nf%06d(x)\n" % (number, number) for number in range(count))
 
 
 def groups(count):
@@ -318,9 +318,9 @@ CALLS = (
     of_macros("a chain", chain, (1000, 10000, 100000), MOST_CHAIN_RATIO),
     of_macros("two chains", crossing_chains, (1000, 10000, 100000), MOST_CHAIN_RATIO),
     of_macros("parameters", parameters, (10, 100, 1000)),
-    of_directives("definitions with uses", used_definitions, (5000, 10000, 50000, 100000)),
-    of_directives("calls in lines", calls_in_lines, (5000, 10000, 50000, 100000)),
-    of_directives("groups", groups, (5000, 10000, 50000, 100000)),
+    of_directives("definitions with uses", used_definitions, (1000, 5000, 10000, 50000)),
+    of_directives("calls in lines", calls_in_lines, (1000, 5000, 10000, 50000)),
+    of_directives("groups", groups, (1000, 5000, 10000, 50000)),
     of_directives("nested groups", nested_groups, (1000, 10000, 100000)),
     of_directives("lines of #if", conditions, (10000, 100000)),
     of_scopes("names of one scope", names_of_one_scope),

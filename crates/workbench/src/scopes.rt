@@ -55,8 +55,8 @@ pub fn scope_answers(alloc: Global, text: &[u8]) -> Result<Vec<u8>, AllocError>
     Ok(session.shown)
 }
 
-// The spelling of a name of the table, and nothing for another one.
-fn word_of(names: &Names, name: NameId) -> &[u8] {
+/// The spelling of a name of the table, and nothing for another one.
+pub(crate) fn word_of(names: &Names, name: NameId) -> &[u8] {
     if (name.0 as usize) < names.len() {
         names.spelling(name)
     } else {

@@ -3,9 +3,9 @@
 ghost use Rattle.std.specs.Prelude.{◌≡◌, All, IsErrOf};
 ghost use Rattle.meaning_outside.specs.Faults.{Told};
 ghost use Rattle.c_tokens.specs.Seen.{IsKnown};
-ghost use Rattle.c_preproc.specs.Units.{IsKnownUnit};
 
 use crate::command::Stop;
+use crate::scopes::word_of;
 use c_preproc::{PreFault, UnitTokens, preprocess};
 use c_tokens::{Names, Token};
 use sparse_model::{Bytes, ClassSet, ErrorKind, Options, PathList, Place};
@@ -55,7 +55,7 @@ pub(crate) fn preprocessed<F: Files>(
 
 impl View {
     fn shown(self, alloc: Global, names: &Names, unit: &UnitTokens) -> Result<Vec<u8>, AllocError>
-        requires { IsKnownUnit names.now unit.now }
+        requires { All (λ token. IsKnown names.now token.name) unit.now.tokens }
     {
         match self {
             View::Text => unit_text(alloc, names, unit),
@@ -64,27 +64,42 @@ impl View {
     }
 }
 
-// A line for each failure: the number of its token among the names that were left, then that name's place, and the name.
-fn left_names(alloc: Global, names: &Names, unit: &UnitTokens) -> Result<Vec<u8>, AllocError>
-    requires { IsKnownUnit names.now unit.now }
-{
-    let tokens = unit.undef_tokens.as_slice();
+// A line for each failure.
+fn left_names(alloc: Global, names: &Names, unit: &UnitTokens) -> Result<Vec<u8>, AllocError> {
     let mut text = Vec::new(alloc);
     for failure in unit.undefs.as_slice() {
-        let number = failure.token;
-        let Some(token) = tokens.get(number as usize) else {
-            continue;
-        };
-        let Place { file, line, column } = token.place;
-        text.extend_from_slice(format!(in alloc; "{number} ")?.as_bytes())?;
-        if let Some(&path) = unit.files.as_slice().get(file as usize) {
-            text.extend_from_slice(names.spelling(path))?;
-        }
-        text.extend_from_slice(format!(in alloc; ":{line}:{column}: ")?.as_bytes())?;
-        text.extend_from_slice(names.spelling(token.name))?;
-        text.push(b'\n')?;
+        let line = left_line(alloc, names, unit, failure.token)?;
+        text.extend_from_slice(line.as_slice())?;
     }
     Ok(text)
+}
+
+// The number of a failure's token among the names that were left, then that name's place, and the name.
+fn left_line(
+    alloc: Global,
+    names: &Names,
+    unit: &UnitTokens,
+    number: u32,
+) -> Result<Vec<u8>, AllocError> {
+    let Some(token) = unit.undef_tokens.as_slice().get(number as usize) else {
+        return Ok(Vec::new(alloc));
+    };
+    let Place { line, column, .. } = token.place;
+    let mut text = format!(in alloc; "{number} ")?.into_bytes();
+    text.extend_from_slice(path_of(names, unit, token.place))?;
+    let place = format!(in alloc; ":{line}:{column}: ")?;
+    text.extend_from_slice(place.as_bytes())?;
+    text.extend_from_slice(word_of(names, token.name))?;
+    text.push(b'\n')?;
+    Ok(text)
+}
+
+// The path of a place's file.
+fn path_of<'n>(names: &'n Names, unit: &UnitTokens, place: Place) -> &'n [u8] {
+    match unit.files.as_slice().get(place.file as usize) {
+        Some(&path) => word_of(names, path),
+        None => &[],
+    }
 }
 
 // The tokens, each in a line of its own where its file or line is another one than that of the token before, else behind

@@ -7,7 +7,7 @@ use Rattle.c_types.specs.declared.form.SpaceKey.TheVariants as keys
 use Rattle.c_types.specs.declared.form.Form.{Form}
 use Rattle.c_types.specs.declared.form.Form.TheVariants as forms
 use Rattle.c_types.specs.declared.form.Shape.{Shape}
-use Rattle.c_types.specs.Rows.{no_type, type_numbered, result_of, parameter_types, is_variadic, IsFunction, space_seen, form_seen, type_seen, IsInside, IsEarlier, StandOnce}
+use Rattle.c_types.specs.Rows.{no_type, type_numbered, base_of, result_of, parameter_types, is_variadic, IsFunction, space_seen, form_seen, type_seen, IsInside, IsEarlier, StandOnce}
 use Rattle.c_types.proofs.Lists.{slice_get-append}
 
 -- Numbers
@@ -65,9 +65,6 @@ same_form types apart (forms.Aggregate m v) (forms.Aggregate n w) inside other e
     let is_union : v ≡ w = cc e in
     λ i. forms.Aggregate (number i) (is_union i)
 same_form types apart f g inside other e = absurd (cc e)
-
-abbrev base_of : TypeTree → BaseTree
-base_of (Typed base qualifiers flags) = base
 
 abbrev qualifiers_of : TypeTree → Qualifiers
 qualifiers_of (Typed base qualifiers flags) = qualifiers

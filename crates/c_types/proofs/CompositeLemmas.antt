@@ -1,5 +1,5 @@
 -- Arrays of which one has no length.
-use Rattle.std.proofs.Common.{◌≡◌, ℕ, ◌<◌, Bool, true, false, List, Option, Some, None, length, slice_get, if◌then◌else◌, refl, sym, ap, ◌∙◌, subst}
+use Rattle.std.proofs.Common.{◌≡◌, ℕ, ◌<◌, true, false, List, Option, Some, None, length, slice_get, if◌then◌else◌, refl, sym, ap, ◌∙◌, subst}
 use Rattle.std.proofs.lemmas.Option.{none-some, same_Some}
 use Rattle.meaning_types.specs.Types.{Qualifiers, Flags, TypeTree, Typed, ArrayTree, no_qualifiers, no_flags}
 use Rattle.meaning_types.specs.Composite.{completed, composite}
@@ -7,7 +7,7 @@ use Rattle.meaning_types.specs.Equality.{are_same}
 use Rattle.c_types.specs.declared.form.Form.{Form}
 use Rattle.c_types.specs.declared.form.Form.TheVariants as forms
 use Rattle.c_types.specs.Forms.{array_in, only_length}
-use Rattle.c_types.specs.Rows.{Row, array_if_same, form_seen, type_numbered, type_seen, types_of, AreRows, IsInside}
+use Rattle.c_types.specs.Rows.{Row, array_if_same, form_seen, type_numbered, types_of, AreRows, IsInside}
 use Rattle.meaning_types.specs.Marks.{IsNormal}
 use Rattle.c_types.proofs.RowLemmas.{numbered-row}
 

@@ -1,7 +1,7 @@
 -- Shapes over types: equal types have equal shapes, and a shape stays what it is where the types grow.
 use Rattle.std.proofs.Common.{◌≡◌, ℕ, ◌<◌, List, ◌++◌, Some, None, length, slice_get, unwrap_or, refl, sym, ap, ◌∙◌, subst, arith, length-append}
 use Rattle.std.proofs.lemmas.Option.{slice_get-get_or, unwrap_or-slice_get}
-use Rattle.meaning_types.specs.Types.{Qualifiers, Flags, TypeTree, Typed, BaseTree, PointerTree, ArrayTree, FunctionTree, NoTypes, MoreTypes, no_qualifiers, no_flags, bare, bare_base, bare_types, without_flags, base_without_flags, types_without_flags}
+use Rattle.meaning_types.specs.Types.{Qualifiers, Flags, TypeTree, Typed, PointerTree, ArrayTree, FunctionTree, NoTypes, MoreTypes, no_qualifiers, no_flags, bare, bare_base, bare_types, without_flags, base_without_flags, types_without_flags}
 use Rattle.c_types.specs.declared.form.SpaceKey.{SpaceKey}
 use Rattle.c_types.specs.declared.form.SpaceKey.TheVariants as keys
 use Rattle.c_types.specs.declared.form.Form.{Form}

@@ -1,5 +1,5 @@
 -- The plain integers join one after the other.
-use Rattle.std.proofs.Common.{◌≡◌, ℕ, zero, suc, ◌+◌, ◌<◌, ◌≤◌, List, [], ◌∷◌, ◌++◌, Some, length, map, take, slice_get, get_or, refl, sym, ap, ◌∙◌, subst, ⊎_elim, arith, append-nil, length-append}
+use Rattle.std.proofs.Common.{◌≡◌, ℕ, zero, suc, ◌+◌, ◌<◌, ◌≤◌, List, [], ◌∷◌, ◌++◌, Some, length, map, take, slice_get, refl, sym, ap, ◌∙◌, subst, ⊎_elim, arith, append-nil, length-append}
 use Rattle.std.proofs.lemmas.Bool.{cases_lt}
 use Rattle.std.proofs.lemmas.List.{take_more, map-append}
 use Rattle.std.proofs.lemmas.Option.{same_Some, slice_get_within, slice_get-get_or}
@@ -9,7 +9,7 @@ use Rattle.meaning_types.specs.Types.{TypeTree}
 use Rattle.meaning_types.specs.Equality.{all_kinds, kind_number}
 use Rattle.c_types.specs.declared.form.Form.TheVariants as forms
 use Rattle.c_types.specs.declared.form.Shape.{Shape}
-use Rattle.c_types.specs.Rows.{Row, type_seen, types_of, Grows, JoinsRight, MayJoin}
+use Rattle.c_types.specs.Rows.{Row, types_of, Grows, JoinsRight, MayJoin}
 use Rattle.c_types.specs.Table.{integer_kind, plain_integer, plain_integers}
 use Rattle.c_types.proofs.Joins.{own-stands}
 use Rattle.c_types.proofs.Lists.{slice_get-append, last_place}

@@ -1,8 +1,8 @@
 -- The levels of an array, and what is added to them.
-use Rattle.std.proofs.Common.{◌≡◌, ℕ, ◌<◌, ◌||◌, Bool, true, false, List, [], ◌∷◌, ◌++◌, Option, Some, None, length, slice_get, refl, sym, ap, ◌∙◌, subst, arith}
+use Rattle.std.proofs.Common.{◌≡◌, ℕ, ◌<◌, ◌||◌, true, false, List, [], ◌∷◌, ◌++◌, Some, None, length, slice_get, refl, sym, ap, ◌∙◌, subst}
 use Rattle.std.proofs.lemmas.Bool.{false≢true, true≢false}
-use Rattle.std.proofs.lemmas.Option.{none-some, same_Some, slice_get_within}
-use Rattle.meaning_types.specs.Types.{Qualifiers, Flags, TypeTree, Typed, ArrayTree, no_qualifiers, no_flags}
+use Rattle.std.proofs.lemmas.Option.{none-some, same_Some}
+use Rattle.meaning_types.specs.Types.{Qualifiers, Flags, TypeTree, Typed, ArrayTree}
 use Rattle.meaning_types.specs.Marks.{IsNormal, both, with_flags, later_space, marked}
 use Rattle.c_types.specs.declared.form.Form.{Form}
 use Rattle.c_types.specs.declared.form.Form.TheVariants as forms
@@ -10,9 +10,8 @@ use Rattle.c_types.specs.declared.form.Shape.{Shape}
 use Rattle.c_types.specs.declared.form.Marks.{Marks}
 use Rattle.c_types.specs.Forms.{element_in, may_be_marked, with_element}
 use Rattle.c_types.specs.Rows.{Row, type_numbered, space_seen, form_seen, type_seen, types_of, qualifiers_in, flags_in, IsInside, IsEarlier, AreRows, MayJoin}
-use Rattle.c_types.specs.Levels.{IsLevel, IsSingle, IsChain, over_element}
-use Rattle.c_types.proofs.Forms.{numbered-stands}
-use Rattle.c_types.proofs.RowLemmas.{length-types_of, numbered-row}
+use Rattle.c_types.specs.Levels.{IsLevel, IsChain, over_element}
+use Rattle.c_types.proofs.RowLemmas.{numbered-row}
 use Rattle.c_types.proofs.Singles.{normal-numbered, form-normal}
 
 -- Chains

@@ -4,11 +4,11 @@ use Rattle.std.proofs.lemmas.Option.{none-some, same_Some}
 use Rattle.std.specs.Map.{lookup}
 use Rattle.std.specs.Option.{IfNone, IfSome}
 use Rattle.indexmap.specs.IndexMap.{insert_entry}
-use Rattle.meaning_types.specs.Types.{TypeTree, Flags, Qualifiers, no_flags, no_qualifiers}
+use Rattle.meaning_types.specs.Types.{TypeTree, no_flags, no_qualifiers}
 use Rattle.meaning_types.specs.Marks.{marked}
 use Rattle.c_types.specs.declared.form.Marks.{Marks}
 use Rattle.c_types.specs.declared.form.Marking.{Marking}
-use Rattle.c_types.specs.Rows.{Row, type_numbered, types_of, qualifiers_in, flags_in, AreRows, Grows}
+use Rattle.c_types.specs.Rows.{Row, type_numbered, types_of, qualifiers_in, flags_in, Grows}
 use Rattle.c_types.specs.Levels.{IsMarked, AreMarkings}
 use Rattle.c_types.proofs.Arrays.{marked-none}
 use Rattle.c_types.proofs.Forms.{numbered-stands, numbered-kept}

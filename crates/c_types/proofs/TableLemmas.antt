@@ -1,11 +1,10 @@
 -- The table as its callers see it.
-use Rattle.std.proofs.Common.{◌≡◌, ℕ, ◌<◌, ◌≤◌, Bool, true, false, nat_eq, List, [], ◌∷◌, ◌++◌, All, IfSome, Option, Some, None, cond, is_some, option_map, length, slice_get, if◌then◌else◌, refl, sym, ap, ◌∙◌, subst, arith, append-nil, length-append}
+use Rattle.std.proofs.Common.{◌≡◌, ℕ, ◌<◌, ◌≤◌, Bool, true, false, nat_eq, List, [], ◌∷◌, ◌++◌, All, IfSome, Option, Some, None, cond, is_some, option_map, length, if◌then◌else◌, refl, sym, ap, ◌∙◌, subst, arith, append-nil, length-append}
 use Rattle.std.proofs.lemmas.Bool.{false≢true, true≢false}
 use Rattle.std.proofs.lemmas.List.Elements.{All-weaker}
 use Rattle.std.proofs.lemmas.Option.{none-some, same_Some}
 use Rattle.std.specs.List.{AllByRecursion}
 use Rattle.std.specs.Map.{lookup}
-use Rattle.vocabulary.specs.declared.int_kind.IntKind.{IntKind}
 use Rattle.sparse_model.specs.declared.ids.NameId.{NameId}
 use Rattle.c_types.specs.declared.bodies.AggregateBody.{AggregateBody}
 use Rattle.c_types.specs.declared.bodies.Named.{Named}
@@ -14,9 +13,9 @@ use Rattle.c_types.specs.contracts.bodies.NamedPartialEq.TheImpl as named_keys
 use Rattle.c_types.specs.declared.form.Marking.{Marking}
 use Rattle.c_types.specs.Rows.{Row, types_of, AreRows, Grows}
 use Rattle.c_types.specs.Levels.{AreMarkings}
-use Rattle.c_types.specs.Table.{TypeTable, Extends, TellsNoMore, IsBodyOver, IsKept, is_named, plain_integer, plain_integers, types_in, with_name}
+use Rattle.c_types.specs.Table.{TypeTable, Extends, TellsNoMore, IsBodyOver, IsKept, is_named, plain_integers, with_name}
 use Rattle.c_types.proofs.Integers.{integers-stand}
-use Rattle.c_types.proofs.RowLemmas.{length-types_of, types_of-Grows, stands-Grows}
+use Rattle.c_types.proofs.RowLemmas.{types_of-Grows, stands-Grows}
 
 -- Bodies
 

@@ -1,7 +1,7 @@
 -- What a row tells of its type.
-use Rattle.std.proofs.Common.{◌≡◌, ℕ, zero, suc, ◌<◌, ◌+◌, ◌-◌, Bool, List, Option, Some, None, IsSome, length, slice_get, refl, sym, ap, ◌∙◌, subst, arith}
+use Rattle.std.proofs.Common.{◌≡◌, ℕ, ◌<◌, Bool, List, Some, None, IsSome, length, slice_get, refl, sym, ap, ◌∙◌, subst}
 use Rattle.std.proofs.lemmas.Option.{none-some, same_Some}
-use Rattle.meaning_types.specs.Types.{Qualifiers, Flags, TypeTree, Typed, BaseTree, FunctionTree, TypeTrees, NoTypes, MoreTypes, no_qualifiers, no_flags}
+use Rattle.meaning_types.specs.Types.{Qualifiers, Flags, TypeTree, Typed, FunctionTree, TypeTrees, NoTypes, no_qualifiers, no_flags}
 use Rattle.meaning_types.specs.Marks.{IsNormal}
 use Rattle.c_types.specs.declared.form.Form.{Form}
 use Rattle.c_types.specs.declared.form.Form.TheVariants as forms
@@ -10,7 +10,7 @@ use Rattle.c_types.specs.Forms.{function_in, kind_in, outer_in, parameter_in}
 use Rattle.c_types.specs.Rows.{Row, base_of, is_variadic, parameter_types, result_of, type_numbered, form_seen, space_seen, type_seen, types_of, AreRows, IsEarlier, IsFunction, IsInside}
 use Rattle.c_types.specs.Levels.{BeginsWith}
 use Rattle.sparse_model.specs.declared.space.Space.{Space}
-use Rattle.c_types.specs.Table.{IsOuterOver, base_of_outer, count_in, count_of, integer_kind, nth_type, space_of, type_of_outer}
+use Rattle.c_types.specs.Table.{IsOuterOver, base_of_outer, count_in, count_of, integer_kind, space_of, type_of_outer}
 use Rattle.c_types.proofs.RowLemmas.{numbered-row}
 
 -- By the cases of a form

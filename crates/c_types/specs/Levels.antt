@@ -1,5 +1,5 @@
 -- The levels of arrays, the parameters of functions, and what was added to types.
-use Rattle.std.specs.Prelude.{◌≡◌, ℕ, ◌<◌, List, [], ◌∷◌, Option, Some, None, length, slice_get}
+use Rattle.std.specs.Prelude.{◌≡◌, ℕ, ◌<◌, List, [], ◌∷◌, Some, None, length, slice_get}
 use Rattle.std.specs.List.{AllByRecursion}
 use Rattle.meaning_types.specs.Types.{TypeTree, Typed, ArrayTree, MoreTypes}
 use Rattle.meaning_types.specs.Marks.{marked}

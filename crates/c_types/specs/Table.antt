@@ -13,7 +13,6 @@ use Rattle.meaning_types.specs.Conversions.{promoted, usual}
 use Rattle.meaning_types.specs.Equality.{all_kinds, kind_number}
 use Rattle.meaning_types.specs.Marks.{marked}
 use Rattle.c_types.specs.declared.bodies.AggregateBody.{AggregateBody}
-use Rattle.c_types.specs.declared.bodies.Member.{Member}
 use Rattle.c_types.specs.declared.bodies.Named.{Named}
 use Rattle.c_types.specs.declared.bodies.Named.TheVariants as named
 use Rattle.c_types.specs.declared.shapes.ShapeBase.{ShapeBase}
@@ -24,7 +23,7 @@ use Rattle.c_types.specs.declared.shapes.OuterBase.TheVariants as outers
 use Rattle.c_types.specs.declared.shapes.OuterShape.{OuterShape}
 use Rattle.c_types.specs.declared.form.Marking.{Marking}
 use Rattle.c_types.specs.Levels.{AreMarkings}
-use Rattle.c_types.specs.Rows.{Row, AreRows, parameter_types, type_numbered, types_numbered, types_of}
+use Rattle.c_types.specs.Rows.{Row, AreRows, type_numbered, types_numbered, types_of}
 
 -- what a table holds: a row a type, in the order of their numbers; the bodies of aggregates, and names of tags and
 -- identities, in the order in which they were told

@@ -1,5 +1,5 @@
 // What a row tells of its type.
-ghost use Rattle.std.specs.Prelude.{◌≡◌, ◌<◌, IfNone, IfSome, Some, length};
+ghost use Rattle.std.specs.Prelude.{◌≡◌, ◌<◌, ◌↔◌, IsTrue, IfNone, IfSome, Some, length};
 ghost use Rattle.meaning_types.specs.Equality.{are_same};
 ghost use Rattle.meaning_types.specs.Types.{FunctionTree, NoTypes};
 ghost use Rattle.c_types.specs.Rows.{AreRows, IsFunction, base_of, is_variadic, parameter_types, result_of, space_seen, type_numbered, types_of};
@@ -12,6 +12,14 @@ use crate::shapes::{OuterBase, OuterShape};
 use sparse_model::{IntKind, NameId, Space, TypeId};
 
 impl Rows {
+    /// Whether a type has this number.
+    pub fn has(&self, number: u32) -> bool
+        requires { AreRows self.now.rows.entries }
+        ensures { IsTrue result ↔ (number < length (types_of self.now.rows.entries)) }
+    {
+        number < self.len()
+    }
+
     /// Whether two types are equal but for const and volatile at every level.
     pub fn same(&self, number: u32, other: u32) -> bool
         requires rows { AreRows self.now.rows.entries }

@@ -1,5 +1,5 @@
 // The table of types as its callers see it.
-ghost use Rattle.std.specs.Prelude.{◌≡◌, ◌<◌, ◌∷◌, ◌++◌, [], None, Some, IfOk, IfSome, IsSome, OnOk, OnErr, option_map, slice_get};
+ghost use Rattle.std.specs.Prelude.{◌≡◌, ◌<◌, ◌↔◌, IsTrue, is_some, ◌∷◌, ◌++◌, [], None, Some, IfOk, IfSome, IsSome, OnOk, OnErr, option_map, slice_get};
 ghost use Rattle.meaning_types.specs.Equality.{are_same};
 ghost use Rattle.meaning_types.specs.Composite.{composite};
 ghost use Rattle.c_types.specs.Rows.{flags_in, parameter_types, qualifiers_in, space_seen};
@@ -49,6 +49,13 @@ impl Types {
             bodies: IndexMap::new(alloc),
             names: IndexMap::new(alloc),
         })
+    }
+
+    /// Whether an id is that of a type of this table. It takes no memory.
+    pub fn knows(&self, t: TypeId) -> bool
+        ensures { IsTrue result ↔ IsTypeId self.now t }
+    {
+        self.maker.rows.has(t.0)
     }
 
     /// The type of this shape, which joins the table if it is new.
@@ -105,6 +112,14 @@ impl Types {
         ensures known { IsTypeId self.now result }
     {
         TypeId(self.maker.rows.parameter(t.0, i))
+    }
+
+    /// Whether a type is one of integers, restricted or not. It takes no memory.
+    pub fn is_integer(&self, t: TypeId) -> bool
+        requires { IsTypeId self.now t }
+        ensures { result ≡ is_some (integer_kind (type_at self.now t)) }
+    {
+        self.maker.rows.kind(t.0).is_some()
     }
 
     /// What an integer type is promoted to (C11 6.3.1.1 p2); a restricted one counts as its base. It takes

@@ -1,5 +1,4 @@
 -- What was remembered stays right where the rows grew.
-use Rattle.std.proofs.Common.{rules}
 use Rattle.c_types.proofs.MarkingLemmas.{AreMarkings-Grows}
 use Rattle.c_types.proofs.making.Maker.make_base.Goals as goal
 

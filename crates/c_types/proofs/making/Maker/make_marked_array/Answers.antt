@@ -1,5 +1,5 @@
 -- The marked element is remembered, and the array of it joins.
-use Rattle.std.proofs.Common.{◌≡◌, sym, ap, subst, arith}
+use Rattle.std.proofs.Common.{sym, ap, subst, arith}
 use Rattle.std.proofs.lemmas.Option.{slice_get_within}
 use Rattle.c_types.specs.Rows.{MayJoin, types_of}
 use Rattle.c_types.specs.Levels.{AreMarkings}

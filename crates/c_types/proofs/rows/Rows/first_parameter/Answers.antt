@@ -1,7 +1,5 @@
 -- The first parameter stands in the row's form.
-use Rattle.std.proofs.Common.{None, ◌∙◌, sym, arith}
-use Rattle.std.specs.Option.{IfNone}
-use Rattle.c_types.specs.Forms.{parameter_in}
+use Rattle.std.proofs.Common.{◌∙◌, sym, arith}
 use Rattle.c_types.specs.Rows.{types_of}
 use Rattle.c_types.specs.Levels.{BeginsWith}
 use Rattle.c_types.proofs.MarkingLemmas.{IfSome_from, IfNone_from}

@@ -1,5 +1,5 @@
 -- The last of the chain has the result.
-use Rattle.std.proofs.Common.{◌≡◌, Some, sym, ap, ◌∙◌, arith}
+use Rattle.std.proofs.Common.{sym, ap, ◌∙◌, arith}
 use Rattle.meaning_types.specs.Types.{FunctionTree}
 use Rattle.c_types.specs.Rows.{base_of, parameter_types, type_numbered, types_of}
 use Rattle.c_types.proofs.RowLemmas.{length-types_of}

@@ -1,5 +1,5 @@
 -- One more integer joins.
-use Rattle.std.proofs.Common.{◌≡◌, Some, get_or, slice_get, length, refl, sym, ap, ◌∙◌, subst, arith}
+use Rattle.std.proofs.Common.{◌≡◌, Some, get_or, slice_get, length, sym, ap, ◌∙◌, subst, arith}
 use Rattle.std.proofs.lemmas.Option.{slice_get-get_or}
 use Rattle.vocabulary.specs.declared.int_kind.IntKind.TheVariants as kinds
 use Rattle.meaning_types.specs.Equality.{all_kinds}

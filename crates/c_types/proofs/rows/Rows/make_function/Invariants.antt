@@ -1,5 +1,5 @@
 -- The type so far has the result, and the parameters that stand behind the rest.
-use Rattle.std.proofs.Common.{◌≡◌, ◌+◌, ◌*◌, ◌<◌, ◌≤◌, ◌^◌, All, length}
+use Rattle.std.proofs.Common.{◌+◌, ◌*◌, ◌<◌, ◌≤◌, ◌^◌, All, length}
 use Rattle.indexmap.specs.IndexMap.{spare}
 use Rattle.c_types.specs.Rows.{AreRows, Grows, types_of}
 use Rattle.c_types.proofs.Parameters.{IsPartly}

@@ -1,5 +1,5 @@
 -- What is no array has all of it, and a function nothing.
-use Rattle.std.proofs.Common.{sym, ap, ◌∙◌, Some, None}
+use Rattle.std.proofs.Common.{sym, ap, ◌∙◌, Some}
 use Rattle.c_types.specs.Forms.{element_in}
 use Rattle.std.proofs.lemmas.Option.{same_Some}
 use Rattle.c_types.proofs.LevelLemmas.{single-may, single-type, function-stays}

@@ -1,5 +1,5 @@
 -- The rows grew, and nothing else.
-use Rattle.c_types.proofs.TableLemmas.{kept-Grows, table-extends, table-tells}
+use Rattle.c_types.proofs.TableLemmas.{kept-Grows, table-extends}
 use Rattle.c_types.proofs.table.Types.make.Goals as goal
 
 pub invariant_of-self-2 : goal.invariant_of-self-2

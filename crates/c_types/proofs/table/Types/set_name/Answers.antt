@@ -1,5 +1,5 @@
 -- A name that was told stays, and a new one joins the others at their end.
-use Rattle.std.proofs.Common.{◌≡◌, true, false, is_some, [], ◌∷◌, ◌++◌, sym, ap, ◌∙◌}
+use Rattle.std.proofs.Common.{◌≡◌, true, is_some, sym, ap, ◌∙◌}
 use Rattle.std.specs.Map.{lookup}
 use Rattle.indexmap.proofs.CallerLemmas.{insert_entry-new}
 use Rattle.c_types.specs.contracts.bodies.NamedPartialEq.TheImpl as named_keys

@@ -3,10 +3,11 @@ use Rattle.std.proofs.Common.{◌≡◌, ℕ, ◌+◌, ◌-◌, ◌<◌, ◌≤�
 use Rattle.std.proofs.lemmas.Bool.{ltb-false, lt-ltb, le-ltb}
 use Rattle.std.proofs.lemmas.Option.{slice_get-get_or}
 use Rattle.std.proofs.Math.Pow.{pow_mono}
+use Rattle.number_sets.specs.declared.addition.Addition.{Addition}
 use Rattle.number_sets.specs.declared.branch.Branch.{Branch}
 use Rattle.number_sets.specs.declared.pair.Pair.{Pair}
 use Rattle.number_sets.specs.NumberSets.{Table, has, Extends}
-use Rattle.number_sets.specs.Branches.{numbers_of, sets_behind, sets_of, count, levels_at, levels_of, IsSplit, AreBranches, Grows, of_both, IsMade, AreDone, HasToo}
+use Rattle.number_sets.specs.Branches.{numbers_of, sets_behind, sets_of, count, levels_at, levels_of, IsSplit, AreBranches, Grows, of_both, IsMade, AreDone, HasToo, AreGrown}
 use Rattle.number_sets.proofs.TableLemmas.{slice_get-append, Extends-refl, has-Extends}
 
 -- a table grows by the sets of branches
@@ -129,6 +130,17 @@ HasToo-Grows old new grows most other number set stands too =
 pub AreDone-Grows : (old new : List Branch) → Grows old new → (done : List (Pair × ℕ)) → AreDone old done → AreDone new done
 AreDone-Grows old new grows [] all = tt
 AreDone-Grows old new grows (entry ∷ done) all = (IsMade-Grows old new grows entry.0 entry.1 all.0, AreDone-Grows old new grows done all.1)
+
+-- what is remembered of additions stays right
+pub AreGrown-Grows : (old new : List Branch) → Grows old new → (grown : List (Addition × ℕ)) → AreGrown old grown → AreGrown new grown
+AreGrown-Grows old new grows [] all = tt
+AreGrown-Grows old new grows (entry ∷ grown) all = (
+  record {
+    old_stands = omega (arith, all.0.old_stands, count-Grows old new grows);
+    too = HasToo-Grows old new grows 30 entry.0.set entry.0.number entry.1 all.0.old_stands all.0.too;
+  },
+  AreGrown-Grows old new grows grown all.1,
+)
 
 -- no number of a set has more bits than a bound of its levels
 pub below : (bs : List Branch) → AreBranches bs → (set bit n : ℕ) → levels_of bs set ≤ bit → has (sets_of bs) set n ≡ true → n < 2 ^ bit

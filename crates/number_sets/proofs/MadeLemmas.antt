@@ -1,5 +1,6 @@
 -- Sets that are made of others, half by half, and what is remembered of them.
 use Rattle.std.proofs.Common.{◌≡◌, ℕ, zero, suc, ◌+◌, ◌-◌, ◌<◌, ◌≤◌, ◌^◌, Bool, true, false, ◌||◌, ◌&&◌, if◌then◌else◌, List, [], ◌∷◌, Option, Some, None, IfSome, ⊎_elim, nat_eq, nat_lt, refl, sym, ap, subst, ◌∙◌, arith}
+use Rattle.std.specs.List.{AllByRecursion}
 use Rattle.std.specs.Map.{lookup}
 use Rattle.std.proofs.lemmas.Bool.{ltb-false, ltb-true, ne_eqb, cases_lt}
 use Rattle.std.proofs.lemmas.Bool.Decides.{nat_tests}
@@ -10,7 +11,7 @@ use Rattle.number_sets.specs.declared.pair.Operation.{Operation}
 use Rattle.number_sets.specs.declared.pair.Operation.TheVariants.{Union, Intersection}
 use Rattle.number_sets.specs.declared.pair.Pair.{Pair}
 use Rattle.number_sets.specs.NumberSets.{Table, has}
-use Rattle.number_sets.specs.Branches.{sets_of, count, levels_of, IsSplit, of_both, IsMade, AreDone, HasToo}
+use Rattle.number_sets.specs.Branches.{sets_of, count, levels_of, IsSplit, of_both, IsMade, HasToo}
 use Rattle.number_sets.specs.Branches.{Grows}
 use Rattle.number_sets.proofs.TableLemmas.{or-false}
 use Rattle.number_sets.proofs.BranchLemmas.{has-empty, has-zero, has-Grows, levels_of-plain, levels_of-some}
@@ -160,24 +161,28 @@ pub IfSome_from : {X : Type 0} (P : X → Type 0) (o : Option X) → ((x : X) �
 IfSome_from P None h = tt
 IfSome_from P (Some x) h = h x refl
 
--- what a look-up finds is what was made of the pair
-pub AreDone-found : (bs : List Branch) (test : Pair → Bool) (pair : Pair) (set : ℕ) → ((other : Pair) → test other ≡ true → other ≡ pair) → (done : List (Pair × ℕ)) → AreDone bs done → lookup test done ≡ Some set → IsMade bs pair set
-AreDone-found bs test pair set same [] all found = absurd (none-some set found)
-AreDone-found bs test pair set same (entry ∷ done) all found = by (test entry.0) refl (AreDone-found bs test pair set same done all.1)
+-- what a look-up finds is what holds of the key
+pub found_holds : {K : Type 0} (P : K → ℕ → Type 0) (test : K → Bool) (key : K) (set : ℕ) → ((other : K) → test other ≡ true → other ≡ key)
+    → (entries : List (K × ℕ)) → AllByRecursion (λ entry. P entry.0 entry.1) entries → lookup test entries ≡ Some set → P key set
+found_holds P test key set same [] all found = absurd (none-some set found)
+found_holds P test key set same (entry ∷ entries) all found = by (test entry.0) refl (found_holds P test key set same entries all.1)
   where
-    by : (b : Bool) → test entry.0 ≡ b → (lookup test done ≡ Some set → IsMade bs pair set) → IsMade bs pair set
+    by : (b : Bool) → test entry.0 ≡ b → (lookup test entries ≡ Some set → P key set) → P key set
     by true e later =
-        let value : entry.1 ≡ set = same_Some _ _ (sym (ap (λ b. if b then Some entry.1 else lookup test done) e) ∙ found) in
-        subst (λ p. IsMade bs p set) (same entry.0 e) (subst (IsMade bs entry.0) value all.0)
-    by false e later = later (sym (ap (λ b. if b then Some entry.1 else lookup test done) e) ∙ found)
+        let value : entry.1 ≡ set = same_Some _ _ (sym (ap (λ b. if b then Some entry.1 else lookup test entries) e) ∙ found) in
+        subst (λ k. P k set) (same entry.0 e) (subst (P entry.0) value all.0)
+    by false e later = later (sym (ap (λ b. if b then Some entry.1 else lookup test entries) e) ∙ found)
 
--- what is remembered of a pair joins the rest
-pub AreDone-insert : (bs : List Branch) (eq : Pair → Pair → Bool) (pair : Pair) (set : ℕ) → ((other : Pair) → eq pair other ≡ true → other ≡ pair) → IsMade bs pair set → (done : List (Pair × ℕ)) → AreDone bs done → AreDone bs (insert_entry eq done pair set)
-AreDone-insert bs eq pair set same made [] all = (made, tt)
-AreDone-insert bs eq pair set same made (entry ∷ done) all = by (eq pair entry.0) refl (AreDone-insert bs eq pair set same made done all.1)
+-- what is remembered of a key joins the rest
+pub inserted_holds : {K : Type 0} (P : K → ℕ → Type 0) (eq : K → K → Bool) (key : K) (set : ℕ) → ((other : K) → eq key other ≡ true → other ≡ key)
+    → P key set → (entries : List (K × ℕ)) → AllByRecursion (λ entry. P entry.0 entry.1) entries
+    → AllByRecursion (λ entry. P entry.0 entry.1) (insert_entry eq entries key set)
+inserted_holds P eq key set same holds [] all = (holds, tt)
+inserted_holds P eq key set same holds (entry ∷ entries) all = by (eq key entry.0) refl (inserted_holds P eq key set same holds entries all.1)
   where
-    by : (b : Bool) → eq pair entry.0 ≡ b → AreDone bs (insert_entry eq done pair set) → AreDone bs (if b then (entry.0, set) ∷ done else entry ∷ insert_entry eq done pair set)
-    by true e later = (subst (λ p. IsMade bs p set) (sym (same entry.0 e)) made, all.1)
+    by : (b : Bool) → eq key entry.0 ≡ b → AllByRecursion (λ entry. P entry.0 entry.1) (insert_entry eq entries key set)
+        → AllByRecursion (λ entry. P entry.0 entry.1) (if b then (entry.0, set) ∷ entries else entry ∷ insert_entry eq entries key set)
+    by true e later = (subst (λ k. P k set) (sym (same entry.0 e)) holds, all.1)
     by false e later = (all.0, later)
 
 -- what is made of two old sets, told by the old table

@@ -1,6 +1,7 @@
 -- The branches of the sets of a table, and what they say of the sets.
 use Rattle.std.specs.Prelude.{◌≡◌, ◌<◌, ◌≤◌, ◌+◌, ◌-◌, ◌^◌, ◌&&◌, ◌||◌, if◌then◌else◌, ℕ, Bool, true, List, [], ◌∷◌, ◌++◌, Option, None, Some, map, length, slice_get, nat_eq, nat_lt}
 use Rattle.std.specs.List.{AllByRecursion}
+use Rattle.number_sets.specs.declared.addition.Addition.{Addition}
 use Rattle.number_sets.specs.declared.branch.Branch.{Branch}
 use Rattle.number_sets.specs.declared.pair.Operation.{Operation}
 use Rattle.number_sets.specs.declared.pair.Operation.TheVariants.{Union, Intersection}
@@ -75,3 +76,12 @@ pub record HasToo (bs : List Branch) (most other number set : ℕ) : Type 0 wher
   pub stands : set < count bs
   pub levels : levels_of bs set ≤ most
   pub numbers : (n : ℕ) → has (sets_of bs) set n ≡ nat_eq n number || has (sets_of bs) other n
+
+-- the set is what comes of an addition
+pub record IsGrown (bs : List Branch) (addition : Addition) (set : ℕ) : Type 0 where
+  pub old_stands : addition.set < count bs
+  pub too : HasToo bs 30 addition.set addition.number set
+
+-- what is remembered of additions is right
+abbrev pub AreGrown : List Branch → List (Addition × ℕ) → Type 0
+AreGrown bs grown = AllByRecursion (λ entry. IsGrown bs entry.0 entry.1) grown

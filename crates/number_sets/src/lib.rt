@@ -5,6 +5,7 @@
 //! the numbers stand for. Start reading at [`NumberSets`].
 #![tactic(auto)]
 
+mod addition;
 mod branch;
 mod pair;
 mod sets;

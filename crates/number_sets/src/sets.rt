@@ -1,4 +1,5 @@
 // The table of sets as its callers see it.
+use crate::addition::{Addition, Additions};
 use crate::branch::EMPTY;
 use crate::pair::{Operation, Pair};
 use crate::trie::Trie;
@@ -15,22 +16,24 @@ pub struct SetId(pub u32);
 /// A table of sets of numbers below 2^30. Its value is the list of them, each as the list of its numbers.
 ///
 /// A set never changes and never goes. It costs what it doesn't share with those that stand already, and
-/// what was made of two sets is remembered: for a set one number larger, and for what is made of two
-/// such sets, some 30 steps are enough.
+/// what was made of two sets, or of a set and a number, is remembered: for a set one number larger, and for
+/// what is made of two such sets, some 30 steps are enough, and one where it was asked for before.
 #[derive(Drop)]
 pub struct NumberSets {
     trie: Trie,
+    additions: Additions,
 }
 
 impl Model for NumberSets {
     ghost use Rattle.std.specs.Prelude.{List, ℕ};
-    ghost use Rattle.number_sets.specs.Branches.{sets_of, AreBranches, AreDone};
+    ghost use Rattle.number_sets.specs.Branches.{sets_of, AreBranches, AreDone, AreGrown};
 
     ghost Value = { List (List ℕ) };
 
     ghost view = { λ sets. sets_of sets.trie.branches.keys };
 
-    ghost invariant = { λ sets. AreBranches sets.trie.branches.keys × AreDone sets.trie.branches.keys sets.trie.done.entries };
+    ghost invariant = { λ sets. AreBranches sets.trie.branches.keys × AreDone sets.trie.branches.keys sets.trie.done.entries
+        × AreGrown sets.trie.branches.keys sets.additions.grown.entries };
 }
 
 impl NumberSets {
@@ -44,6 +47,7 @@ impl NumberSets {
     {
         NumberSets {
             trie: Trie::new(alloc),
+            additions: Additions::new(alloc),
         }
     }
 
@@ -79,7 +83,13 @@ impl NumberSets {
         ensures numbers { IfOk result (λ found. (n : ℕ) → holds self.new found n ≡ nat_eq n number || holds self.old set n) }
         ensures keeps { Extends self.old self.new }
     {
-        Ok(SetId(self.trie.with(LEVELS, set.0, number)?))
+        let addition = Addition { set: set.0, number };
+        if let Some(known) = self.additions.get(addition) {
+            return Ok(SetId(known));
+        }
+        let grown = self.trie.with(LEVELS, set.0, number)?;
+        self.additions.insert(addition, grown)?;
+        Ok(SetId(grown))
     }
 
     /// The numbers that either set has.

@@ -2,7 +2,7 @@
 use Rattle.std.proofs.Common.{length, ap, subst, arith}
 use Rattle.number_sets.specs.Branches.{sets_of}
 use Rattle.number_sets.specs.NumberSets.{Extends}
-use Rattle.number_sets.proofs.BranchLemmas.{length-sets_of, sets_of-Grows}
+use Rattle.number_sets.proofs.BranchLemmas.{length-sets_of, sets_of-Grows, AreGrown-Grows}
 use Rattle.number_sets.proofs.MadeLemmas.{made_of_old}
 use Rattle.number_sets.proofs.sets.NumberSets.combined.Goals as goal
 
@@ -27,3 +27,9 @@ returns-in_err-combined-clause-keeps c = subst (λ table. Extends table (sets_of
 
 pub returns-clause-keeps : goal.returns-clause-keeps
 returns-clause-keeps c = subst (λ table. Extends table (sets_of c.combined.new.self.branches.keys)) c.self.view_is (sets_of-Grows _ _ c.combined.ensures.grows)
+
+pub invariant_of-self : goal.invariant_of-self
+invariant_of-self c = (c.combined.ensures.branches, c.combined.ensures.done, AreGrown-Grows _ _ c.combined.ensures.grows _ c.self.invariant.2)
+
+pub invariant_of-self-2 : goal.invariant_of-self-2
+invariant_of-self-2 c = (c.combined.ensures.branches, c.combined.ensures.done, AreGrown-Grows _ _ c.combined.ensures.grows _ c.self.invariant.2)

@@ -1,16 +1,16 @@
 -- Facts of the old table are told of the later ones, and the halves make the whole.
 use Rattle.std.proofs.Common.{◌≤◌, ◌+◌, ℕ, subst, sym, arith}
 use Rattle.std.proofs.lemmas.Result.{IfOk-weaker}
-use Rattle.number_sets.specs.Branches.{AreDone, levels_of}
+use Rattle.number_sets.specs.Branches.{AreDone, IsMade, levels_of}
 use Rattle.number_sets.proofs.BranchLemmas.{IsSplit-Grows, IsMade-Grows, Grows-Grows, levels_of-Grows}
-use Rattle.number_sets.proofs.MadeLemmas.{made_by_halves, AreDone-insert}
+use Rattle.number_sets.proofs.MadeLemmas.{made_by_halves, inserted_holds}
 use Rattle.number_sets.proofs.PairLemmas.{pair_eq, same_pair}
 use Rattle.number_sets.proofs.trie.Trie.+combined.Goals as goal
 
 pub combined-returns-clause-done : goal.combined-returns-clause-done
 combined-returns-clause-done t c =
     subst (AreDone c.parted.new.self.branches.keys) (sym c.in_ok-insert.ensures.entries)
-    (AreDone-insert c.parted.new.self.branches.keys pair_eq c.args.pair c.in_ok-set.set (λ other h. sym (same_pair c.args.pair other h)) c.in_ok-set.ensures.made c.parted.new.self.done.entries c.parted.ensures.done)
+    (inserted_holds (IsMade c.parted.new.self.branches.keys) pair_eq c.args.pair c.in_ok-set.set (λ other h. sym (same_pair c.args.pair other h)) c.in_ok-set.ensures.made c.parted.new.self.done.entries c.parted.ensures.done)
 
 pub parted-combined-requires-2 : goal.parted-combined-requires-2
 parted-combined-requires-2 t c =

@@ -93,10 +93,3 @@ module _ (rows : List Row) (are : AreRows rows) (number other : ℕ) (row anothe
     completed-both beside count given =
         (λ i. completed (first-is i) ((numbered-row rows are other another present ∙ array-plain types _ _ another.0.form beside count given (are.each other another present).normal) i))
         ∙ arrays-completed (type_numbered types element) (type_numbered types beside) own count no_qualifiers no_flags
-
--- of types that are the same the first is taken, and of others what is completed
-pub composite-same : (type_ other : TypeTree) → are_same type_ other ≡ true → composite type_ other ≡ Some type_
-composite-same type_ other same = ap (λ test. if test then Some type_ else completed type_ other) same
-
-pub composite-other : (type_ other : TypeTree) → are_same type_ other ≡ false → composite type_ other ≡ completed type_ other
-composite-other type_ other same = ap (λ test. if test then Some type_ else completed type_ other) same

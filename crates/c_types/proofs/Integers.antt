@@ -71,9 +71,6 @@ integers-more old new k number kind are at grows one stands =
     by (t ∷ u ∷ more) found few = absurd (omega arith)
 
 module _ (rows : List Row) (kind : IntKind) (shape : Shape) (own : ℕ) (is_own : own ≡ length rows) (is : shape ≡ bare_shape (forms.Integer kind)) where
-  pub integer-may : MayJoin rows shape
-  integer-may = subst (MayJoin rows) (sym is) (record { inside = tt; normal = tt })
-
   pub integer-right : JoinsRight rows shape (record { bare = own; plain = own })
   integer-right =
       subst (λ s. JoinsRight rows s (record { bare = own; plain = own })) (sym is)

@@ -61,13 +61,3 @@ module _ (rows : List Row) (are : AreRows rows) where
 pub marked-type : (types : List TypeTree) (form : Form) (marks : Marks) (shape : Shape) → shape ≡ marked_shape form marks → may_be_marked form ≡ true
     → type_seen types shape ≡ marked (qualifiers_in marks) (flags_in marks) (Typed (form_seen types form) no_qualifiers no_flags)
 marked-type types form marks shape is may = ap (type_seen types) is ∙ marked-form types form marks may
-
--- an array of a marked element is the marked array
-pub array-type : (types : List TypeTree) (old : List TypeTree) (element inner : ℕ) (count : Option ℕ) (form : Form) (shape : Shape) (marks : Marks)
-    → form ≡ array_form inner count → shape ≡ bare_shape form
-    → slice_get types inner ≡ Some (marked (qualifiers_in marks) (flags_in marks) (type_numbered old element))
-    → type_seen types shape ≡ marked (qualifiers_in marks) (flags_in marks) (array_numbered old element count)
-array-type types old element inner count form shape marks is_form is stands =
-    ap (type_seen types) (is ∙ ap bare_shape is_form)
-    ∙ ap (λ base. Typed base no_qualifiers no_flags) (array-form types inner count)
-    ∙ ap (λ t. Typed (ArrayTree t count) no_qualifiers no_flags) (numbered-is types inner (marked (qualifiers_in marks) (flags_in marks) (type_numbered old element)) stands)

@@ -77,9 +77,6 @@ module _ (old new : List Row) (bodies : List (ℕ × AggregateBody)) (names : Li
   table-extends grows =
       subst (λ t. Extends t grown) is (record { types = types_of-Grows old new grows; bodies = ([], sym (append-nil bodies)); names = ([], sym (append-nil names)) })
 
-  pub table-tells : TellsNoMore table grown
-  table-tells = subst (λ t. TellsNoMore t grown) is (record { bodies = refl; names = refl })
-
 -- Names
 
 same_named : (what other : Named) → named_keys.eq-value.it what other ≡ is_named what other

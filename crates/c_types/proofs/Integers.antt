@@ -9,7 +9,7 @@ use Rattle.meaning_types.specs.Types.{TypeTree}
 use Rattle.meaning_types.specs.Equality.{all_kinds, kind_number}
 use Rattle.c_types.specs.declared.form.Form.TheVariants as forms
 use Rattle.c_types.specs.declared.form.Shape.{Shape}
-use Rattle.c_types.specs.Rows.{Row, types_of, Grows, JoinsRight, MayJoin}
+use Rattle.c_types.specs.Rows.{Row, types_of, Grows, JoinsRight}
 use Rattle.c_types.specs.Table.{integer_kind, plain_integer, plain_integers}
 use Rattle.c_types.proofs.Joins.{own-stands}
 use Rattle.c_types.proofs.Lists.{slice_get-append, last_place}

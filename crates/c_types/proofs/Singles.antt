@@ -2,7 +2,7 @@
 use Rattle.std.proofs.Common.{◌≡◌, ℕ, ◌<◌, Bool, true, false, List, Option, Some, None, length, slice_get, get_or, refl, sym, ap, ◌∙◌, subst, arith}
 use Rattle.std.proofs.lemmas.Bool.{false≢true}
 use Rattle.std.proofs.lemmas.Option.{slice_get-get_or}
-use Rattle.meaning_types.specs.Types.{Qualifiers, Flags, TypeTree, Typed, ArrayTree, no_qualifiers, no_flags}
+use Rattle.meaning_types.specs.Types.{Qualifiers, Flags, TypeTree, Typed, no_qualifiers, no_flags}
 use Rattle.meaning_types.specs.Marks.{IsNormal, marked}
 use Rattle.c_types.specs.declared.form.SpaceKey.TheVariants as keys
 use Rattle.c_types.specs.declared.form.Marks.{Marks}
@@ -10,10 +10,9 @@ use Rattle.c_types.specs.declared.form.Form.{Form}
 use Rattle.c_types.specs.declared.form.Form.TheVariants as forms
 use Rattle.c_types.specs.declared.form.Shape.{Shape}
 use Rattle.c_types.specs.Forms.{array_form, may_be_marked}
-use Rattle.c_types.specs.Rows.{Row, type_numbered, form_seen, type_seen, types_of, array_numbered, qualifiers_in, flags_in, IsInside, AreRows, MayJoin}
+use Rattle.c_types.specs.Rows.{Row, type_numbered, form_seen, type_seen, types_of, qualifiers_in, flags_in, IsInside, AreRows, MayJoin}
 use Rattle.c_types.proofs.RowLemmas.{length-types_of, numbered-row}
-use Rattle.c_types.proofs.Forms.{numbered-is}
-use Rattle.c_types.proofs.Arrays.{array-form, marked-form}
+use Rattle.c_types.proofs.Arrays.{marked-form}
 
 -- the shape of a form with these marks, and of one without
 abbrev pub marked_shape : Form → Marks → Shape

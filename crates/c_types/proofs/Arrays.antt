@@ -1,13 +1,13 @@
 -- Types to which nothing is added, and forms that have marks of their own.
-use Rattle.std.proofs.Common.{◌≡◌, ℕ, Bool, true, false, ◌||◌, List, Option, Some, None, refl, sym, ap}
+use Rattle.std.proofs.Common.{◌≡◌, Bool, true, false, ◌||◌, List, refl, sym, ap}
 use Rattle.std.proofs.lemmas.Bool.{false≢true}
 use Rattle.meaning_types.specs.Types.{Space, NoSpace, NumberedSpace, NamedSpace, Qualifiers, Flags, TypeTree, Typed, BaseTree, ArrayTree, FunctionTree, no_qualifiers, no_flags}
 use Rattle.meaning_types.specs.Marks.{both, with_flags, later_space, marked}
 use Rattle.c_types.specs.declared.form.Marks.{Marks}
 use Rattle.c_types.specs.declared.form.Form.{Form}
 use Rattle.c_types.specs.declared.form.Form.TheVariants as forms
-use Rattle.c_types.specs.Forms.{array_form, may_be_marked}
-use Rattle.c_types.specs.Rows.{type_numbered, space_seen, form_seen, qualifiers_in, flags_in}
+use Rattle.c_types.specs.Forms.{may_be_marked}
+use Rattle.c_types.specs.Rows.{space_seen, form_seen, qualifiers_in, flags_in}
 
 or_false : (a : Bool) → a || false ≡ a
 or_false true = refl
@@ -43,8 +43,3 @@ marked-form types (forms.Function result variadic) marks may = absurd (false≢t
 marked-form types (forms.Parameter first rest) marks may = absurd (false≢true may)
 marked-form types form marks may =
     ap (λ space. Typed (form_seen types form) (qualifiers_in marks) (record { noderef = marks.noderef; space = space })) (sym (later-none (space_seen marks.space)))
-
--- the form of an array is one
-pub array-form : (types : List TypeTree) (element : ℕ) (count : Option ℕ) → form_seen types (array_form element count) ≡ ArrayTree (type_numbered types element) count
-array-form types element (Some count) = refl
-array-form types element None = refl

@@ -1,9 +1,8 @@
 -- Arrays of which one has no length.
-use Rattle.std.proofs.Common.{◌≡◌, ℕ, ◌<◌, true, false, List, Option, Some, None, length, slice_get, if◌then◌else◌, refl, sym, ap, ◌∙◌, subst}
+use Rattle.std.proofs.Common.{◌≡◌, ℕ, ◌<◌, List, Option, Some, None, length, slice_get, refl, sym, ap, ◌∙◌, subst}
 use Rattle.std.proofs.lemmas.Option.{none-some, same_Some}
 use Rattle.meaning_types.specs.Types.{Qualifiers, Flags, TypeTree, Typed, ArrayTree, no_qualifiers, no_flags}
-use Rattle.meaning_types.specs.Composite.{completed, composite}
-use Rattle.meaning_types.specs.Equality.{are_same}
+use Rattle.meaning_types.specs.Composite.{completed}
 use Rattle.c_types.specs.declared.form.Form.{Form}
 use Rattle.c_types.specs.declared.form.Form.TheVariants as forms
 use Rattle.c_types.specs.Forms.{array_in, only_length}
@@ -93,10 +92,3 @@ module _ (rows : List Row) (are : AreRows rows) (number other : ℕ) (row anothe
     completed-both beside count given =
         (λ i. completed (first-is i) ((numbered-row rows are other another present ∙ array-plain types _ _ another.0.form beside count given (are.each other another present).normal) i))
         ∙ arrays-completed (type_numbered types element) (type_numbered types beside) own count no_qualifiers no_flags
-
--- of types that are the same the first is taken, and of others what is completed
-pub composite-same : (type_ other : TypeTree) → are_same type_ other ≡ true → composite type_ other ≡ Some type_
-composite-same type_ other same = ap (λ test. if test then Some type_ else completed type_ other) same
-
-pub composite-other : (type_ other : TypeTree) → are_same type_ other ≡ false → composite type_ other ≡ completed type_ other
-composite-other type_ other same = ap (λ test. if test then Some type_ else completed type_ other) same

@@ -9,7 +9,7 @@ use Rattle.meaning_types.specs.Types.{TypeTree}
 use Rattle.meaning_types.specs.Equality.{all_kinds, kind_number}
 use Rattle.c_types.specs.declared.form.Form.TheVariants as forms
 use Rattle.c_types.specs.declared.form.Shape.{Shape}
-use Rattle.c_types.specs.Rows.{Row, types_of, Grows, JoinsRight, MayJoin}
+use Rattle.c_types.specs.Rows.{Row, types_of, Grows, JoinsRight}
 use Rattle.c_types.specs.Table.{integer_kind, plain_integer, plain_integers}
 use Rattle.c_types.proofs.Joins.{own-stands}
 use Rattle.c_types.proofs.Lists.{slice_get-append, last_place}
@@ -71,9 +71,6 @@ integers-more old new k number kind are at grows one stands =
     by (t ∷ u ∷ more) found few = absurd (omega arith)
 
 module _ (rows : List Row) (kind : IntKind) (shape : Shape) (own : ℕ) (is_own : own ≡ length rows) (is : shape ≡ bare_shape (forms.Integer kind)) where
-  pub integer-may : MayJoin rows shape
-  integer-may = subst (MayJoin rows) (sym is) (record { inside = tt; normal = tt })
-
   pub integer-right : JoinsRight rows shape (record { bare = own; plain = own })
   integer-right =
       subst (λ s. JoinsRight rows s (record { bare = own; plain = own })) (sym is)

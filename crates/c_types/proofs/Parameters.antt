@@ -37,14 +37,6 @@ pub partly-none : (old : List TypeTree) (answer : ℕ) (all : List TypeId) (vari
 partly-none old answer all variadic shape types number is stands =
     record { done = NoTypes; stands = stands ∙ ap (λ s. Some (type_seen old s)) is; whole = types_onto-none old all }
 
--- at the end no parameter is left
-pub partly-all : (old : List TypeTree) (answer : ℕ) (all : List TypeId) (variadic : Bool) (rest : List TypeId) (types : List TypeTree) (number : ℕ)
-    → rest ≡ [] → IsPartly old answer all variadic rest types number
-    → slice_get types number ≡ Some (Typed (FunctionTree (type_numbered old answer) (types_numbered old all) variadic) no_qualifiers no_flags)
-partly-all old answer all variadic rest types number none partly =
-    partly.stands
-    ∙ ap (λ types. Some (Typed (FunctionTree (type_numbered old answer) types variadic) no_qualifiers no_flags)) (ap (λ ids. types_onto old ids partly.done) (sym none) ∙ partly.whole)
-
 module _ (before rows : List Row) (are : AreRows rows) (grows : Grows before rows) (answer : ℕ) (all rest : List TypeId) (variadic : Bool) (number : ℕ)
     (partly : IsPartly (types_of before) answer all variadic rest (types_of rows) number) (first : ℕ) (known : first < length (types_of before))
     (shape : Shape) (is : shape ≡ bare_shape (forms.Parameter first number)) where

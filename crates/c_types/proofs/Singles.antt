@@ -2,7 +2,7 @@
 use Rattle.std.proofs.Common.{◌≡◌, ℕ, ◌<◌, Bool, true, false, List, Option, Some, None, length, slice_get, get_or, refl, sym, ap, ◌∙◌, subst, arith}
 use Rattle.std.proofs.lemmas.Bool.{false≢true}
 use Rattle.std.proofs.lemmas.Option.{slice_get-get_or}
-use Rattle.meaning_types.specs.Types.{Qualifiers, Flags, TypeTree, Typed, ArrayTree, no_qualifiers, no_flags}
+use Rattle.meaning_types.specs.Types.{Qualifiers, Flags, TypeTree, Typed, no_qualifiers, no_flags}
 use Rattle.meaning_types.specs.Marks.{IsNormal, marked}
 use Rattle.c_types.specs.declared.form.SpaceKey.TheVariants as keys
 use Rattle.c_types.specs.declared.form.Marks.{Marks}
@@ -10,10 +10,9 @@ use Rattle.c_types.specs.declared.form.Form.{Form}
 use Rattle.c_types.specs.declared.form.Form.TheVariants as forms
 use Rattle.c_types.specs.declared.form.Shape.{Shape}
 use Rattle.c_types.specs.Forms.{array_form, may_be_marked}
-use Rattle.c_types.specs.Rows.{Row, type_numbered, form_seen, type_seen, types_of, array_numbered, qualifiers_in, flags_in, IsInside, AreRows, MayJoin}
+use Rattle.c_types.specs.Rows.{Row, type_numbered, form_seen, type_seen, types_of, qualifiers_in, flags_in, IsInside, AreRows, MayJoin}
 use Rattle.c_types.proofs.RowLemmas.{length-types_of, numbered-row}
-use Rattle.c_types.proofs.Forms.{numbered-is}
-use Rattle.c_types.proofs.Arrays.{array-form, marked-form}
+use Rattle.c_types.proofs.Arrays.{marked-form}
 
 -- the shape of a form with these marks, and of one without
 abbrev pub marked_shape : Form → Marks → Shape
@@ -61,13 +60,3 @@ module _ (rows : List Row) (are : AreRows rows) where
 pub marked-type : (types : List TypeTree) (form : Form) (marks : Marks) (shape : Shape) → shape ≡ marked_shape form marks → may_be_marked form ≡ true
     → type_seen types shape ≡ marked (qualifiers_in marks) (flags_in marks) (Typed (form_seen types form) no_qualifiers no_flags)
 marked-type types form marks shape is may = ap (type_seen types) is ∙ marked-form types form marks may
-
--- an array of a marked element is the marked array
-pub array-type : (types : List TypeTree) (old : List TypeTree) (element inner : ℕ) (count : Option ℕ) (form : Form) (shape : Shape) (marks : Marks)
-    → form ≡ array_form inner count → shape ≡ bare_shape form
-    → slice_get types inner ≡ Some (marked (qualifiers_in marks) (flags_in marks) (type_numbered old element))
-    → type_seen types shape ≡ marked (qualifiers_in marks) (flags_in marks) (array_numbered old element count)
-array-type types old element inner count form shape marks is_form is stands =
-    ap (type_seen types) (is ∙ ap bare_shape is_form)
-    ∙ ap (λ base. Typed base no_qualifiers no_flags) (array-form types inner count)
-    ∙ ap (λ t. Typed (ArrayTree t count) no_qualifiers no_flags) (numbered-is types inner (marked (qualifiers_in marks) (flags_in marks) (type_numbered old element)) stands)

@@ -13,7 +13,7 @@ use Rattle.c_types.specs.contracts.bodies.NamedPartialEq.TheImpl as named_keys
 use Rattle.c_types.specs.declared.form.Marking.{Marking}
 use Rattle.c_types.specs.Rows.{Row, types_of, AreRows, Grows}
 use Rattle.c_types.specs.Levels.{AreMarkings}
-use Rattle.c_types.specs.Table.{TypeTable, Extends, TellsNoMore, IsBodyOver, IsKept, is_named, plain_integers, with_name}
+use Rattle.c_types.specs.Table.{TypeTable, Extends, IsBodyOver, IsKept, is_named, plain_integers, with_name}
 use Rattle.c_types.proofs.Integers.{integers-stand}
 use Rattle.c_types.proofs.RowLemmas.{types_of-Grows, stands-Grows}
 
@@ -76,9 +76,6 @@ module _ (old new : List Row) (bodies : List (ℕ × AggregateBody)) (names : Li
   pub table-extends : Grows old new → Extends table grown
   table-extends grows =
       subst (λ t. Extends t grown) is (record { types = types_of-Grows old new grows; bodies = ([], sym (append-nil bodies)); names = ([], sym (append-nil names)) })
-
-  pub table-tells : TellsNoMore table grown
-  table-tells = subst (λ t. TellsNoMore t grown) is (record { bodies = refl; names = refl })
 
 -- Names
 

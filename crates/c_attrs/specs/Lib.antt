@@ -1,0 +1,5 @@
+pub mod Seen
+pub mod Meanings
+pub mod Fronts
+pub mod Cuts
+pub mod Parts

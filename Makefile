@@ -9,7 +9,7 @@ WORKBENCH := build/workbench
 # Names with spaces, which a program's own run reads, are none for make.
 SOURCES := $(shell find crates crates.txt HANDLES -name out -prune -o -type f ! -name '* *' -print)
 
-.PHONY: all run test edits believe names docs costs bench fuzz rows headers smoke install clean kit
+.PHONY: all run test edits believe names docs costs bench fuzz rows compare headers smoke install clean kit
 
 all: $(PROGRAM)
 
@@ -56,8 +56,9 @@ docs:
 costs: | kit
 	$(PYTHON) scripts/costs.py $(RT)
 
+# All, or the calls of some families: make bench FAMILIES=macros
 bench: $(PROGRAM) $(WORKBENCH)
-	$(PYTHON) scripts/bench.py $(PROGRAM) $(WORKBENCH)
+	$(PYTHON) scripts/bench.py $(PROGRAM) $(WORKBENCH) $(FAMILIES)
 
 fuzz: $(PROGRAM) $(WORKBENCH)
 	$(PYTHON) scripts/fuzz.py $(PROGRAM) $(WORKBENCH)
@@ -65,6 +66,10 @@ fuzz: $(PROGRAM) $(WORKBENCH)
 # Worked rows over the checker that fuzz compares the program with.
 rows:
 	$(PYTHON) scripts/preprocessing_rows.py $$(grep -l '^[$$] workbench' crates/cases/data/*.txt) scripts/reference/rows/*.txt
+
+# Expressions whose types and values gcc says, beside the committed examples.
+compare:
+	$(PYTHON) scripts/constants.py
 
 # Files of a kernel tree, preprocessed by the program and by the compiler: make headers LINUX=/path/to/a/tree FILES="lib/ctype.c"
 headers: $(PROGRAM)

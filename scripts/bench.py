@@ -2,7 +2,9 @@
 """Measures the program on files of several kinds, and sparse and tcc beside it where they are installed; then calls of
 libraries that no command makes yet.
 
-usage: bench.py PROGRAM WORKBENCH
+usage: bench.py PROGRAM WORKBENCH [FAMILY..]
+
+With families, as `macros` or `#if`, only the calls of these are measured.
 
 Prints for each file its bytes and tokens, the processor time of a check, also by the token, and the peak
 memory, also by the token where it is large. Where valgrind is installed, a column has the instructions by the
@@ -12,8 +14,9 @@ which WORKBENCH makes.
 
 Exits 1 where a file of the first form takes more than a tenth longer by the token than a smaller one does,
 once the smaller one takes long enough to be measured, or where a largest file takes more than five seconds; where a
-call takes more than eleven times as long with ten times as many tokens, or macros in chains more than sixteen times; and
-where 2,097,151 replacements take more than 0.3 seconds.
+call takes more than eleven times as long with ten times as many tokens, or macros in chains more than sixteen times;
+where 2,097,151 replacements take more than 0.3 seconds; and where one of the deepest and longest texts has another answer
+than it must.
 """
 import os
 import re
@@ -303,6 +306,35 @@ def of_scopes(name, make):
     return Call("scopes: " + name, ["scopes"], [], make, CALL_TOKENS, MOST_CALL_RATIO)
 
 
+def doubled_name(levels):
+    """A name that each level of calls pastes to itself: 2^levels letters."""
+    return defined([b"c(a) a ## a", b"d(a) c(a)"], b"d(" * levels + b"x" + b")" * levels)
+
+
+def long_argument(tokens):
+    """A call whose one argument has so many tokens."""
+    return defined([b"f(a) a"], b"f(" + b"x " * tokens + b")")
+
+
+class Extreme(NamedTuple):
+    """A text of macros that is as deep or as long as a stranger's may be, and its answer: the status, and the first line."""
+
+    name: str
+    make: Callable
+    size: int
+    status: int
+    line: bytes
+
+
+EXTREMES = (
+    Extreme("macros: nested calls", nested_calls, 100000, 0, b"1"),
+    Extreme("macros: a chain", chain, 100000, 0, b"a100000"),
+    Extreme("macros: a long argument", long_argument, 1000000, 0, b" ".join([b"x"] * 1000000)),
+    Extreme("macros: parameters", parameters, 10000, 0, b" ".join(b"p%d" % number for number in range(10000))),
+    # want of memory, as the tools say it
+    Extreme("macros: a name of 2^40", doubled_name, 40, 1, b""),
+)
+
 DOUBLED = of_macros("each twice the next", doubled, (20,))
 
 CALLS = (
@@ -496,30 +528,69 @@ def doubles_in_time(workbench):
     return print_rows([checker], DOUBLED.name, text, None) <= MOST_DOUBLING_SECONDS
 
 
-def main():
-    # A check ends with 0 or 1, and with 2 or 7 where it refuses a file.
-    program = [os.path.abspath(sys.argv[1])]
-    checkers = [Checker("ksparse", program, (0, 1, 2, 7))]
-    for name, command in PEERS:
-        if shutil.which(command[0]):
-            checkers.append(Checker(name, command, (0,)))
-    heads = ["bytes", "tokens", "seconds", "peak KiB", "ns/token", "bytes/token", "instr/token"]
-    print_line(["file", *heads])
+def has_its_answer(workbench, extreme):
+    """Whether such a text has the answer that it must have. Prints its line."""
+    command = [workbench, "expand", "t.c", *DOUBLED.behind]
+    text = extreme.make(extreme.size)
+    checker = Checker(extreme.name, command[:2], (extreme.status,), DOUBLED.behind)
+    print_row(checker, extreme.name, text, extreme.make(min(extreme.size, 1000)))
+    with Folder(text) as folder:
+        done = subprocess.run(command, cwd=folder, stdout=subprocess.PIPE, stderr=subprocess.DEVNULL, check=False)
+    if done.returncode == extreme.status and done.stdout.split(b"\n")[0] == extreme.line:
+        return True
+    print(f"bench: {extreme.name}: another answer, or status {done.returncode}")
+    return False
+
+
+def calls_pass(workbench, families):
+    """Whether the calls of these families, or of all, take no more than they may. Prints their lines."""
+
+    def is_asked(name):
+        return not families or name.split(":")[0] in families
+
+    passed = True
+    if is_asked(DOUBLED.name) and not doubles_in_time(workbench):
+        passed = False
+    for call in CALLS:
+        if is_asked(call.name) and not call_grows_in_step(workbench, call):
+            passed = False
+    for extreme in EXTREMES:
+        if is_asked(extreme.name) and not has_its_answer(workbench, extreme):
+            passed = False
+    return passed
+
+
+def program_passes(checkers):
+    """Whether the checks of files take no more than they may. Prints their lines."""
     passed = grows_in_step(checkers)
     for name, make, has_tokens in LARGEST:
         counted = make(COUNTED_BYTES) if has_tokens else None
-        seconds = print_rows(checkers, name, make(MOST_BYTES), counted)
-        if seconds > MOST_SECONDS:
+        if print_rows(checkers, name, make(MOST_BYTES), counted) > MOST_SECONDS:
             passed = False
     print_stages(checkers[0])
+    return passed
+
+
+def checkers_of(program):
+    """The program, and its peers that are installed."""
+    # A check ends with 0 or 1, and with 2 or 7 where it refuses a file.
+    checkers = [Checker("ksparse", [program], (0, 1, 2, 7))]
+    for name, command in PEERS:
+        if shutil.which(command[0]):
+            checkers.append(Checker(name, command, (0,)))
+    return checkers
+
+
+def main():
+    program, workbench = map(os.path.abspath, sys.argv[1:3])
+    families = sys.argv[3:]
+    heads = ["bytes", "tokens", "seconds", "peak KiB", "ns/token", "bytes/token", "instr/token"]
+    passed = True
+    if not families:
+        print_line(["file", *heads])
+        passed = program_passes(checkers_of(program))
     print_line(["call", *heads])
-    workbench = os.path.abspath(sys.argv[2])
-    if not doubles_in_time(workbench):
-        passed = False
-    for call in CALLS:
-        if not call_grows_in_step(workbench, call):
-            passed = False
-    return 0 if passed else 1
+    return 0 if calls_pass(workbench, families) and passed else 1
 
 
 if __name__ == "__main__":

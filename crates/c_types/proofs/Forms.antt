@@ -1,13 +1,13 @@
 -- Shapes over types: equal types have equal shapes, and a shape stays what it is where the types grow.
 use Rattle.std.proofs.Common.{◌≡◌, ℕ, ◌<◌, List, ◌++◌, Some, None, length, slice_get, unwrap_or, refl, sym, ap, ◌∙◌, subst, arith, length-append}
 use Rattle.std.proofs.lemmas.Option.{slice_get-get_or, unwrap_or-slice_get}
-use Rattle.meaning_types.specs.Types.{Qualifiers, Flags, TypeTree, Typed, BaseTree, PointerTree, ArrayTree, FunctionTree, NoTypes, MoreTypes, no_qualifiers, no_flags, bare, bare_base, bare_types, without_flags, base_without_flags, types_without_flags}
+use Rattle.meaning_types.specs.Types.{Qualifiers, Flags, TypeTree, Typed, PointerTree, ArrayTree, FunctionTree, NoTypes, MoreTypes, no_qualifiers, no_flags, bare, bare_base, bare_types, without_flags, base_without_flags, types_without_flags}
 use Rattle.c_types.specs.declared.form.SpaceKey.{SpaceKey}
 use Rattle.c_types.specs.declared.form.SpaceKey.TheVariants as keys
 use Rattle.c_types.specs.declared.form.Form.{Form}
 use Rattle.c_types.specs.declared.form.Form.TheVariants as forms
 use Rattle.c_types.specs.declared.form.Shape.{Shape}
-use Rattle.c_types.specs.Rows.{no_type, type_numbered, result_of, parameter_types, is_variadic, IsFunction, space_seen, form_seen, type_seen, IsInside, IsEarlier, StandOnce}
+use Rattle.c_types.specs.Rows.{no_type, type_numbered, base_of, result_of, parameter_types, is_variadic, IsFunction, space_seen, form_seen, type_seen, IsInside, IsEarlier, StandOnce}
 use Rattle.c_types.proofs.Lists.{slice_get-append}
 
 -- Numbers
@@ -65,9 +65,6 @@ same_form types apart (forms.Aggregate m v) (forms.Aggregate n w) inside other e
     let is_union : v ≡ w = cc e in
     λ i. forms.Aggregate (number i) (is_union i)
 same_form types apart f g inside other e = absurd (cc e)
-
-abbrev base_of : TypeTree → BaseTree
-base_of (Typed base qualifiers flags) = base
 
 abbrev qualifiers_of : TypeTree → Qualifiers
 qualifiers_of (Typed base qualifiers flags) = qualifiers

@@ -9,7 +9,7 @@ use Rattle.c_types.proofs.Lists.{slice_get-last, stands-append}
 use Rattle.c_types.proofs.RowLemmas.{length-types_of, seen-Grows, stands-Grows, Grows-Grows}
 
 -- the type that joins stands at the end
-own-stands : (rows : List Row) (tree : TypeTree) (own : ℕ) → own ≡ length rows → slice_get (types_of rows ++ tree ∷ []) own ≡ Some tree
+pub own-stands : (rows : List Row) (tree : TypeTree) (own : ℕ) → own ≡ length rows → slice_get (types_of rows ++ tree ∷ []) own ≡ Some tree
 own-stands rows tree own is =
     ap (slice_get (types_of rows ++ tree ∷ [])) (is ∙ sym (length-types_of rows)) ∙ slice_get-last (types_of rows) tree
 

@@ -1,4 +1,4 @@
--- Shapes that compare alike are one.
+-- Shapes and markings that compare alike are one.
 use Rattle.std.proofs.Common.{◌≡◌, ℕ, Bool, true, false, refl, ap}
 use mathlib.Core.Bool.{beq}
 use Rattle.std.proofs.lemmas.Bool.{and_parts, and_from, eqb-true, false≢true}
@@ -11,13 +11,20 @@ use Rattle.c_types.specs.declared.form.SpaceKey.TheVariants as keys
 use Rattle.c_types.specs.declared.form.Form.{Form}
 use Rattle.c_types.specs.declared.form.Form.TheVariants as forms
 use Rattle.c_types.specs.declared.form.Shape.{Shape}
+use Rattle.c_types.specs.declared.form.Marks.{Marks}
+use Rattle.c_types.specs.declared.form.Marking.{Marking}
 use Rattle.c_types.specs.contracts.form.SpaceKeyPartialEq.TheImpl as space_keys
 use Rattle.c_types.specs.contracts.form.FormPartialEq.TheImpl as form_keys
 use Rattle.c_types.specs.contracts.form.ShapePartialEq.TheImpl as shape_keys
+use Rattle.c_types.specs.contracts.form.MarksPartialEq.TheImpl as marks_keys
+use Rattle.c_types.specs.contracts.form.MarkingPartialEq.TheImpl as marking_keys
 
 -- the derived comparison
 abbrev pub shape_eq : Shape → Shape → Bool
 shape_eq = shape_keys.eq-value.it
+
+abbrev pub marking_eq : Marking → Marking → Bool
+marking_eq = marking_keys.eq-value.it
 
 same_bool : (a b : Bool) → beq a b ≡ true → a ≡ b
 same_bool true true h = refl
@@ -116,3 +123,19 @@ pub key_again : (a : Shape) → shape_eq a a ≡ true
 key_again a =
     and_from _ _ (form_again a.form)
     (and_from _ _ (bool_again a.is_const) (and_from _ _ (bool_again a.is_volatile) (and_from _ _ (bool_again a.noderef) (space_again a.space))))
+
+same_marks : (a b : Marks) → marks_keys.eq-value.it a b ≡ true → a ≡ b
+same_marks a b h =
+    let is_const = same_bool a.is_const b.is_const (and_parts _ _ h).0 in
+    let more = and_parts _ _ (and_parts _ _ h).1 in
+    let is_volatile = same_bool a.is_volatile b.is_volatile more.0 in
+    let last = and_parts _ _ more.1 in
+    let noderef = same_bool a.noderef b.noderef last.0 in
+    let space = same_space_key a.space b.space last.1 in
+    λ i. record { is_const = is_const i; is_volatile = is_volatile i; noderef = noderef i; space = space i }
+
+pub same_marking : (a b : Marking) → marking_eq a b ≡ true → a ≡ b
+same_marking a b h =
+    let number = eqb-true a.number b.number (and_parts _ _ h).0 in
+    let marks = same_marks a.marks b.marks (and_parts _ _ h).1 in
+    λ i. record { number = number i; marks = marks i }

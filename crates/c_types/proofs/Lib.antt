@@ -6,3 +6,10 @@ mod Keys
 mod Finding
 mod Joins
 mod Singles
+mod Parameters
+mod LevelLemmas
+mod MarkingLemmas
+mod Told
+mod Integers
+mod TableLemmas
+mod CompositeLemmas

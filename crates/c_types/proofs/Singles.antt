@@ -2,7 +2,7 @@
 use Rattle.std.proofs.Common.{◌≡◌, ℕ, ◌<◌, Bool, true, false, List, Option, Some, None, length, slice_get, get_or, refl, sym, ap, ◌∙◌, subst, arith}
 use Rattle.std.proofs.lemmas.Bool.{false≢true}
 use Rattle.std.proofs.lemmas.Option.{slice_get-get_or}
-use Rattle.meaning_types.specs.Types.{Qualifiers, Flags, TypeTree, Typed, no_qualifiers, no_flags}
+use Rattle.meaning_types.specs.Types.{Qualifiers, Flags, TypeTree, Typed, ArrayTree, no_qualifiers, no_flags}
 use Rattle.meaning_types.specs.Marks.{IsNormal, marked}
 use Rattle.c_types.specs.declared.form.SpaceKey.TheVariants as keys
 use Rattle.c_types.specs.declared.form.Marks.{Marks}
@@ -12,7 +12,8 @@ use Rattle.c_types.specs.declared.form.Shape.{Shape}
 use Rattle.c_types.specs.Forms.{array_form, may_be_marked}
 use Rattle.c_types.specs.Rows.{Row, type_numbered, form_seen, type_seen, types_of, array_numbered, qualifiers_in, flags_in, IsInside, AreRows, MayJoin}
 use Rattle.c_types.proofs.RowLemmas.{length-types_of, numbered-row}
-use Rattle.c_types.proofs.Arrays.{array-form, marked-form, marked-none}
+use Rattle.c_types.proofs.Forms.{numbered-is}
+use Rattle.c_types.proofs.Arrays.{array-form, marked-form}
 
 -- the shape of a form with these marks, and of one without
 abbrev pub marked_shape : Form → Marks → Shape
@@ -23,13 +24,13 @@ bare_shape form = record { form = form; is_const = false; is_volatile = false; n
 
 module _ (rows : List Row) (are : AreRows rows) where
   -- each type is normal
-  normal-numbered : (number : ℕ) → number < length (types_of rows) → IsNormal (type_numbered (types_of rows) number)
+  pub normal-numbered : (number : ℕ) → number < length (types_of rows) → IsNormal (type_numbered (types_of rows) number)
   normal-numbered number below =
       let row : Row = get_or rows number (bare_shape forms.Void, record { bare = 0; plain = 0 }) in
       let found : slice_get rows number ≡ Some row = slice_get-get_or rows number (bare_shape forms.Void, record { bare = 0; plain = 0 }) (omega (arith, below, length-types_of rows)) in
       subst IsNormal (sym (numbered-row rows are number row found)) (are.each number row found).normal
 
-  form-normal : (form : Form) (qualifiers : Qualifiers) (flags : Flags) → IsInside (types_of rows) form → may_be_marked form ≡ true → IsNormal (Typed (form_seen (types_of rows) form) qualifiers flags)
+  pub form-normal : (form : Form) (qualifiers : Qualifiers) (flags : Flags) → IsInside (types_of rows) form → may_be_marked form ≡ true → IsNormal (Typed (form_seen (types_of rows) form) qualifiers flags)
   form-normal (forms.Pointer target) qualifiers flags inside may = normal-numbered target inside
   form-normal (forms.Array element count) qualifiers flags inside may = absurd (false≢true may)
   form-normal (forms.OpenArray element) qualifiers flags inside may = absurd (false≢true may)
@@ -61,11 +62,12 @@ pub marked-type : (types : List TypeTree) (form : Form) (marks : Marks) (shape :
     → type_seen types shape ≡ marked (qualifiers_in marks) (flags_in marks) (Typed (form_seen types form) no_qualifiers no_flags)
 marked-type types form marks shape is may = ap (type_seen types) is ∙ marked-form types form marks may
 
-pub array-type : (types : List TypeTree) (element : ℕ) (count : Option ℕ) (form : Form) (shape : Shape) (marks : Marks) → form ≡ array_form element count → shape ≡ bare_shape form
-    → qualifiers_in marks ≡ no_qualifiers → flags_in marks ≡ no_flags
-    → type_seen types shape ≡ marked (qualifiers_in marks) (flags_in marks) (array_numbered types element count)
-array-type types element count form shape marks is_form is qualifiers flags =
+-- an array of a marked element is the marked array
+pub array-type : (types : List TypeTree) (old : List TypeTree) (element inner : ℕ) (count : Option ℕ) (form : Form) (shape : Shape) (marks : Marks)
+    → form ≡ array_form inner count → shape ≡ bare_shape form
+    → slice_get types inner ≡ Some (marked (qualifiers_in marks) (flags_in marks) (type_numbered old element))
+    → type_seen types shape ≡ marked (qualifiers_in marks) (flags_in marks) (array_numbered old element count)
+array-type types old element inner count form shape marks is_form is stands =
     ap (type_seen types) (is ∙ ap bare_shape is_form)
-    ∙ ap (λ base. Typed base no_qualifiers no_flags) (array-form types element count)
-    ∙ sym (marked-none (array_numbered types element count))
-    ∙ (λ i. marked (sym qualifiers i) (sym flags i) (array_numbered types element count))
+    ∙ ap (λ base. Typed base no_qualifiers no_flags) (array-form types inner count)
+    ∙ ap (λ t. Typed (ArrayTree t count) no_qualifiers no_flags) (numbered-is types inner (marked (qualifiers_in marks) (flags_in marks) (type_numbered old element)) stands)

@@ -1,3 +1,4 @@
 pub mod Forms
 pub mod Rows
+pub mod Levels
 pub mod Table

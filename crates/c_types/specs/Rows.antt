@@ -1,6 +1,7 @@
 -- The rows of the table: each is a type's outermost level over earlier types, with the numbers of what is left of it.
-use Rattle.std.specs.Prelude.{◌≡◌, ℕ, ◌<◌, ◌≤◌, ◌^◌, Bool, false, List, [], ◌∷◌, ◌++◌, Option, Some, None, length, slice_get, unwrap_or}
+use Rattle.std.specs.Prelude.{◌≡◌, ℕ, ◌<◌, ◌≤◌, ◌^◌, Bool, false, List, [], ◌∷◌, ◌++◌, Option, Some, None, if◌then◌else◌, length, slice_get, unwrap_or}
 use Rattle.meaning_types.specs.Types.{Space, NoSpace, NumberedSpace, NamedSpace, Qualifiers, Flags, TypeTree, Typed, BaseTree, VoidTree, IntegerTree, RestrictedTree, PointerTree, ArrayTree, FunctionTree, AggregateTree, TypeTrees, NoTypes, MoreTypes, no_qualifiers, no_flags, bare, without_flags}
+use Rattle.meaning_types.specs.Equality.{are_same}
 use Rattle.meaning_types.specs.Marks.{IsNormal}
 use Rattle.sparse_model.specs.declared.ids.TypeId.{TypeId}
 use Rattle.c_types.specs.declared.form.SpaceKey.{SpaceKey}
@@ -22,6 +23,10 @@ no_type = Typed VoidTree no_qualifiers no_flags
 -- the type with this number
 abbrev pub type_numbered : List TypeTree → ℕ → TypeTree
 type_numbered types number = unwrap_or (slice_get types number) no_type
+
+-- what a type is, apart from its qualifiers and flags
+abbrev pub base_of : TypeTree → BaseTree
+base_of (Typed base qualifiers flags) = base
 
 -- The parts of a function type; of another type they say nothing
 
@@ -82,6 +87,12 @@ function_numbered types answer parameters variadic =
 -- an array of such elements
 abbrev pub array_numbered : List TypeTree → ℕ → Option ℕ → TypeTree
 array_numbered types element count = Typed (ArrayTree (type_numbered types element) count) no_qualifiers no_flags
+
+-- an array of this length, if there is one, where the other type is the same as its element
+abbrev pub array_if_same : TypeTree → TypeTree → Option ℕ → Option TypeTree
+array_if_same element other None = None
+array_if_same element other (Some count) =
+    if are_same element other then Some (Typed (ArrayTree element (Some count)) no_qualifiers no_flags) else None
 
 -- the qualifiers and flags that are added
 abbrev pub qualifiers_in : Marks → Qualifiers

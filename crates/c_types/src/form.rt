@@ -1,5 +1,6 @@
 // What one entry of the table holds: the outermost level of a type, over the numbers of its parts.
-use sparse_model::Space;
+use crate::shapes::OuterBase;
+use sparse_model::{Restrict, Space, TypeId};
 use vocabulary::IntKind;
 
 /// An address space, by the number of its name where it has one.
@@ -41,12 +42,19 @@ pub struct Shape {
 }
 
 /// Qualifiers and flags that are added to a type.
-#[derive(Clone, Copy)]
+#[derive(Clone, Copy, PartialEq, Eq, Hash)]
 pub struct Marks {
     pub is_const: bool,
     pub is_volatile: bool,
     pub noderef: bool,
     pub space: SpaceKey,
+}
+
+/// A type, and what is added to it.
+#[derive(Clone, Copy, PartialEq, Eq, Hash)]
+pub struct Marking {
+    pub number: u32,
+    pub marks: Marks,
 }
 
 /// The numbers of what is left of a type without const and volatile at every level, and without flags
@@ -57,9 +65,27 @@ pub struct Reduced {
     pub plain: u32,
 }
 
+impl SpaceKey {
+    ghost use Rattle.std.specs.Prelude.{◌≡◌};
+    ghost use Rattle.meaning_types.specs.Marks.{later_space};
+    ghost use Rattle.c_types.specs.Rows.{space_seen};
+
+    /// The later space, if it is one.
+    fn replaced_by(self, later: SpaceKey) -> SpaceKey
+        ensures { space_seen result ≡ later_space (space_seen self) (space_seen later) }
+    {
+        match later {
+            SpaceKey::Absent => self,
+            SpaceKey::Number(number) => SpaceKey::Number(number),
+            SpaceKey::Named(name) => SpaceKey::Named(name),
+        }
+    }
+}
+
 impl Form {
     ghost use Rattle.std.specs.Prelude.{◌≡◌};
-    ghost use Rattle.c_types.specs.Forms.{array_form, target_in};
+    ghost use Rattle.c_types.specs.Forms.{array_form, array_in, element_in, function_in, kind_in, may_be_marked, outer_in, parameter_in, target_in, with_element};
+    ghost use Rattle.vocabulary.specs.declared.int_kind.IntKind.{IntKind};
 
     /// An array of so many elements, if the length is known.
     pub fn array_of(element: u32, count: Option<u64>) -> Form
@@ -78,6 +104,104 @@ impl Form {
         match self {
             Form::Pointer(target) => Some(target),
             _ => None,
+        }
+    }
+
+    /// The element of an array.
+    pub fn element(self) -> Option<u32>
+        ensures { result ≡ element_in self }
+    {
+        match self {
+            Form::Array(element, _) => Some(element),
+            Form::OpenArray(element) => Some(element),
+            _ => None,
+        }
+    }
+
+    /// The element of an array, and its length if it is known.
+    pub fn array(self) -> Option<(u32, Option<u64>)>
+        ensures { result ≡ array_in self }
+    {
+        match self {
+            Form::Array(element, count) => Some((element, Some(count))),
+            Form::OpenArray(element) => Some((element, None)),
+            _ => None,
+        }
+    }
+
+    /// The array with another element.
+    pub fn with_element(self, element: u32) -> Form
+        ensures { result ≡ with_element self element }
+    {
+        match self {
+            Form::Array(_, count) => Form::Array(element, count),
+            Form::OpenArray(_) => Form::OpenArray(element),
+            _ => self,
+        }
+    }
+
+    /// The kind of an integer, restricted or not.
+    pub fn kind(self) -> Option<IntKind>
+        ensures { result ≡ kind_in self }
+    {
+        match self {
+            Form::Integer(kind) => Some(kind),
+            Form::Restricted(kind, _) => Some(kind),
+            _ => None,
+        }
+    }
+
+    /// The first parameter of a function, and the function without it.
+    pub fn parameter(self) -> Option<(u32, u32)>
+        ensures { result ≡ parameter_in self }
+    {
+        match self {
+            Form::Parameter(first, rest) => Some((first, rest)),
+            _ => None,
+        }
+    }
+
+    /// The result of a function without parameters, and whether arguments may follow.
+    pub fn function(self) -> Option<(u32, bool)>
+        ensures { result ≡ function_in self }
+    {
+        match self {
+            Form::Function(answer, variadic) => Some((answer, variadic)),
+            _ => None,
+        }
+    }
+
+    /// What callers see of it, unless it is a function.
+    pub fn outer_base(self) -> Option<OuterBase>
+        ensures { result ≡ outer_in self }
+    {
+        match self {
+            Form::Void => Some(OuterBase::Void),
+            Form::Integer(kind) => Some(OuterBase::Integer(kind, None)),
+            Form::Restricted(kind, token) => Some(OuterBase::Integer(kind, Some(Restrict(token)))),
+            Form::Pointer(target) => Some(OuterBase::Pointer(TypeId(target))),
+            Form::Array(element, count) => Some(OuterBase::Array(TypeId(element), Some(count))),
+            Form::OpenArray(element) => Some(OuterBase::Array(TypeId(element), None)),
+            Form::Function(_, _) => None,
+            Form::Parameter(_, _) => None,
+            Form::Aggregate(token, is_union) => Some(OuterBase::Aggregate(token, is_union)),
+        }
+    }
+
+    /// Whether it has qualifiers and flags of its own, unlike an array and a function.
+    pub fn may_be_marked(self) -> bool
+        ensures { result ≡ may_be_marked self }
+    {
+        match self {
+            Form::Array(_, _) => false,
+            Form::OpenArray(_) => false,
+            Form::Function(_, _) => false,
+            Form::Parameter(_, _) => false,
+            Form::Void => true,
+            Form::Integer(_) => true,
+            Form::Restricted(_, _) => true,
+            Form::Pointer(_) => true,
+            Form::Aggregate(_, _) => true,
         }
     }
 }
@@ -105,7 +229,9 @@ impl Marks {
 }
 
 impl Shape {
-    ghost use Rattle.std.specs.Prelude.{◌≡◌, false};
+    ghost use Rattle.std.specs.Prelude.{◌≡◌, ◌||◌, false};
+    ghost use Rattle.meaning_types.specs.Marks.{later_space};
+    ghost use Rattle.c_types.specs.Rows.{space_seen};
     ghost use Rattle.c_types.specs.declared.form.SpaceKey.TheVariants.{Absent};
 
     /// The shape without const, volatile and flags.
@@ -131,6 +257,23 @@ impl Shape {
             is_volatile: marks.is_volatile,
             noderef: marks.noderef,
             space: marks.space,
+        }
+    }
+
+    /// The shape with these qualifiers and flags besides: a later space replaces its own.
+    pub fn with_marks(self, marks: Marks) -> Shape
+        ensures form { result.form ≡ self.form }
+        ensures is_const { result.is_const ≡ self.is_const || marks.is_const }
+        ensures is_volatile { result.is_volatile ≡ self.is_volatile || marks.is_volatile }
+        ensures noderef { result.noderef ≡ self.noderef || marks.noderef }
+        ensures space { space_seen result.space ≡ later_space (space_seen self.space) (space_seen marks.space) }
+    {
+        Shape {
+            form: self.form,
+            is_const: self.is_const || marks.is_const,
+            is_volatile: self.is_volatile || marks.is_volatile,
+            noderef: self.noderef || marks.noderef,
+            space: self.space.replaced_by(marks.space),
         }
     }
 }

@@ -1,9 +1,30 @@
 // What kinds of integers become before an operator takes them (C11 6.3.1).
 ghost use Rattle.std.specs.Prelude.{◌≡◌};
 ghost use Rattle.meaning_types.specs.Ranges.{width};
+ghost use Rattle.meaning_types.specs.Equality.{kind_number};
 ghost use Rattle.meaning_types.specs.Conversions.{common_kind, common_kind_of_signs, conversion_rank, higher_kind, is_signed, promoted, unsigned_of, usual};
 
 use sparse_model::IntKind;
+
+/// The number of a kind.
+pub fn kind_number(kind: IntKind) -> u32
+    ensures { result ≡ kind_number kind }
+{
+    match kind {
+        IntKind::Bool => 0,
+        IntKind::Char => 1,
+        IntKind::SChar => 2,
+        IntKind::UChar => 3,
+        IntKind::Short => 4,
+        IntKind::UShort => 5,
+        IntKind::Int => 6,
+        IntKind::UInt => 7,
+        IntKind::Long => 8,
+        IntKind::ULong => 9,
+        IntKind::LLong => 10,
+        IntKind::ULLong => 11,
+    }
+}
 
 /// The rank of a kind (C11 6.3.1.1 p1).
 pub fn rank(kind: IntKind) -> u32

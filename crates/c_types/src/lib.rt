@@ -5,13 +5,18 @@
 //! at [`Types`].
 #![tactic(auto)]
 
+mod bodies;
+mod composite;
 mod form;
 mod kinds;
+mod levels;
 mod making;
+mod reading;
 mod rows;
 mod shapes;
 mod table;
 
+pub use bodies::{AggregateBody, Member, MemberList, Named};
 pub use kinds::{bits, has_sign, promoted_kind, rank, usual_kind};
-pub use shapes::{ShapeBase, TypeIdList, TypeShape};
+pub use shapes::{OuterBase, OuterShape, ShapeBase, TypeIdList, TypeShape};
 pub use table::Types;

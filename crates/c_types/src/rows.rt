@@ -1,10 +1,27 @@
 // The rows of the table: each type once, with what is left of it.
 use crate::form::{Form, Reduced, Shape, SpaceKey};
 use indexmap::IndexMap;
+use sparse_model::IntKind;
 use std::alloc::{AllocError, Global};
 
 /// How many types a table may hold.
 const MAX_TYPES: usize = 1 << 30;
+
+/// The kinds in the order of their numbers.
+const KINDS: [IntKind; 12] = [
+    IntKind::Bool,
+    IntKind::Char,
+    IntKind::SChar,
+    IntKind::UChar,
+    IntKind::Short,
+    IntKind::UShort,
+    IntKind::Int,
+    IntKind::UInt,
+    IntKind::Long,
+    IntKind::ULong,
+    IntKind::LLong,
+    IntKind::ULLong,
+];
 
 /// Types by their numbers. A shape stands once, so equal types have equal numbers.
 #[derive(Drop)]
@@ -13,10 +30,11 @@ pub struct Rows {
 }
 
 impl Rows {
-    ghost use Rattle.std.specs.Prelude.{◌≡◌, ◌<◌, ◌≤◌, ◌+◌, ◌*◌, ◌^◌, [], Some, length, slice_get, IfSome, OnOk, OnErr, option_map};
+    ghost use Rattle.std.specs.Prelude.{◌≡◌, ◌<◌, ◌≤◌, ◌+◌, ◌*◌, ◌^◌, [], Some, length, slice_get, IfOk, IfSome, OnOk, OnErr, option_map};
     ghost use Rattle.indexmap.specs.IndexMap.{spare};
     ghost use Rattle.meaning_types.specs.Types.{bare, bare_base, without_flags, base_without_flags};
-    ghost use Rattle.c_types.specs.Table.{pointed_at};
+    ghost use Rattle.meaning_types.specs.Equality.{all_kinds};
+    ghost use Rattle.c_types.specs.Table.{plain_integers, pointed_at};
     ghost use Rattle.c_types.specs.Rows.{AreRows, Grows, IsFunction, IsInside, JoinsRight, MayJoin, form_seen, type_numbered, type_seen, types_of};
 
     /// No types, in no memory.
@@ -25,6 +43,37 @@ impl Rows {
     {
         Rows {
             rows: IndexMap::new(alloc),
+        }
+    }
+
+    /// The integer types of all kinds, each without qualifiers and flags.
+    pub fn of_integers(alloc: Global) -> Result<Rows, AllocError>
+        ensures rows { IfOk result (λ rows. AreRows rows.rows.entries) }
+        ensures types { IfOk result (λ rows. types_of rows.rows.entries ≡ plain_integers) }
+    {
+        let mut rows = Rows::new(alloc);
+        rows.reserve(KINDS.len())?;
+        rows.join_integers(&KINDS);
+        Ok(rows)
+    }
+
+    // The integer types of these kinds, which are all, join the rows, of which there are none.
+    fn join_integers(&mut self, kinds: &[IntKind])
+        requires none { self.old.rows.entries ≡ [] }
+        requires all { kinds.now ≡ all_kinds }
+        requires room { 12 ≤ spare self.old.rows }
+        ensures rows { AreRows self.new.rows.entries }
+        ensures types { types_of self.new.rows.entries ≡ plain_integers }
+    {
+        for &kind in kinds {
+            let own = self.len();
+            self.join(
+                Shape::unmarked(Form::Integer(kind)),
+                Reduced {
+                    bare: own,
+                    plain: own,
+                },
+            );
         }
     }
 

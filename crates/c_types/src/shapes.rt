@@ -29,3 +29,26 @@ pub struct TypeShape {
     pub noderef: bool,
     pub space: Space,
 }
+
+/// What a type is, apart from its qualifiers and flags, with the number of a function's parameters in their
+/// place.
+#[derive(Clone, Copy)]
+pub enum OuterBase {
+    Void,
+    Integer(IntKind, Option<Restrict>),
+    Pointer(TypeId),
+    Array(TypeId, Option<u64>),
+    /// A result, how many parameters there are, and whether more arguments may follow.
+    Function(TypeId, u32, bool),
+    Aggregate(u32, bool),
+}
+
+/// The outermost level of a type.
+#[derive(Clone, Copy)]
+pub struct OuterShape {
+    pub base: OuterBase,
+    pub is_const: bool,
+    pub is_volatile: bool,
+    pub noderef: bool,
+    pub space: Space,
+}

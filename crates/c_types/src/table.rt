@@ -1,55 +1,74 @@
 // The table of types as its callers see it.
-ghost use Rattle.std.specs.Prelude.{◌≡◌, ◌<◌, [], Some, IfOk, IfSome, OnOk, OnErr, option_map, slice_get};
-ghost use Rattle.c_types.specs.Rows.{flags_in, qualifiers_in, space_seen};
+ghost use Rattle.std.specs.Prelude.{◌≡◌, ◌<◌, ◌↔◌, IsTrue, is_some, ◌∷◌, ◌++◌, [], None, Some, IfOk, IfSome, IsSome, OnOk, OnErr, option_map, slice_get};
+ghost use Rattle.meaning_types.specs.Equality.{are_same};
+ghost use Rattle.meaning_types.specs.Composite.{composite};
+ghost use Rattle.c_types.specs.Rows.{flags_in, parameter_types, qualifiers_in, space_seen};
 ghost use Rattle.c_types.specs.Table.{flags_of_shape, qualifiers_of_shape, space_of};
 
+use crate::bodies::{AggregateBody, Named};
 use crate::form::{Marks, SpaceKey};
+use crate::kinds::{kind_number, promoted_kind, usual_kind};
+use crate::making::Maker;
 use crate::rows::Rows;
-use crate::shapes::TypeShape;
-use sparse_model::{Space, TypeId};
+use crate::shapes::{OuterShape, TypeShape};
+use indexmap::IndexMap;
+use sparse_model::{IntKind, NameId, Space, TypeId};
 use std::alloc::{AllocError, Global};
 use std::marker::Model;
 
-/// The types of a unit. Its value is the table of them: a row a type, by their numbers.
+/// The types of a unit. Its value is the table of them: a row a type, by their numbers, the bodies of
+/// aggregates, and the names of tags and identities.
 #[derive(Drop)]
 pub struct Types {
-    rows: Rows,
+    maker: Maker,
+    bodies: IndexMap<u32, AggregateBody>,
+    names: IndexMap<Named, NameId>,
 }
 
 impl Model for Types {
-    ghost use Rattle.c_types.specs.Table.{TypeTable};
-    ghost use Rattle.c_types.specs.Rows.{AreRows};
+    ghost use Rattle.c_types.specs.Table.{IsKept, TypeTable};
 
     ghost Value = { TypeTable };
 
-    ghost view = { λ types. record { rows = types.rows.rows.entries } };
+    ghost view = { λ types. record { rows = types.maker.rows.rows.entries; bodies = types.bodies.entries; names = types.names.entries } };
 
-    ghost invariant = { λ types. AreRows types.rows.rows.entries };
+    ghost invariant = { λ types. IsKept types.maker.rows.rows.entries types.maker.markings.entries types.bodies.entries };
 }
 
 impl Types {
-    ghost use Rattle.meaning_types.specs.Equality.{are_same};
-    ghost use Rattle.c_types.specs.Table.{Extends, IsInTable, IsTypeId, pointed_at, type_at, type_of_shape, types_in};
+    ghost use Rattle.c_types.specs.Table.{Extends, IsBodyOver, IsOuterOver, IsShapeOver, IsTypeId, TellsNoMore, body_in, count_in, count_of, integer_kind, name_in, nth_type, plain_integers, pointed_at, promoted_type, type_at, plain_integer, type_of_outer, type_of_shape, types_in, usual_type, with_name};
 
-    /// A table without types.
+    /// A table of the integer types of all kinds, each without qualifiers and flags.
     pub fn new(alloc: Global) -> Result<Types, AllocError>
-        ensures { IfOk result (λ types. types ≡ record { rows = [] }) }
+        ensures types { IfOk result (λ table. types_in table ≡ plain_integers) }
+        ensures bodies { IfOk result (λ table. table.bodies ≡ []) }
+        ensures names { IfOk result (λ table. table.names ≡ []) }
     {
         Ok(Types {
-            rows: Rows::new(alloc),
+            maker: Maker::new(alloc, Rows::of_integers(alloc)?),
+            bodies: IndexMap::new(alloc),
+            names: IndexMap::new(alloc),
         })
+    }
+
+    /// Whether an id is that of a type of this table. It takes no memory.
+    pub fn knows(&self, t: TypeId) -> bool
+        ensures { IsTrue result ↔ IsTypeId self.now t }
+    {
+        self.maker.rows.has(t.0)
     }
 
     /// The type of this shape, which joins the table if it is new.
     pub fn make(&mut self, shape: TypeShape) -> Result<TypeId, AllocError>
-        requires { IsInTable self.old shape.base }
+        requires { IsShapeOver (types_in self.old) shape.base }
         ensures stands { IfOk result (λ id. slice_get (types_in self.new) id.0 ≡ Some (type_of_shape self.old shape)) }
         ensures keeps { OnOk result (Extends self.old self.new) }
+        ensures tells { OnOk result (TellsNoMore self.old self.new) }
         ensures err { OnErr result (self.new ≡ self.old) }
     {
         let marks = marks_of(&shape);
         let TypeShape { base, .. } = shape;
-        let number = self.rows.make_base(base, marks)?;
+        let number = self.maker.make_base(base, marks)?;
         Ok(TypeId(number))
     }
 
@@ -59,7 +78,7 @@ impl Types {
         requires second { IsTypeId self.now b }
         ensures { result ≡ are_same (type_at self.now a) (type_at self.now b) }
     {
-        self.rows.bare(a.0) == self.rows.bare(b.0)
+        self.maker.rows.same(a.0, b.0)
     }
 
     /// The type to which a pointer points. It takes no memory.
@@ -68,10 +87,130 @@ impl Types {
         ensures target { option_map (type_at self.now) result ≡ pointed_at (type_at self.now t) }
         ensures known { IfSome result (IsTypeId self.now) }
     {
-        match self.rows.target(t.0) {
+        match self.maker.rows.target(t.0) {
             Some(target) => Some(TypeId(target)),
             None => None,
         }
+    }
+
+    /// The outermost level of a type. It takes no memory, and a step for each parameter of a function.
+    pub fn shape(&self, t: TypeId) -> OuterShape
+        requires { IsTypeId self.now t }
+        ensures shape { type_of_outer (types_in self.now) (parameter_types (type_at self.now t)) result ≡ type_at self.now t }
+        ensures count { count_in result.base ≡ count_of (parameter_types (type_at self.now t)) }
+        ensures known { IsOuterOver (types_in self.now) result.base }
+    {
+        self.maker.rows.outer_shape(t.0)
+    }
+
+    /// The type of a function's parameter, of which there are more than `i`. It takes no memory, and a step
+    /// for each parameter before it.
+    pub fn parameter(&self, t: TypeId, i: u32) -> TypeId
+        requires known { IsTypeId self.now t }
+        requires within { i < count_of (parameter_types (type_at self.now t)) }
+        ensures parameter { nth_type (parameter_types (type_at self.now t)) i ≡ Some (type_at self.now result) }
+        ensures known { IsTypeId self.now result }
+    {
+        TypeId(self.maker.rows.parameter(t.0, i))
+    }
+
+    /// Whether a type is one of integers, restricted or not. It takes no memory.
+    pub fn is_integer(&self, t: TypeId) -> bool
+        requires { IsTypeId self.now t }
+        ensures { result ≡ is_some (integer_kind (type_at self.now t)) }
+    {
+        self.maker.rows.kind(t.0).is_some()
+    }
+
+    /// What an integer type is promoted to (C11 6.3.1.1 p2); a restricted one counts as its base. It takes
+    /// no memory.
+    pub fn promote(&self, t: TypeId) -> TypeId
+        requires known { IsTypeId self.now t }
+        requires integer { IsSome (integer_kind (type_at self.now t)) }
+        ensures promoted { Some (type_at self.now result) ≡ promoted_type (integer_kind (type_at self.now t)) }
+        ensures known { IsTypeId self.now result }
+    {
+        let kind = self.maker.rows.kind(t.0).unwrap();
+        self.plain(promoted_kind(kind))
+    }
+
+    /// What two integer types become together (C11 6.3.1.8); a restricted one counts as its base. It takes
+    /// no memory.
+    pub fn usual(&self, a: TypeId, b: TypeId) -> TypeId
+        requires first { IsTypeId self.now a }
+        requires second { IsTypeId self.now b }
+        requires first_integer { IsSome (integer_kind (type_at self.now a)) }
+        requires second_integer { IsSome (integer_kind (type_at self.now b)) }
+        ensures usual { Some (type_at self.now result) ≡ usual_type (integer_kind (type_at self.now a)) (integer_kind (type_at self.now b)) }
+        ensures known { IsTypeId self.now result }
+    {
+        let kind = self.maker.rows.kind(a.0).unwrap();
+        let other = self.maker.rows.kind(b.0).unwrap();
+        self.plain(usual_kind(kind, other))
+    }
+
+    // The integer type of a kind, without qualifiers and flags.
+    fn plain(&self, kind: IntKind) -> TypeId
+        ensures plain { type_at self.now result ≡ plain_integer kind }
+        ensures known { IsTypeId self.now result }
+    {
+        let _maker = &self.maker;
+        TypeId(kind_number(kind))
+    }
+
+    /// The one type of two declarations, if there is one (C11 6.2.7 p3): of types that are the same the
+    /// first, and of two arrays of the same element, one without a length, the first with that length.
+    pub fn composite(&mut self, a: TypeId, b: TypeId) -> Result<Option<TypeId>, AllocError>
+        requires first { IsTypeId self.old a }
+        requires second { IsTypeId self.old b }
+        ensures composite { IfOk result (λ found. option_map (type_at self.new) found ≡ composite (type_at self.old a) (type_at self.old b)) }
+        ensures known { IfOk result (λ found. IfSome found (IsTypeId self.new)) }
+        ensures keeps { OnOk result (Extends self.old self.new) }
+        ensures tells { OnOk result (TellsNoMore self.old self.new) }
+        ensures err { OnErr result (self.new ≡ self.old) }
+    {
+        match self.maker.rows.make_composite(a.0, b.0)? {
+            Some(number) => Ok(Some(TypeId(number))),
+            None => Ok(None),
+        }
+    }
+
+    /// Tells the members of an aggregate, which weren't told before.
+    pub fn complete(&mut self, aggregate: u32, body: AggregateBody) -> Result<(), AllocError>
+        requires untold { body_in self.old aggregate ≡ None }
+        requires known { IsBodyOver (types_in self.old) body }
+        ensures told { OnOk result (self.new ≡ record { rows = self.old.rows; bodies = self.old.bodies ++ (aggregate, body) ∷ []; names = self.old.names }) }
+        ensures err { OnErr result (self.new ≡ self.old) }
+    {
+        self.bodies.insert(aggregate, body)?;
+        Ok(())
+    }
+
+    /// The members of an aggregate, once they were told. It takes no memory.
+    pub fn body(&self, aggregate: u32) -> Option<&AggregateBody>
+        ensures told { option_map (λ body. body.now) result ≡ body_in self.now aggregate }
+        ensures known { IfSome result (λ body. IsBodyOver (types_in self.now) body.now) }
+    {
+        self.bodies.get(&aggregate)
+    }
+
+    /// Tells the name of a tag or an identity. One that has a name keeps it.
+    pub fn set_name(&mut self, what: Named, name: NameId) -> Result<(), AllocError>
+        ensures told { OnOk result (self.new ≡ record { rows = self.old.rows; bodies = self.old.bodies; names = with_name self.old.names what name }) }
+        ensures err { OnErr result (self.new ≡ self.old) }
+    {
+        if self.names.contains_key(&what) {
+            return Ok(());
+        }
+        self.names.insert(what, name)?;
+        Ok(())
+    }
+
+    /// The name of a tag or an identity, once it was told. It takes no memory.
+    pub fn name(&self, what: Named) -> Option<NameId>
+        ensures { result ≡ name_in self.now what }
+    {
+        self.names.get(&what).copied()
     }
 }
 

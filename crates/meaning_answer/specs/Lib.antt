@@ -3,6 +3,12 @@ pub mod Refusal
 pub mod Command
 pub mod Answer
 pub mod Delivery
+pub mod Options
+pub mod Requests
+pub mod Tokens
+pub mod Lines
+pub mod Shapes
+pub mod Answers
 pub mod plain
 pub mod laws
 pub mod examples

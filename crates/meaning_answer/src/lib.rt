@@ -6,8 +6,10 @@
 #![tactic(auto)]
 
 mod answers;
+mod commands;
 
 pub use answers::{
     each_command_has_one_answer, endings_tell_what_is_written, outcomes_are_told,
     worked_completions, worked_examples,
 };
+pub use commands::each_command_is_answered_once;

@@ -1,2 +1,4 @@
 pub mod Uniqueness
 pub mod Deriving
+pub mod Sorting
+pub mod Shaping

@@ -7,6 +7,7 @@ pub mod Lists
 pub mod Scoping
 pub mod Literals
 pub mod Actions
+pub mod Shapes
 pub mod plain
 pub mod laws
 pub mod examples

@@ -8,10 +8,14 @@ use Rattle.meaning_literals.specs.Quoted.{string_of}
 use Rattle.meaning_tree.specs.Trees.{SyntaxTree, Node, Parts, NoParts, Part}
 use Rattle.meaning_derivation.specs.Values.{Value, token_of}
 
--- a constant at a word, whose kind goes into the node's; a bad one is an int of 0
+-- a constant; a bad one is an int of 0
+abbrev pub constant_or_zero : Result Constant Fault → Constant
+constant_or_zero (Ok constant) = constant
+constant_or_zero (Err fault) = record { kind = Int; bits = 0 }
+
+-- a constant at a word, whose kind goes into the node's
 abbrev pub constant_tree : (IntKind → NodeKind) → Value → Result Constant Fault → SyntaxTree
-constant_tree kind_of word (Ok constant) = Node (kind_of constant.kind) (token_of word) [] constant.bits NoParts
-constant_tree kind_of word (Err fault) = Node (kind_of Int) (token_of word) [] 0 NoParts
+constant_tree kind_of word found = Node (kind_of (constant_or_zero found).kind) (token_of word) [] (constant_or_zero found).bits NoParts
 
 abbrev pub piece_length : Result (List ℕ) Fault → ℕ
 piece_length (Ok bytes) = length bytes

@@ -1,8 +1,9 @@
 -- What was read of a symbol or an item: a word, a tree, or trees in a row.
-use Rattle.std.specs.Prelude.{ℕ, zero, suc, List, [], ◌∷◌}
+use Rattle.std.specs.Prelude.{ℕ, zero, suc, List, [], ◌∷◌, map}
 use Rattle.vocabulary.specs.declared.role.Role.{Role}
 use Rattle.vocabulary.specs.declared.node_kind.NodeKind.{NodeKind}
 use Rattle.meaning_tree.specs.Trees.{SyntaxTree, Node, Parts, NoParts, Part}
+use Rattle.meaning_grammar.specs.Sorts.{Sort, AWord, ATree, AList}
 
 pub data Value : Type 0 where
   -- a token that was kept, by its index and its spelling, or the place of one
@@ -10,6 +11,16 @@ pub data Value : Type 0 where
   TreeValue : SyntaxTree → Value
   -- trees, each with its role
   ListValue : Parts (List ℕ) → Value
+
+-- what a value is
+abbrev pub sort_of : Value → Sort
+sort_of (WordValue token text) = AWord
+sort_of (TreeValue tree) = ATree
+sort_of (ListValue parts) = AList
+
+-- and what the values of a stack are
+abbrev pub sorts_of : List Value → List Sort
+sorts_of values = map sort_of values
 
 -- the value so far below the top of a stack, whose top is its first
 abbrev pub value_at : List Value → ℕ → Value

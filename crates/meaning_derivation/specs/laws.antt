@@ -1,2 +1,4 @@
--- What holds of the definitions.
+-- What is proved of the definitions.
 pub mod Outcomes
+pub mod Sorts
+pub mod Shapes

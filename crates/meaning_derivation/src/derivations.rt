@@ -1,5 +1,7 @@
 // What is proved of derivations, and the examples that hold of them.
 ghost use Rattle.meaning_derivation.specs.laws.Outcomes.{ItemsHaveOneOutcome, UnitsHaveOneOutcome, AnswersAreOutcomes};
+ghost use Rattle.meaning_derivation.specs.laws.Sorts.{ActionsAreSorted, ActionsLeadOn};
+ghost use Rattle.meaning_derivation.specs.laws.Shapes.{ShapesAreMade};
 ghost use Rattle.meaning_derivation.specs.examples.Units.{TreeExamples, RefusalExamples};
 
 /// A list of tokens has one outcome at most, a tree or a refusal, whatever the actions do.
@@ -11,6 +13,17 @@ pub fn each_unit_has_one_outcome()
 /// What the plain program answers is the outcome.
 pub fn answers_are_outcomes()
     ensures { AnswersAreOutcomes }
+{}
+
+/// An action that goes on leaves values of the sorts that the grammar's table says, so that what follows finds what it takes.
+pub fn actions_leave_their_sorts()
+    ensures sorted { ActionsAreSorted }
+    ensures lead_on { ActionsLeadOn }
+{}
+
+/// Each action that is a row of the table of shapes makes that row's node.
+pub fn shapes_are_made()
+    ensures { ShapesAreMade }
 {}
 
 /// Short units derive the trees, or are refused for what, that one can tell by eye.

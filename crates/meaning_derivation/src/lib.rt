@@ -6,4 +6,7 @@
 
 mod derivations;
 
-pub use derivations::{answers_are_outcomes, each_unit_has_one_outcome, worked_examples};
+pub use derivations::{
+    actions_leave_their_sorts, answers_are_outcomes, each_unit_has_one_outcome, shapes_are_made,
+    worked_examples,
+};

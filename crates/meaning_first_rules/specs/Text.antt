@@ -1,5 +1,5 @@
 -- The text of warnings.
-use Rattle.std.specs.Prelude.{ℕ, List, ◌++◌, codes, slice_get, unwrap_or, option_map, if◌then◌else◌}
+use Rattle.std.specs.Prelude.{ℕ, List, [], ◌++◌, codes, slice_get, unwrap_or, option_map, if◌then◌else◌}
 use Rattle.std.specs.List.{flat_map}
 use Rattle.std.specs.Fmt.{decimal}
 use Rattle.meaning_text.specs.Places.{At, main_file, start_of}
@@ -50,3 +50,21 @@ failure_text path tokens failure = cause_text path (place_of tokens failure.toke
 -- the lines of all failures, in their order
 abbrev pub warnings_text : List ℕ → List Tok → List Failure → List ℕ
 warnings_text path tokens failures = flat_map (failure_text path tokens) failures
+
+-- Of a unit of several files
+
+-- the path of the file with this number, where the paths of all files stand by their numbers
+abbrev pub path_in : List (List ℕ) → ℕ → List ℕ
+path_in files file = unwrap_or (slice_get files file) []
+
+-- the lines of a cause at this place, with the path of its file
+abbrev pub placed_text : List (List ℕ) → At → Cause → List ℕ
+placed_text files at cause = cause_text (path_in files at.file) at cause
+
+-- the lines of a failure, at the place of its token
+abbrev pub unit_failure_text : List (List ℕ) → List Tok → Failure → List ℕ
+unit_failure_text files tokens failure = placed_text files (place_of tokens failure.token) failure.cause
+
+-- the lines of all failures, in their order
+abbrev pub unit_warnings_text : List (List ℕ) → List Tok → List Failure → List ℕ
+unit_warnings_text files tokens failures = flat_map (unit_failure_text files tokens) failures

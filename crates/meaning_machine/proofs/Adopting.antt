@@ -7,13 +7,13 @@ use Rattle.vocabulary.specs.declared.int_kind.IntKind.TheVariants as kinds
 use Rattle.meaning_types.specs.Types.{Qualifiers, Flags, TypeTree, Typed, BaseTree, IntegerTree, PointerTree, bare}
 use Rattle.meaning_types.specs.Equality.{are_same}
 use Rattle.meaning_types.proofs.Equality.{are_same-Decides}
-use Rattle.meaning_machine.specs.Values.{Spot, Null, Foreign, In, Value, Integer, Pointer, Block, IsInRange, SpotFits, ValueFits}
-use Rattle.meaning_machine.specs.Conversion.{spot_truth}
+use Rattle.meaning_machine.specs.Values.{Spot, Null, Foreign, In, Value, Integer, Pointer, Block, SpotFits, ValueFits}
+use Rattle.meaning_constants.specs.Numbers.{IsInRange}
 use Rattle.meaning_machine.specs.Outcomes.{SpaceFault, ShapeFault, Answer, Gives, IsFault, IsUndefined}
-use Rattle.meaning_machine.specs.Memory.{adopt, adopt_integer, adopt_pointer}
+use Rattle.meaning_machine.specs.Memory.{spot_truth, adopt, adopt_integer, adopt_pointer}
 use Rattle.meaning_machine.specs.Tests.{differ_in_flags_alone}
 use Rattle.meaning_machine.specs.laws.Runs.{AdoptedValuesFit}
-use Rattle.meaning_machine.proofs.Conversion.{converted_is_in_range}
+use Rattle.meaning_constants.proofs.Numbers.{converted_is_in_range}
 use Rattle.meaning_machine.proofs.Similar.{spot-agreeing}
 
 -- what an answer gives fits, if it gives something

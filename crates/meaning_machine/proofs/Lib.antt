@@ -1,4 +1,3 @@
-pub mod Conversion
 pub mod Similar
 pub mod Storage
 pub mod Lvalues

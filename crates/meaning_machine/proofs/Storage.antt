@@ -5,11 +5,12 @@ use Rattle.std.proofs.lemmas.Option.{get_or_from_slice_get}
 use Rattle.meaning_types.specs.Types.{TypeTree, Typed, IntegerTree, PointerTree, has_flag, bare}
 use Rattle.meaning_types.proofs.Equality.{are_same-Decides}
 use Rattle.meaning_first_rules.specs.Bindings.{Binding}
-use Rattle.meaning_machine.specs.Values.{Spot, Null, Foreign, In, Value, Integer, Pointer, Lvalue, ForObject, Cell, Block, IsInRange, SpotFits, Fits}
+use Rattle.meaning_machine.specs.Values.{Spot, Null, Foreign, In, Value, Integer, Pointer, Lvalue, ForObject, Cell, Block, SpotFits, Fits}
 use Rattle.meaning_machine.specs.Outcomes.{DeadBlock, OutOfBounds, ReadOnly, AccessFault, Answer, Gives, IsFault, IsUndefined}
 use Rattle.meaning_machine.specs.Memory.{adopt, content_at, with_content, block_with, is_made_for, is_read_only, value_of_content, load_block, load_spot, load, store_block, store}
 use Rattle.meaning_machine.specs.laws.Soundness.{IsUnflagged, Agree, first_blocks, LvalueFits, ValueFitsIn, CellsFit, AreSoundBlocks}
-use Rattle.meaning_machine.proofs.Conversion.{converted_is_kept}
+use Rattle.meaning_constants.specs.Numbers.{IsInRange}
+use Rattle.meaning_constants.proofs.Numbers.{converted_is_kept}
 use Rattle.meaning_machine.proofs.Similar.{flags-bare, agree-bare, fits-agreeing, slice_get-mapped}
 
 -- Adopting

@@ -14,7 +14,7 @@ use Rattle.meaning_machine.specs.Code.{ValueCode}
 use Rattle.meaning_machine.specs.Machine.{Control, EnterBody, Finished, Outcome, Next, Done, Undefined, Fault, step}
 use Rattle.meaning_machine.specs.Runs.{World, opening, opening_value, opening_block, Move, Start, Step, Write, body_at, bindings_in, Starts, Takes, Moves, Runs, IsSafe}
 use Rattle.meaning_machine.specs.laws.Soundness.{ValueFitsIn, IsSoundControl, CellsFit, IsStatement, IsSoundOutcome, IsSoundWorld, first_blocks}
-use Rattle.meaning_machine.proofs.Conversion.{zero-in_range}
+use Rattle.meaning_constants.proofs.Numbers.{zero-in_range}
 use Rattle.meaning_machine.proofs.Similar.{fits-made}
 use Rattle.meaning_machine.proofs.Storage.{sound-write}
 use Rattle.meaning_machine.proofs.Steps.{step_is_sound}

@@ -1,6 +1,5 @@
 pub mod Values
 pub mod Outcomes
-pub mod Conversion
 pub mod Tests
 pub mod Memory
 pub mod Code

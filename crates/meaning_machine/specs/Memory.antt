@@ -6,12 +6,17 @@ use Rattle.vocabulary.specs.declared.int_kind.IntKind.{IntKind}
 use Rattle.vocabulary.specs.declared.int_kind.IntKind.TheVariants as kinds
 use Rattle.meaning_types.specs.Types.{TypeTree, Typed, BaseTree, IntegerTree, PointerTree, flags_of, has_flag}
 use Rattle.meaning_types.specs.Equality.{are_same}
+use Rattle.meaning_constants.specs.Numbers.{converted}
 use Rattle.meaning_machine.specs.Values.{Spot, Null, Foreign, In, Value, Integer, Pointer, Lvalue, Made, ForObject, ForFunction, Cell, Block}
-use Rattle.meaning_machine.specs.Conversion.{spot_truth, converted}
 use Rattle.meaning_machine.specs.Outcomes.{NullPointer, DeadBlock, ForeignPointer, OutOfBounds, IndeterminateValue, ReadOnly, AccessFault, SpaceFault, RestrictedFault, ShapeFault, Answer, Gives, IsFault, IsUndefined}
 use Rattle.meaning_machine.specs.Tests.{differ_in_flags_alone}
 
 -- The one conversion: what a value becomes when it is stored to a place of this type (6.3, 6.5.16.1)
+
+-- each pointer but a null one is true (6.3.1.2)
+abbrev pub spot_truth : Spot → ℤ
+spot_truth Null = pos 0
+spot_truth spot = pos 1
 
 -- A plain integer becomes any integer type, and a plain 0 a null pointer (6.3.1.3, 6.3.2.3 p3). All integer types are
 -- plain, so a restricted number meets another identity in each.

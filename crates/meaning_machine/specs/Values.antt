@@ -1,8 +1,8 @@
 -- Values that carry their type, and when a value fits a type.
-use Rattle.std.specs.Prelude.{◌≡◌, ℕ, ◌≤◌, Bool, false, ℤ, ◌≤ℤ◌, List, [], Option, Some, None, slice_get}
+use Rattle.std.specs.Prelude.{◌≡◌, ℕ, ◌≤◌, Bool, false, ℤ, List, [], Option, Some, None, slice_get}
 use Rattle.vocabulary.specs.declared.int_kind.IntKind.{IntKind}
 use Rattle.meaning_types.specs.Types.{TypeTree, Typed, BaseTree, IntegerTree, PointerTree, bare}
-use Rattle.meaning_types.specs.Ranges.{least, greatest}
+use Rattle.meaning_constants.specs.Numbers.{IsInRange}
 
 -- where a pointer points
 pub data Spot : Type 0 where
@@ -40,10 +40,6 @@ pub record Block : Type 0 where
   pub made : Made
   pub is_alive : Bool
   pub cells : List Cell
-
--- the kind holds the number
-abbrev pub IsInRange : IntKind → ℤ → Type 0
-IsInRange kind number = (least kind ≤ℤ number) × (number ≤ℤ greatest kind)
 
 -- the block has so many elements of this type at the path; an object of the first form is one element
 abbrev pub HasElements : Block → List ℕ → ℕ → TypeTree → Type 0

@@ -1,6 +1,6 @@
 // The machine beside a plain program that plays its moves, and worlds worked out by hand.
 ghost use Rattle.meaning_machine.specs.laws.Playing.{MovesArePlayed, PlayedIsRun, RunIsPlayed};
-ghost use Rattle.meaning_machine.specs.examples.Rows.{CellExamples, ConversionExamples, FitExamples, LastExamples, RowExamples};
+ghost use Rattle.meaning_machine.specs.examples.Rows.{CellExamples, FitExamples, LastExamples, RowExamples};
 ghost use Rattle.meaning_machine.specs.examples.Steps.{StepExamples};
 ghost use Rattle.meaning_machine.specs.examples.Activities.{OthersGoOn, ThirdMeetsFault, ThreeByTurns, ThreeInOrder};
 ghost use Rattle.meaning_machine.specs.examples.Runs.{SpaceIsLost, NoderefIsAccessed, FlaggedIntIsLoaded, SilentUnitLeaves, SilentUnitEnds, SilentUnitCopies, NullIsUndefined, ForeignIsUndefined, ConstIsCopied, IndeterminateIsUndefined, ConstIsAdopted, AddressIsNoLvalue, StatementWithoutRowIsFault};
@@ -43,10 +43,9 @@ pub fn worked_activities()
     ensures others_go_on { OthersGoOn }
 {}
 
-/// What a number becomes in another kind, what fits a type, what single loads, stores and steps give,
+/// What fits a type, what single loads, stores and steps give,
 /// and which blocks outlast others.
 pub fn worked_rows()
-    ensures conversions { ConversionExamples }
     ensures rows { RowExamples }
     ensures cells { CellExamples }
     ensures fits { FitExamples }

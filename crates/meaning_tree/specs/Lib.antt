@@ -1,4 +1,6 @@
 pub mod Trees
 pub mod Nodes
+pub mod LookUps
+pub mod Forms
 pub mod laws
 pub mod examples

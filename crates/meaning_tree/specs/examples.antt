@@ -1,2 +1,3 @@
 -- Worked examples.
 pub mod Trees
+pub mod Forms

@@ -1,6 +1,7 @@
 // What is proved of trees that stand in lists of nodes, while the lists grow.
 ghost use Rattle.meaning_tree.specs.examples.Trees.{NodeExamples, PartExamples};
-ghost use Rattle.meaning_tree.specs.laws.Trees.{AddedNodeGrows, AddedNodeStands, AddedNodeStandsBehind, FurtherChildStands, GrowthIsReflexive, GrowthIsTransitive, JoinedPartGrows, JoinedStandBefore, NoTreesCome, NothingStandsBefore, PartsAreUnique, PartsStay, TreesAreUnique, TreesExist, TreesStay, TreesStayBehind, TreesStayInFront};
+ghost use Rattle.meaning_tree.specs.examples.Forms.{FormExamples};
+ghost use Rattle.meaning_tree.specs.laws.Trees.{AddedNodeGrows, AddedNodeStands, AddedNodeStandsBehind, FurtherChildStands, GrowthIsReflexive, GrowthIsTransitive, JoinedPartGrows, JoinedStandBefore, LookUpsAreExact, NoTreesCome, NothingStandsBefore, PartsAreUnique, PartsStay, TreesAreUnique, TreesExist, TreesStay, TreesStayBehind, TreesStayInFront};
 
 /// A node stands for at most one tree, and for one where children stand before their parents.
 pub fn each_node_stands_for_one_tree<Spelling>()
@@ -43,8 +44,14 @@ pub fn order_is_kept<Spelling>()
     ensures part { JoinedStandBefore Spelling }
 {}
 
+/// A handle is looked up as the node that it has.
+pub fn look_ups_are_exact<Spelling>()
+    ensures { LookUpsAreExact Spelling }
+{}
+
 /// A short list of nodes stands for the tree that one can tell by eye, and parts keep their order.
 pub fn worked_examples()
     ensures nodes { NodeExamples }
     ensures parts { PartExamples }
+    ensures forms { FormExamples }
 {}

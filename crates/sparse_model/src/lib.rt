@@ -4,6 +4,7 @@
 //! [`Seq`] is the list type of which the others are made.
 #![tactic(auto)]
 
+mod context;
 mod ctype;
 mod failure;
 mod ids;
@@ -14,6 +15,7 @@ mod seq;
 mod space;
 mod tree;
 
+pub use context::{ContextEntry, ContextList};
 pub use ctype::{CBase, CType};
 pub use failure::{Failure, FailureList, FileNames};
 pub use ids::{NameId, NameList, Restrict, TypeId};

@@ -1,5 +1,5 @@
 // The one list that plain data is made of, whatever its values are.
-ghost use Rattle.std.specs.Prelude.{◌≡◌, ◌<◌, ◌++◌, ◌∷◌, [], length, slice_get, OnOk, OnErr, IfErr, Some};
+ghost use Rattle.std.specs.Prelude.{◌≡◌, ◌<◌, ◌++◌, ◌∷◌, [], length, slice_get, take, OnOk, OnErr, IfErr, Some};
 
 use std::alloc::{AllocError, Global};
 use std::marker::Model;
@@ -75,5 +75,14 @@ impl<T> Seq<T> {
         ensures { result.now ≡ self.now }
     {
         self.items.as_slice()
+    }
+}
+
+impl<T: Drop> Seq<T> {
+    /// Keeps so many of the first values, and all where there are fewer. It takes no memory.
+    pub fn truncate(&mut self, count: usize)
+        ensures { self.new ≡ take count self.old }
+    {
+        self.items.truncate(count);
     }
 }

@@ -1,7 +1,5 @@
 -- What holds of the machine: silence is safe, and why.
-use Rattle.std.specs.Prelude.{◌≡◌, ◌≢◌, ℕ, true, ℤ, ◌+ℤ◌, ◌*ℤ◌, List, [], ◌∷◌, ◌++◌, Some, map, slice_get, slice_set}
-use Rattle.vocabulary.specs.declared.int_kind.IntKind.{IntKind}
-use Rattle.vocabulary.specs.declared.int_kind.IntKind.TheVariants as kinds
+use Rattle.std.specs.Prelude.{◌≡◌, ℕ, true, List, [], ◌∷◌, ◌++◌, Some, map, slice_get, slice_set}
 use Rattle.meaning_types.specs.Types.{TypeTree}
 use Rattle.meaning_tree.specs.Trees.{SyntaxTree}
 use Rattle.meaning_syntax.specs.Items.{Word, Statement, Object, Function}
@@ -9,8 +7,7 @@ use Rattle.meaning_syntax.specs.Trees.{IsInFirstForm, statement_trees}
 use Rattle.meaning_first_rules.specs.Bindings.{Binding}
 use Rattle.meaning_first_rules.specs.Typing.{declared_type}
 use Rattle.meaning_first_rules.specs.Failures.{IsListing}
-use Rattle.meaning_machine.specs.Values.{In, Value, Block, IsInRange, Fits}
-use Rattle.meaning_machine.specs.Conversion.{number_count, converted}
+use Rattle.meaning_machine.specs.Values.{In, Value, Block, Fits}
 use Rattle.meaning_machine.specs.Outcomes.{Gives}
 use Rattle.meaning_machine.specs.Memory.{adopt, content_at}
 use Rattle.meaning_machine.specs.Code.{statement_code}
@@ -44,20 +41,7 @@ RunsAreSound =
 abbrev pub SilenceIsSafe : Type 0
 SilenceIsSafe = (unit : SyntaxTree) → IsInFirstForm unit → IsListing unit [] → IsSafe unit
 
--- Conversions
-
--- what a number becomes is a number of the kind
-abbrev pub ConversionsAreInRange : Type 0
-ConversionsAreInRange = (kind : IntKind) (number : ℤ) → IsInRange kind (converted kind number)
-
--- a number of the kind stays as it is (C11 6.3.1.3 p1)
-abbrev pub ConversionsKeepNumbers : Type 0
-ConversionsKeepNumbers = (kind : IntKind) (number : ℤ) → IsInRange kind number → converted kind number ≡ number
-
--- the numbers differ, but in _Bool, by a multiple of how many numbers the kind has (6.3.1.3 p2, p3)
-abbrev pub ConversionsWrap : Type 0
-ConversionsWrap =
-    (kind : IntKind) (number : ℤ) → kind ≢ kinds.Bool → (times : ℤ) × (number ≡ converted kind number +ℤ times *ℤ number_count kind)
+-- Stores
 
 -- a value that fits some type fits the type by which it is adopted, if it is
 abbrev pub AdoptedValuesFit : Type 0

@@ -1,5 +1,5 @@
 -- The plain program beside the runs: it plays a list of moves, in the order in which they are made.
-use Rattle.std.specs.Prelude.{◌≡◌, ℕ, Bool, true, false, ◌&&◌, List, [], ◌∷◌, ◌++◌, Option, Some, None, option_map, int_le, nat_eq, nat_le, slice_get, slice_set, if◌then◌else◌}
+use Rattle.std.specs.Prelude.{ℕ, Bool, true, false, ◌&&◌, List, [], ◌∷◌, ◌++◌, Option, Some, None, option_map, int_le, nat_eq, nat_le, slice_get, slice_set, if◌then◌else◌}
 use Rattle.std.specs.Option.{option_and_then}
 use Rattle.meaning_types.specs.Types.{TypeTree, Typed, BaseTree, IntegerTree, PointerTree}
 use Rattle.meaning_types.specs.Ranges.{least, greatest}
@@ -8,9 +8,8 @@ use Rattle.meaning_tree.specs.Trees.{SyntaxTree, external_parts}
 use Rattle.meaning_machine.specs.Values.{Spot, Null, Foreign, In, Value, Integer, Pointer, Made, ForObject, ForFunction, Block}
 use Rattle.meaning_machine.specs.Memory.{content_at, block_with}
 use Rattle.meaning_machine.specs.Code.{ValueCode}
-use Rattle.meaning_machine.specs.Outcomes.{FaultKind}
 use Rattle.meaning_machine.specs.Machine.{EnterBody, Finished, Outcome, Next, Done, Undefined, Fault, step}
-use Rattle.meaning_machine.specs.Runs.{World, opening, Move, Start, Step, Write, body_at, bindings_in, Moves, Runs, IsSafe}
+use Rattle.meaning_machine.specs.Runs.{World, opening, Move, Start, Step, Write, body_at, bindings_in}
 
 -- Tests that a value fits
 

@@ -1,8 +1,9 @@
 -- What holds of nodes and of the trees that they stand for, whatever names are.
-use Rattle.std.specs.Prelude.{◌≡◌, ℕ, ◌+◌, ◌<◌, ◌≤◌, List, [], ◌∷◌, ◌++◌, All}
+use Rattle.std.specs.Prelude.{◌≡◌, ℕ, ◌+◌, ◌<◌, ◌≤◌, ◌↔◌, List, [], ◌∷◌, ◌++◌, Some, All}
 use Rattle.vocabulary.specs.Roles.{role_of}
 use Rattle.meaning_tree.specs.Trees.{Tree, Node, Parts, NoParts, Part, with_parts}
-use Rattle.meaning_tree.specs.Nodes.{TreeNode, NodeList, end_of, StandsFor, StandFor, ChildrenStandBefore, Grows, joined, with_node}
+use Rattle.meaning_tree.specs.Nodes.{TreeNode, NodeList, end_of, HasNode, StandsFor, StandFor, ChildrenStandBefore, Grows, joined, with_node}
+use Rattle.meaning_tree.specs.LookUps.{node_at}
 
 -- a node stands for at most one tree
 abbrev pub TreesAreUnique : Type 0 → Type 0
@@ -104,3 +105,10 @@ abbrev pub JoinedStandBefore : Type 0 → Type 0
 JoinedStandBefore Spelling =
     (list part : NodeList Spelling) → part.first ≡ end_of list
     → ChildrenStandBefore list → ChildrenStandBefore part → ChildrenStandBefore (joined list part)
+
+-- Look-ups
+
+-- a look-up answers the node that a handle has, and no other
+abbrev pub LookUpsAreExact : Type 0 → Type 0
+LookUpsAreExact Spelling =
+    (list : NodeList Spelling) (handle : ℕ) (node : TreeNode Spelling) → (node_at list handle ≡ Some node) ↔ HasNode list handle node

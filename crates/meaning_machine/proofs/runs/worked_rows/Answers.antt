@@ -17,20 +17,6 @@ one_stays block later made dead zero one there =
     (later, refl, made ∙ ap (λ b. b.made) (same_Some _ _ there), λ is. dead (ap (λ b. b.is_alive) (same_Some _ _ there) ∙ is))
 one_stays block later made dead (suc number) one there = absurd (none-some _ there)
 
-pub returns-clause-conversions : goal.returns-clause-conversions
-returns-clause-conversions c = record {
-  zero_signed = refl;
-  zero_unsigned = refl;
-  minus_one_signed = refl;
-  minus_one_unsigned = refl;
-  two_hundred = refl;
-  nine_bits = refl;
-  nine_bits_unsigned = refl;
-  behind_int = refl;
-  before_int = refl;
-  two_to_64 = refl;
-}
-
 pub returns-clause-rows : goal.returns-clause-rows
 returns-clause-rows c = record {
   opening_blocks = refl;

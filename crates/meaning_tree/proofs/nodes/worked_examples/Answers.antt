@@ -1,9 +1,13 @@
 -- The examples compute, node by node.
-use Rattle.std.proofs.Common.{ℕ, ◌<◌, ◌≤◌, [], ◌∷◌, codes, refl, arith}
+use Rattle.std.proofs.Common.{List, ℕ, ◌<◌, ◌≤◌, [], ◌∷◌, codes, refl, arith}
 use Rattle.std.proofs.lemmas.List.Elements.{All-nil, All-cons}
 use Rattle.vocabulary.specs.declared.node_kind.NodeKind.TheVariants.{Name, Assignment, ExpressionStatement}
+use Rattle.vocabulary.specs.declared.role.Role.TheVariants.{Evaluated, Unevaluated}
+use Rattle.meaning_tree.specs.Trees.{Parts, NoParts, Part}
 use Rattle.meaning_tree.specs.Nodes.{ChildrenStandBefore}
+use Rattle.meaning_tree.specs.Forms.{expressions, One, Fits, nothing, one, left_out, there, no_more, one_more, no_declarator, declarator}
 use Rattle.meaning_tree.specs.examples.Trees.{node_at, assignment_nodes}
+use Rattle.meaning_tree.specs.examples.Forms.{leaf, operand}
 use Rattle.meaning_tree.proofs.Finding.{stand_before-nil, stand_before-added}
 use Rattle.meaning_tree.proofs.nodes.worked_examples.Goals as goal
 
@@ -50,4 +54,28 @@ returns-clause-nodes c = record {
     ),
   );
   part_alone = λ order. absurd (omega (arith, (order 2 (node_at Assignment 1 [] ((0, 0) ∷ (1, 0) ∷ [])) (omega arith, refl) 0 (0, 0) (omega arith)).0));
+}
+
+-- what `sizeof` has
+abbrev FitsSizeof : Parts (List ℕ) → Type 0
+FitsSizeof parts = Fits (One Unevaluated expressions ∷ []) parts
+
+no_evaluated_operand : FitsSizeof (Part Evaluated operand NoParts) → ⊥
+no_evaluated_operand fits = elim fits [ ]
+
+no_statement : FitsSizeof (Part Unevaluated (leaf ExpressionStatement) NoParts) → ⊥
+no_statement (one is fits) = absurd (cc is)
+
+no_missing_operand : FitsSizeof NoParts → ⊥
+no_missing_operand fits = elim fits [ ]
+
+pub returns-clause-forms : goal.returns-clause-forms
+returns-clause-forms c = record {
+  declaration = (one refl (declarator (left_out (one refl (no_more (there refl (declarator (left_out (one refl (no_more (left_out (no_declarator nothing))))))))))), ((one_more refl (no_more nothing), ((nothing, tt), tt)), ((no_more nothing, tt), ((one refl nothing, ((nothing, tt), tt)), ((no_more nothing, tt), tt)))));
+  conditional = (one refl (there refl (one refl nothing)), ((nothing, tt), ((nothing, tt), ((nothing, tt), tt))));
+  without_middle = (one refl (left_out (one refl nothing)), ((nothing, tt), ((nothing, tt), tt)));
+  unevaluated = (one refl nothing, ((nothing, tt), tt));
+  wrong_role = λ formed. no_evaluated_operand formed.0;
+  wrong_kind = λ formed. no_statement formed.0;
+  missing_part = λ formed. no_missing_operand formed.0;
 }

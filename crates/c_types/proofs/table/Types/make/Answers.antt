@@ -1,12 +1,13 @@
--- The rows grew, and so did the types of the table.
-use Rattle.std.proofs.Common.{◌≡◌, List, ◌++◌, subst}
-use Rattle.meaning_types.specs.Types.{TypeTree}
-use Rattle.c_types.specs.Rows.{types_of}
-use Rattle.c_types.specs.Table.{types_in}
-use Rattle.c_types.proofs.RowLemmas.{types_of-Grows}
+-- The rows grew, and nothing else.
+use Rattle.c_types.proofs.TableLemmas.{kept-Grows, table-extends}
 use Rattle.c_types.proofs.table.Types.make.Goals as goal
+
+pub invariant_of-self-2 : goal.invariant_of-self-2
+invariant_of-self-2 c =
+    kept-Grows c.self.inside.maker.rows.rows.entries c.make_base.new.self.rows.rows.entries c.self.inside.maker.markings.entries c.make_base.new.self.markings.entries c.self.inside.bodies.entries
+    c.self.invariant c.in_ok-number.ensures.grows c.in_ok-number.ensures.rows c.in_ok-number.ensures.markings
 
 pub returns-clause-keeps : goal.returns-clause-keeps
 returns-clause-keeps c =
-    subst (λ table. (more : List TypeTree) × (types_of c.make_base.new.self.rows.entries ≡ types_in table ++ more)) c.self.view_is
-    (types_of-Grows c.self.inside.rows.rows.entries c.make_base.new.self.rows.entries c.in_ok-number.ensures.grows)
+    table-extends c.self.inside.maker.rows.rows.entries c.make_base.new.self.rows.rows.entries c.self.inside.bodies.entries c.self.inside.names.entries c.args.self.now c.self.view_is
+    c.in_ok-number.ensures.grows

@@ -1,0 +1,122 @@
+-- The table as its callers see it.
+use Rattle.std.proofs.Common.{◌≡◌, ℕ, ◌<◌, ◌≤◌, Bool, true, false, nat_eq, List, [], ◌∷◌, ◌++◌, All, IfSome, Option, Some, None, cond, is_some, option_map, length, if◌then◌else◌, refl, sym, ap, ◌∙◌, subst, arith, append-nil, length-append}
+use Rattle.std.proofs.lemmas.Bool.{false≢true, true≢false}
+use Rattle.std.proofs.lemmas.List.Elements.{All-weaker}
+use Rattle.std.proofs.lemmas.Option.{none-some, same_Some}
+use Rattle.std.specs.List.{AllByRecursion}
+use Rattle.std.specs.Map.{lookup}
+use Rattle.sparse_model.specs.declared.ids.NameId.{NameId}
+use Rattle.c_types.specs.declared.bodies.AggregateBody.{AggregateBody}
+use Rattle.c_types.specs.declared.bodies.Named.{Named}
+use Rattle.c_types.specs.declared.bodies.Named.TheVariants as named
+use Rattle.c_types.specs.contracts.bodies.NamedPartialEq.TheImpl as named_keys
+use Rattle.c_types.specs.declared.form.Marking.{Marking}
+use Rattle.c_types.specs.Rows.{Row, types_of, AreRows, Grows}
+use Rattle.c_types.specs.Levels.{AreMarkings}
+use Rattle.c_types.specs.Table.{TypeTable, Extends, TellsNoMore, IsBodyOver, IsKept, is_named, plain_integers, with_name}
+use Rattle.c_types.proofs.Integers.{integers-stand}
+use Rattle.c_types.proofs.RowLemmas.{types_of-Grows, stands-Grows}
+
+-- Bodies
+
+body-later : (types others : ℕ) (body : AggregateBody) → types ≤ others → All (λ member. member.of.0 < types) body.members → All (λ member. member.of.0 < others) body.members
+body-later types others body more all = All-weaker (λ member. member.of.0 < types) (λ member. member.of.0 < others) (λ member below. omega (arith, below, more)) body.members all
+
+bodies-later : (old new : List Row) → length (types_of old) ≤ length (types_of new) → (bodies : List (ℕ × AggregateBody)) → AllByRecursion (λ entry. IsBodyOver (types_of old) entry.1) bodies
+    → AllByRecursion (λ entry. IsBodyOver (types_of new) entry.1) bodies
+bodies-later old new more [] all = tt
+bodies-later old new more (entry ∷ bodies) all = (body-later (length (types_of old)) (length (types_of new)) entry.1 more all.0, bodies-later old new more bodies all.1)
+
+bodies-push : (rows : List Row) (aggregate : ℕ) (body : AggregateBody) → IsBodyOver (types_of rows) body → (bodies : List (ℕ × AggregateBody)) → AllByRecursion (λ entry. IsBodyOver (types_of rows) entry.1) bodies
+    → AllByRecursion (λ entry. IsBodyOver (types_of rows) entry.1) (bodies ++ (aggregate, body) ∷ [])
+bodies-push rows aggregate body over [] all = (over, tt)
+bodies-push rows aggregate body over (entry ∷ bodies) all = (all.0, bodies-push rows aggregate body over bodies all.1)
+
+pub body-found : (rows : List Row) (aggregate : ℕ) (body : AggregateBody) (bodies : List (ℕ × AggregateBody)) → AllByRecursion (λ entry. IsBodyOver (types_of rows) entry.1) bodies
+    → lookup (nat_eq aggregate) bodies ≡ Some body → IsBodyOver (types_of rows) body
+body-found rows aggregate body [] all found = absurd (none-some body found)
+body-found rows aggregate body (entry ∷ bodies) all found = by (nat_eq aggregate entry.0) refl (body-found rows aggregate body bodies all.1)
+  where
+    by : (test : Bool) → nat_eq aggregate entry.0 ≡ test → (lookup (nat_eq aggregate) bodies ≡ Some body → IsBodyOver (types_of rows) body) → IsBodyOver (types_of rows) body
+    by true e later = subst (IsBodyOver (types_of rows)) (same_Some _ _ (sym (ap (λ test. if test then Some entry.1 else lookup (nat_eq aggregate) bodies) e) ∙ found)) all.0
+    by false e later = later (sym (ap (λ test. if test then Some entry.1 else lookup (nat_eq aggregate) bodies) e) ∙ found)
+
+-- What is kept
+
+pub kept-Grows : (old new : List Row) (markings others : List (Marking × ℕ)) (bodies : List (ℕ × AggregateBody)) → IsKept old markings bodies → Grows old new → AreRows new → AreMarkings new others
+    → IsKept new others bodies
+kept-Grows old new markings others bodies kept grows are marked =
+    let more = types_of-Grows old new grows in
+    record {
+      rows_right = are;
+      markings_right = marked;
+      bodies_known = bodies-later old new (omega (arith, ap length more.1, length-append (types_of old) more.0)) bodies kept.bodies_known;
+      integers_stand = λ kind. stands-Grows old new grows _ _ (kept.integers_stand kind);
+    }
+
+pub kept-body : (rows : List Row) (markings : List (Marking × ℕ)) (bodies : List (ℕ × AggregateBody)) (aggregate : ℕ) (body : AggregateBody) → IsKept rows markings bodies → IsBodyOver (types_of rows) body
+    → IsKept rows markings (bodies ++ (aggregate, body) ∷ [])
+kept-body rows markings bodies aggregate body kept over =
+    record {
+      rows_right = kept.rows_right;
+      markings_right = kept.markings_right;
+      bodies_known = bodies-push rows aggregate body over bodies kept.bodies_known;
+      integers_stand = kept.integers_stand;
+    }
+
+pub kept-integers : (rows : List Row) → AreRows rows → types_of rows ≡ plain_integers → IsKept rows [] []
+kept-integers rows are types = record { rows_right = are; markings_right = tt; bodies_known = tt; integers_stand = integers-stand (types_of rows) types }
+
+-- What is seen
+
+module _ (old new : List Row) (bodies : List (ℕ × AggregateBody)) (names : List (Named × NameId)) (table : TypeTable) (is : record { rows = old; bodies = bodies; names = names } ≡ table) where
+  abbrev grown : TypeTable
+  grown = record { rows = new; bodies = bodies; names = names }
+
+  pub table-extends : Grows old new → Extends table grown
+  table-extends grows =
+      subst (λ t. Extends t grown) is (record { types = types_of-Grows old new grows; bodies = ([], sym (append-nil bodies)); names = ([], sym (append-nil names)) })
+
+  pub table-tells : TellsNoMore table grown
+  table-tells = subst (λ t. TellsNoMore t grown) is (record { bodies = refl; names = refl })
+
+-- Names
+
+same_named : (what other : Named) → named_keys.eq-value.it what other ≡ is_named what other
+same_named (named.Tag a) (named.Tag b) = refl
+same_named (named.Tag a) (named.Identity b) = refl
+same_named (named.Identity a) (named.Tag b) = refl
+same_named (named.Identity a) (named.Identity b) = refl
+
+-- how the map looks a name up
+pub names-lookup : (what : Named) (names : List (Named × NameId)) → lookup (named_keys.eq-value.it what) names ≡ lookup (is_named what) names
+names-lookup what [] = refl
+names-lookup what (entry ∷ names) = λ i. cond (same_named what entry.0 i) (Some entry.1) (names-lookup what names i)
+
+-- a name that was told stays
+pub names-stay : (what : Named) (name : NameId) (names : List (Named × NameId)) → is_some (lookup (is_named what) names) ≡ true → with_name names what name ≡ names
+names-stay what name [] found = absurd (false≢true found)
+names-stay what name (entry ∷ names) found = by (is_named what entry.0) refl (names-stay what name names)
+  where
+    by : (test : Bool) → is_named what entry.0 ≡ test → (is_some (lookup (is_named what) names) ≡ true → with_name names what name ≡ names) → with_name (entry ∷ names) what name ≡ entry ∷ names
+    by true e later = ap (λ test. if test then entry ∷ names else entry ∷ with_name names what name) e
+    by false e later =
+        ap (λ test. if test then entry ∷ names else entry ∷ with_name names what name) e
+        ∙ ap (λ rest. entry ∷ rest) (later (sym (ap (λ test. is_some (cond test (Some entry.1) (lookup (is_named what) names))) e) ∙ found))
+
+-- a new one joins at the end
+pub names-join : (what : Named) (name : NameId) (names : List (Named × NameId)) → is_some (lookup (is_named what) names) ≡ false → with_name names what name ≡ names ++ (what, name) ∷ []
+names-join what name [] none = refl
+names-join what name (entry ∷ names) none = by (is_named what entry.0) refl (names-join what name names)
+  where
+    by : (test : Bool) → is_named what entry.0 ≡ test → (is_some (lookup (is_named what) names) ≡ false → with_name names what name ≡ names ++ (what, name) ∷ [])
+        → with_name (entry ∷ names) what name ≡ entry ∷ names ++ (what, name) ∷ []
+    by true e later = absurd (true≢false (sym (ap (λ test. is_some (cond test (Some entry.1) (lookup (is_named what) names))) e) ∙ none))
+    by false e later =
+        ap (λ test. if test then entry ∷ names else entry ∷ with_name names what name) e
+        ∙ ap (λ rest. entry ∷ rest) (later (sym (ap (λ test. is_some (cond test (Some entry.1) (lookup (is_named what) names))) e) ∙ none))
+
+-- what holds of each value that is shown holds of the one that is found
+pub IfSome_shown : {R X : Type 0} (shown : R → X) (P : X → Type 0) (found : Option R) (value : Option X) → option_map shown found ≡ value → ((x : X) → value ≡ Some x → P x) → IfSome found (λ r. P (shown r))
+IfSome_shown shown P None value e h = tt
+IfSome_shown shown P (Some r) value e h = h (shown r) (sym e)

@@ -1,0 +1,16 @@
+-- The rows grew, and nothing else.
+use Rattle.c_types.proofs.TableLemmas.{kept-Grows, table-extends}
+use Rattle.c_types.proofs.MarkingLemmas.{AreMarkings-Grows, on_ok}
+use Rattle.c_types.proofs.table.Types.composite.Goals as goal
+
+pub invariant_of-self-2 : goal.invariant_of-self-2
+invariant_of-self-2 c =
+    kept-Grows c.self.inside.maker.rows.rows.entries c.make_composite.new.self.rows.entries c.self.inside.maker.markings.entries c.self.inside.maker.markings.entries c.self.inside.bodies.entries
+    c.self.invariant c.make_composite.ensures.grows c.make_composite.ensures.rows
+    (AreMarkings-Grows c.self.inside.maker.rows.rows.entries c.make_composite.new.self.rows.entries c.make_composite.ensures.grows c.self.inside.maker.markings.entries c.self.invariant.markings_right)
+
+pub returns-clause-keeps : goal.returns-clause-keeps
+returns-clause-keeps c =
+    on_ok c.match-branch-2.result
+    (table-extends c.self.inside.maker.rows.rows.entries c.make_composite.new.self.rows.entries c.self.inside.bodies.entries c.self.inside.names.entries c.args.self.now c.self.view_is
+    c.make_composite.ensures.grows)

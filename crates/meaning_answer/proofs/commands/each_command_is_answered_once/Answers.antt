@@ -1,0 +1,15 @@
+use Rattle.meaning_answer.proofs.Replies.{answers_exist, answers_are_unique}
+use Rattle.meaning_answer.proofs.ShapesOfReplies.{answers_are_shaped, answers_tell_faults}
+use Rattle.meaning_answer.proofs.commands.each_command_is_answered_once.Goals as goal
+
+pub returns-clause-exist : goal.returns-clause-exist
+returns-clause-exist c = answers_exist
+
+pub returns-clause-unique : goal.returns-clause-unique
+returns-clause-unique c = answers_are_unique
+
+pub returns-clause-shaped : goal.returns-clause-shaped
+returns-clause-shaped c = answers_are_shaped
+
+pub returns-clause-faults : goal.returns-clause-faults
+returns-clause-faults c = answers_tell_faults

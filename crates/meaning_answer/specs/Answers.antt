@@ -1,0 +1,61 @@
+-- The answer of a command, as a relation of its words, the files and the reply, in the order in which a
+-- refusal goes before another: usage, preprocessing with all that it reads, and for a check the form; and behind
+-- them the rules.
+use Rattle.std.specs.Prelude.{◌≡◌, ℕ, List, [], ◌∷◌, ◌⊎◌, codes}
+use Rattle.vocabulary.specs.declared.class.Class.{Class}
+use Rattle.meaning_outside.specs.Files.{FileMap}
+use Rattle.meaning_text.specs.Tokens.{Tok}
+use Rattle.meaning_text.specs.Terminals.{terminals_of}
+use Rattle.meaning_tree.specs.Trees.{SyntaxTree}
+use Rattle.meaning_syntax.specs.Trees.{Derives}
+use Rattle.meaning_first_rules.specs.Failures.{Failure, IsListing}
+use Rattle.meaning_preprocessing.specs.Unit.{UnitEnd, Ends, EndsEarly, PreprocessedUnit, IsPreprocessedUnit}
+use Rattle.meaning_answer.specs.Reply.{Reply, Clean}
+use Rattle.meaning_answer.specs.Requests.{Request, BadWord, MissingFile, Check, Expand, request_of}
+use Rattle.meaning_answer.specs.Tokens.{tokens_text}
+use Rattle.meaning_answer.specs.Lines.{bad_word_reply, missing_file_reply, stop_reply, not_built_reply, checked_reply}
+
+-- the paths of a unit's files by their numbers
+abbrev pub files_of : List (List ℕ) → List (List ℕ)
+files_of paths = codes "<command>" ∷ paths
+
+-- the reply tells the failures of the tree that the tokens derive
+abbrev pub TellsFailures : List Class → List (List ℕ) → List Tok → List Tok → Reply → Type 0
+TellsFailures classes files tokens undefined reply =
+    (tree : SyntaxTree) × (failures : List Failure) × Derives (terminals_of tokens) tree × IsListing tree failures
+    × (reply ≡ checked_reply classes files tokens undefined failures)
+
+-- or says that they derive none
+abbrev pub TellsNotBuilt : List (List ℕ) → List Tok → Reply → Type 0
+TellsNotBuilt files tokens reply = ((tree : SyntaxTree) → Derives (terminals_of tokens) tree → ⊥) × (reply ≡ not_built_reply files)
+
+-- the reply to a check of these tokens
+abbrev pub IsCheckReply : List Class → List (List ℕ) → List Tok → List Tok → Reply → Type 0
+IsCheckReply classes files tokens undefined reply = TellsFailures classes files tokens undefined reply ⊎ TellsNotBuilt files tokens reply
+
+-- to a check of a unit, however that ends
+abbrev pub IsCheckEnd : List Class → List Tok → UnitEnd → Reply → Type 0
+IsCheckEnd classes tokens (Ends undefined paths) reply = IsCheckReply classes (files_of paths) tokens undefined reply
+IsCheckEnd classes tokens (EndsEarly stop) reply = reply ≡ stop_reply stop
+
+-- the tokens, and nothing else
+abbrev pub expanded_reply : List Tok → Reply
+expanded_reply tokens = record { out = tokens_text tokens; err = []; ending = Clean }
+
+-- to the question for a unit's tokens
+abbrev pub expand_reply : List Tok → UnitEnd → Reply
+expand_reply tokens (Ends undefined paths) = expanded_reply tokens
+expand_reply tokens (EndsEarly stop) = stop_reply stop
+
+-- the reply to a request over these files: what is wrong with the words, or the reply to the preprocessed unit
+abbrev pub IsRequestReply : Request → FileMap → Reply → Type 0
+IsRequestReply (BadWord position word) files reply = reply ≡ bad_word_reply word
+IsRequestReply MissingFile files reply = reply ≡ missing_file_reply
+IsRequestReply (Check options path) files reply =
+    (unit : PreprocessedUnit) × IsPreprocessedUnit options.preprocessing files path unit × IsCheckEnd options.classes unit.tokens unit.end reply
+IsRequestReply (Expand options path) files reply =
+    (unit : PreprocessedUnit) × IsPreprocessedUnit options.preprocessing files path unit × (reply ≡ expand_reply unit.tokens unit.end)
+
+-- the reply is the answer to the words over these files
+abbrev pub IsAnswer : List (List ℕ) → FileMap → Reply → Type 0
+IsAnswer words files reply = IsRequestReply (request_of words) files reply

@@ -1,0 +1,38 @@
+// What is proved of constants, and examples.
+ghost use Rattle.meaning_constants.specs.laws.Numbers.{ConversionsAreInRange, ConversionsKeepNumbers, ConversionsWrap};
+ghost use Rattle.meaning_constants.specs.laws.Constants.{ConstantsAreInRange};
+ghost use Rattle.meaning_constants.specs.examples.Numbers.{ConversionExamples};
+ghost use Rattle.meaning_constants.specs.examples.Constants.{OperatorExamples, EvaluationExamples, CastExamples, FoulExamples};
+ghost use Rattle.meaning_constants.specs.examples.Enumerators.{EnumeratorExamples};
+ghost use Rattle.meaning_constants.specs.examples.Compared.{ComparedExamples};
+
+/// A number that is converted to an integer type becomes the one number of it that differs by a multiple
+/// of how many it has, so itself where the type has it; in `_Bool` it becomes 0 or 1 (6.3.1.2, 6.3.1.3).
+#[tactic(auto, using(crate::proofs::Numbers::converted_is_in_range, crate::proofs::Numbers::converted_is_kept, crate::proofs::Numbers::converted_is_apart))]
+pub fn numbers_are_converted()
+    ensures in_range { ConversionsAreInRange }
+    ensures kept { ConversionsKeepNumbers }
+    ensures wrapped { ConversionsWrap }
+{}
+
+/// The number of a constant is one of its kind; that of a fouled one is one of the promoted kind.
+#[tactic(auto, using(crate::proofs::Ranges::constants_are_in_range))]
+pub fn constants_are_in_range()
+    ensures { ConstantsAreInRange }
+{}
+
+/// Numbers, expressions and enumerators whose constants one can tell by eye.
+pub fn worked_examples()
+    ensures conversions { ConversionExamples }
+    ensures operators { OperatorExamples }
+    ensures evaluated { EvaluationExamples }
+    ensures casts { CastExamples }
+    ensures fouled { FoulExamples }
+    ensures enumerators { EnumeratorExamples }
+{}
+
+/// Two thousand expressions have the types and the values that a compiler gives them, or no value where it finds that one
+/// divides by 0 or shifts by a count outside the width.
+pub fn compared_examples()
+    ensures { ComparedExamples }
+{}

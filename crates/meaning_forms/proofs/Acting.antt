@@ -1,0 +1,430 @@
+-- What each action leaves is known.
+use Rattle.std.proofs.Common.{◌≡◌, ℕ, Bool, true, false, ◌&&◌, List, [], ◌∷◌, ◌++◌, drop, Option, Some, None, IfSome, nat_lt, refl, sym, ap, subst, ◌∙◌, if◌then◌else◌}
+use Rattle.std.proofs.lemmas.Option.{same_Some}
+use Rattle.vocabulary.specs.declared.role.Role.{Role}
+use Rattle.vocabulary.specs.declared.role.Role.TheVariants.{Evaluated, TypePart}
+use Rattle.vocabulary.specs.declared.scope.Bound.{Bound}
+use Rattle.vocabulary.specs.declared.scope.Bound.TheVariants.{Enumerator, Unlinked}
+use Rattle.vocabulary.specs.declared.scope.NameSpace.TheVariants.{Ordinary, Tags}
+use Rattle.vocabulary.specs.declared.limit.LimitKind.TheVariants.{Parameters}
+use Rattle.vocabulary.specs.declared.node_kind.NodeKind.TheVariants as kinds
+use Rattle.vocabulary.specs.declared.action.Action.{Action}
+use Rattle.vocabulary.specs.declared.action.Action.TheVariants.{Append, AppendAttribute, AppendDeclarator, AppendLeadingAttributes, AwaitBody, BeginAtNext, BeginDeclarators, BeginList, BindDeclarator, BindEnumerator, BindFurtherDeclarator, BindParameter, CloseParameters, CloseScope, CountParameter, DeclareTag, DefineTag, JoinAnyParts, JoinParts, JoinSuffixes, MakeCharacterConstant, MakeForPart, MakeIntegerConstant, MakeOptionalDeclarator, MakeParenthesizedAttributes, MakeStringLiteral, NoteFunctionDeclarator, OpenBody, OpenScope, RequireType, RequireTypeOrAttributes, UseName, UseTag, UseTypedefName, WithoutTag}
+use Rattle.meaning_tree.specs.Trees.{SyntaxTree, Node, Parts, NoParts, Part, with_parts}
+use Rattle.meaning_tree.specs.Forms.{PartSort, LeadingLists, ADeclarator, ADeclaratorPart, ASpecifier, AnExpression, AConstant, AString, attribute_lists, expressions, optional_expressions, IsOf, Slot, One, Perhaps, Each, slots_of, Fits, nothing, one, left_out, there, no_more, one_more, IsFormedTree, AreFormedTrees}
+use Rattle.meaning_scopes.specs.Scopes.{Found}
+use Rattle.meaning_scopes.specs.Redeclaration.{bound_here, is_redeclared}
+use Rattle.meaning_derivation.specs.Values.{Value, WordValue, TreeValue, ListValue, value_at, token_of, text_of, parts_of, before, name_of, plain_tree}
+use Rattle.meaning_derivation.specs.State.{State, Goes, made_as, made, with_limit}
+use Rattle.meaning_derivation.specs.Lists.{reversed_before, part_count, most_parameters, appended, joined, suffixed, has_spelling, name_or, unnamed_declarator, attributes_list, leading_attributes, part_of_for, first_tree_token}
+use Rattle.meaning_derivation.specs.Scoping.{declared, bound, bound_as, last_handle, parameter_bound, tag_at, found_name, found_here, parts_below, ends_with_parameters, name_used, typedef_named}
+use Rattle.meaning_derivation.specs.Shapes.{Shape, shape_of, shaped_tree}
+use Rattle.meaning_derivation.specs.Actions.{act, below}
+use Rattle.meaning_derivation.proofs.Shaping.{shapes_are_made}
+use Rattle.meaning_forms.proofs.Slots.{is_within, IsOf-more, within-fits, both}
+use Rattle.meaning_forms.proofs.Knowledge.{Known, AWord, ATree, AList, AreOf, Is, grown, is_list, grown-is, alone-is, are_of-behind, with_parts-none}
+use Rattle.meaning_forms.proofs.Effects.{behind_known, behind_shape, where_, declarator_parts, lists_of_attributes, slots_from}
+use Rattle.meaning_forms.proofs.Fronts.{Stand, beneath, word_first, tree_first, list_first, some_first, stand_more, stand_same}
+use Rattle.meaning_forms.proofs.Making.{reached, reached_unless, made-values, made_stands}
+
+-- a test that holds, and what is known then
+where_holds : (test : Bool) (known after : List Known) → where_ test known ≡ Some after → (test ≡ true) × (known ≡ after)
+where_holds true known after is = (refl, same_Some known after is)
+where_holds false known after is = absurd (cc is)
+
+-- Attribute lists, where there are any
+some_lists : (role : Role) (tree : SyntaxTree) (parts : Parts (List ℕ)) → Fits (Each TypePart attribute_lists ∷ []) (Part role tree parts)
+    → Fits (One TypePart attribute_lists ∷ Each TypePart attribute_lists ∷ []) (Part role tree parts)
+some_lists role tree parts (one_more is fits) = one is fits
+some_lists role tree parts (no_more fits) = elim fits [ ]
+
+-- parts of one role the other way round, before others
+reversed-fits : (role : Role) (sorts : List PartSort) (slots : List Slot) (parts others : Parts (List ℕ)) → Fits (Each role sorts ∷ []) parts → Fits (Each role sorts ∷ slots) others
+    → Fits (Each role sorts ∷ slots) (reversed_before parts others)
+reversed-fits role sorts slots NoParts others (no_more fits) further = further
+reversed-fits role sorts slots (Part its_role tree parts) others (no_more fits) further = elim fits [ ]
+reversed-fits role sorts slots (Part its_role tree parts) others (one_more is fits) further =
+    reversed-fits role sorts slots parts (Part its_role tree others) fits (one_more is further)
+
+reversed-formed : (parts others : Parts (List ℕ)) → AreFormedTrees parts → AreFormedTrees others → AreFormedTrees (reversed_before parts others)
+reversed-formed NoParts others formed also = also
+reversed-formed (Part role tree parts) others formed also = reversed-formed parts (Part role tree others) formed.1 (formed.0, also)
+
+module _ (begun : Parts (List ℕ)) (s next : State) (rest : List Value) where
+  abbrev Stands : List Known → Type 0
+  Stands known = Stand begun known s.values rest
+
+  abbrev Leaves : List Known → Type 0
+  Leaves after = Stand begun after next.values rest
+
+  -- what is known is this
+  leaves_same : (known after : List Known) → known ≡ after → Leaves known → Leaves after
+  leaves_same known after same stand = subst Leaves same stand
+
+  -- nothing changed
+  kept : (known after : List Known) → next.values ≡ s.values → Some known ≡ Some after → Stands known → Leaves after
+  kept known after is same stand = leaves_same known after (same_Some known after same) (stand_same begun known s.values next.values rest is stand)
+
+  -- one more value
+  put : (it : Known) (known after : List Known) (value : Value) → next.values ≡ value ∷ s.values → Is begun it value → it ∷ known ≡ after → Stands known → Leaves after
+  put it known after value is so same stand =
+      leaves_same (it ∷ known) after same
+      (stand_same begun (it ∷ known) (value ∷ s.values) next.values rest is (stand_more begun it known value s.values rest so stand))
+
+  -- a value in the place of others
+  replace : (it : Known) (known after : List Known) (value : Value) (others : List Value) → next.values ≡ value ∷ others → Is begun it value → it ∷ known ≡ after
+      → Stand begun known others rest → Leaves after
+  replace it known after value others is so same stand =
+      leaves_same (it ∷ known) after same (stand_same begun (it ∷ known) (value ∷ others) next.values rest is (stand_more begun it known value others rest so stand))
+
+  -- a formed tree in the place of a word
+  in_place_of_word : (tree : SyntaxTree) (sorts : List PartSort) (known after : List Known) → made_as s 1 (TreeValue tree) ≡ Goes next → IsFormedTree tree → IsOf sorts tree
+      → Some (ATree sorts ∷ known) ≡ Some after → Stands (AWord ∷ known) → Leaves after
+  in_place_of_word tree sorts known after is formed of same stand =
+      let (token, text, others, top, below_it) = word_first begun known s.values rest stand in
+      replace (ATree sorts) known after (TreeValue tree) others (made-values s next 1 (TreeValue tree) is ∙ ap (λ all. TreeValue tree ∷ drop 1 all) top)
+      (formed, of) (same_Some _ _ same) below_it
+
+  append_acts :
+      (role : Role) (sorts : List PartSort) (list : Known) (known after : List Known) → act (Append role) s ≡ Goes next
+      → where_ (is_list list) (grown list (One role sorts ∷ []) ∷ known) ≡ Some after → Stands (ATree sorts ∷ list ∷ known) → Leaves after
+  append_acts role sorts list known after is found stand =
+      let tests = where_holds (is_list list) (grown list (One role sorts ∷ []) ∷ known) after found in
+      let (tree, others, top, formed, second) = tree_first begun sorts (list ∷ known) s.values rest stand in
+      let (parts, left, under, list_is, below_it) = list_first begun list known others rest tests.0 second in
+      replace (grown list (One role sorts ∷ [])) known after (ListValue (with_parts parts (Part role tree NoParts))) left
+      (reached _ next is ∙ ap (λ all. appended role (value_at all 1) (value_at all 0) ∷ drop 2 all) (top ∙ ap (λ all. TreeValue tree ∷ all) under))
+      (grown-is begun list parts (Part role tree NoParts) (One role sorts ∷ []) tests.0 list_is (alone-is role sorts tree formed.0 formed.1)) tests.1 below_it
+
+  begin_declarators_acts :
+      (slots : List Slot) (sorts : List PartSort) (known after : List Known) → act BeginDeclarators s ≡ Goes next
+      → Some (AList (One Evaluated sorts ∷ slots) ∷ known) ≡ Some after → Stands (AList slots ∷ ATree sorts ∷ known) → Leaves after
+  begin_declarators_acts slots sorts known after is found stand =
+      let (parts, others, top, are, second) = list_first begun (AList slots) (ATree sorts ∷ known) s.values rest refl stand in
+      let (tree, left, under, formed, below_it) = tree_first begun sorts known others rest second in
+      replace (AList (One Evaluated sorts ∷ slots)) known after (ListValue (Part Evaluated tree parts)) left
+      (reached _ next is
+      ∙ ap (λ all. ListValue (before Evaluated (value_at all 1) (parts_of (value_at all 0))) ∷ drop 2 all) (top ∙ ap (λ all. ListValue parts ∷ all) under))
+      (one formed.1 are.0, (formed.0, are.1)) (same_Some _ _ found) below_it
+
+  append_declarator_acts :
+      (slots : List Slot) (sorts : List PartSort) (list : Known) (known after : List Known) → act AppendDeclarator s ≡ Goes next
+      → where_ (is_list list) (grown list (One Evaluated sorts ∷ slots) ∷ known) ≡ Some after → Stands (AList slots ∷ ATree sorts ∷ list ∷ known) → Leaves after
+  append_declarator_acts slots sorts list known after is found stand =
+      let tests = where_holds (is_list list) (grown list (One Evaluated sorts ∷ slots) ∷ known) after found in
+      let (own, others, top, are, second) = list_first begun (AList slots) (ATree sorts ∷ list ∷ known) s.values rest refl stand in
+      let (tree, left, under, formed, third) = tree_first begun sorts (list ∷ known) others rest second in
+      let (parts, lowest, lower, list_is, below_it) = list_first begun list known left rest tests.0 third in
+      replace (grown list (One Evaluated sorts ∷ slots)) known after (ListValue (with_parts parts (Part Evaluated tree own))) lowest
+      (reached _ next is
+      ∙ ap (λ all. ListValue (with_parts (parts_of (value_at all 2)) (before Evaluated (value_at all 1) (parts_of (value_at all 0)))) ∷ drop 3 all)
+      (top ∙ ap (λ all. ListValue own ∷ all) (under ∙ ap (λ all. TreeValue tree ∷ all) lower)))
+      (grown-is begun list parts (Part Evaluated tree own) (One Evaluated sorts ∷ slots) tests.0 list_is (one formed.1 are.0, (formed.0, are.1))) tests.1 below_it
+
+  leading_acts :
+      (own : Parts (List ℕ)) (list : Known) (parts : Parts (List ℕ)) (known after : List Known) (left : List Value) → s.values ≡ ListValue own ∷ ListValue parts ∷ left
+      → leading_attributes s (value_at s.values 1) own ≡ Goes next → AreOf lists_of_attributes own → is_list list ≡ true → Is begun list (ListValue parts)
+      → grown list (Perhaps TypePart (LeadingLists ∷ []) ∷ []) ∷ known ≡ after → Stand begun known left rest → Leaves after
+  leading_acts NoParts list parts known after left values is are test list_is same stand =
+      replace (grown list (Perhaps TypePart (LeadingLists ∷ []) ∷ [])) known after (ListValue parts) left
+      (reached _ next is ∙ ap (λ all. value_at all 1 ∷ drop 2 all) values)
+      (subst (λ p. Is begun (grown list (Perhaps TypePart (LeadingLists ∷ []) ∷ [])) (ListValue p)) (with_parts-none parts)
+      (grown-is begun list parts NoParts (Perhaps TypePart (LeadingLists ∷ []) ∷ []) test list_is (left_out nothing, tt))) same stand
+  leading_acts (Part role tree others) list parts known after left values is are test list_is same stand =
+      replace (grown list (Perhaps TypePart (LeadingLists ∷ []) ∷ [])) known after
+      (ListValue (with_parts parts (Part TypePart (plain_tree kinds.LeadingAttributes (first_tree_token (Part role tree others)) (Part role tree others)) NoParts))) left
+      (made-values s next 2 _ is
+      ∙ ap
+      (λ all. appended TypePart (value_at all 1) (TreeValue (plain_tree kinds.LeadingAttributes (first_tree_token (Part role tree others)) (Part role tree others))) ∷ drop 2 all)
+      values)
+      (grown-is begun list parts _ (Perhaps TypePart (LeadingLists ∷ []) ∷ []) test list_is
+      (there refl nothing, ((some_lists role tree others are.0, are.1), tt))) same stand
+
+  append_leading_acts :
+      (slots : List Slot) (list : Known) (known after : List Known) → act AppendLeadingAttributes s ≡ Goes next
+      → where_ (is_list list && is_within slots lists_of_attributes) (grown list (Perhaps TypePart (LeadingLists ∷ []) ∷ []) ∷ known) ≡ Some after
+      → Stands (AList slots ∷ list ∷ known) → Leaves after
+  append_leading_acts slots list known after is found stand =
+      let tests = where_holds (is_list list && is_within slots lists_of_attributes) (grown list (Perhaps TypePart (LeadingLists ∷ []) ∷ []) ∷ known) after found in
+      let passed = both (is_list list) (is_within slots lists_of_attributes) tests.0 in
+      let (own, others, top, are, second) = list_first begun (AList slots) (list ∷ known) s.values rest refl stand in
+      let (parts, left, under, list_is, below_it) = list_first begun list known others rest passed.0 second in
+      let values = top ∙ ap (λ all. ListValue own ∷ all) under in
+      leading_acts own list parts known after left values
+      (subst (λ value. leading_attributes s (value_at s.values 1) (parts_of value) ≡ Goes next) (ap (λ all. value_at all 0) values) is)
+      (within-fits slots lists_of_attributes passed.1 own are.0, are.1) passed.0 list_is tests.1 below_it
+
+  join_acts :
+      (slots first : List Slot) (known after : List Known) → act JoinParts s ≡ Goes next → Some (AList (first ++ slots) ∷ AWord ∷ known) ≡ Some after
+      → Stands (AList slots ∷ AWord ∷ AList first ∷ known) → Leaves after
+  join_acts slots first known after is found stand =
+      let (own, others, top, are, second) = list_first begun (AList slots) (AWord ∷ AList first ∷ known) s.values rest refl stand in
+      let (token, text, left, under, third) = word_first begun (AList first ∷ known) others rest second in
+      let (parts, lowest, lower, first_are, below_it) = list_first begun (AList first) known left rest refl third in
+      replace (AList (first ++ slots)) (AWord ∷ known) after (ListValue (with_parts parts own)) (WordValue token text ∷ lowest)
+      (reached _ next is
+      ∙ ap (λ all. joined (value_at all 2) (value_at all 0) ∷ value_at all 1 ∷ drop 3 all)
+      (top ∙ ap (λ all. ListValue own ∷ all) (under ∙ ap (λ all. WordValue token text ∷ all) lower)))
+      (are_of-behind first slots parts own first_are are) (same_Some _ _ found)
+      (stand_more begun AWord known (WordValue token text) lowest rest tt below_it)
+
+  word_of : (test : Bool) (place name : Value) → Is begun AWord place → Is begun AWord name → Is begun AWord (if test then name else place)
+  word_of true place name is also = also
+  word_of false place name is also = is
+
+  join_any_acts :
+      (slots first : List Slot) (known after : List Known) → act JoinAnyParts s ≡ Goes next → Some (AList (first ++ slots) ∷ AWord ∷ known) ≡ Some after
+      → Stands (AList slots ∷ AWord ∷ AList first ∷ AWord ∷ known) → Leaves after
+  join_any_acts slots first known after is found stand =
+      let (own, others, top, are, second) = list_first begun (AList slots) (AWord ∷ AList first ∷ AWord ∷ known) s.values rest refl stand in
+      let (token, text, left, under, third) = word_first begun (AList first ∷ AWord ∷ known) others rest second in
+      let (parts, lower, third_is, first_are, fourth) = list_first begun (AList first) (AWord ∷ known) left rest refl third in
+      let (place, spelling, lowest, fourth_is, below_it) = word_first begun known lower rest fourth in
+      replace (AList (first ++ slots)) (AWord ∷ known) after (ListValue (with_parts parts own))
+      (name_or (WordValue place spelling) (WordValue token text) ∷ lowest)
+      (reached _ next is
+      ∙ ap (λ all. joined (value_at all 2) (value_at all 0) ∷ name_or (value_at all 3) (value_at all 1) ∷ drop 4 all)
+      (top
+      ∙ ap (λ all. ListValue own ∷ all)
+      (under ∙ ap (λ all. WordValue token text ∷ all) (third_is ∙ ap (λ all. ListValue parts ∷ all) fourth_is))))
+      (are_of-behind first slots parts own first_are are) (same_Some _ _ found)
+      (stand_more begun AWord known (name_or (WordValue place spelling) (WordValue token text)) lowest rest
+      (word_of (has_spelling (WordValue token text)) (WordValue place spelling) (WordValue token text) tt tt) below_it)
+
+  join_suffixes_acts :
+      (suffixes inner : List Slot) (known after : List Known) → act JoinSuffixes s ≡ Goes next
+      → where_ (is_within suffixes declarator_parts) (AList (Each TypePart (ADeclaratorPart ∷ []) ∷ inner) ∷ known) ≡ Some after
+      → Stands (AList suffixes ∷ AList inner ∷ known) → Leaves after
+  join_suffixes_acts suffixes inner known after is found stand =
+      let tests = where_holds (is_within suffixes declarator_parts) (AList (Each TypePart (ADeclaratorPart ∷ []) ∷ inner) ∷ known) after found in
+      let (own, others, top, are, second) = list_first begun (AList suffixes) (AList inner ∷ known) s.values rest refl stand in
+      let (parts, left, under, inner_are, below_it) = list_first begun (AList inner) known others rest refl second in
+      replace (AList (Each TypePart (ADeclaratorPart ∷ []) ∷ inner)) known after (ListValue (reversed_before own parts)) left
+      (reached _ next is ∙ ap (λ all. suffixed (value_at all 0) (value_at all 1) ∷ drop 2 all) (top ∙ ap (λ all. ListValue own ∷ all) under)) (
+        reversed-fits TypePart (ADeclaratorPart ∷ []) inner own parts (within-fits suffixes declarator_parts tests.0 own are.0) (no_more inner_are.0),
+        reversed-formed own parts are.1 inner_are.1,
+      ) tests.1 below_it
+
+  attributes_acts :
+      (own : Parts (List ℕ)) (word : Value) (known after : List Known) (left : List Value) → drop 2 s.values ≡ left → attributes_list s word own ≡ Goes next
+      → AreOf lists_of_attributes own → AList (Perhaps TypePart (ADeclaratorPart ∷ []) ∷ []) ∷ known ≡ after → Stand begun known left rest → Leaves after
+  attributes_acts NoParts word known after left values is are same stand =
+      replace (AList (Perhaps TypePart (ADeclaratorPart ∷ []) ∷ [])) known after (ListValue NoParts) left
+      (reached _ next is ∙ ap (λ all. ListValue NoParts ∷ all) values) (left_out nothing, tt) same stand
+  attributes_acts (Part role tree others) word known after left values is are same stand =
+      replace (AList (Perhaps TypePart (ADeclaratorPart ∷ []) ∷ [])) known after _ left
+      (made-values s next 2 _ is ∙ beneath values) (there refl nothing, ((some_lists role tree others are.0, are.1), tt)) same stand
+
+  parenthesized_acts :
+      (slots : List Slot) (known after : List Known) → act MakeParenthesizedAttributes s ≡ Goes next
+      → where_ (is_within slots lists_of_attributes) (AList (Perhaps TypePart (ADeclaratorPart ∷ []) ∷ []) ∷ known) ≡ Some after
+      → Stands (AList slots ∷ AWord ∷ known) → Leaves after
+  parenthesized_acts slots known after is found stand =
+      let tests = where_holds (is_within slots lists_of_attributes) (AList (Perhaps TypePart (ADeclaratorPart ∷ []) ∷ []) ∷ known) after found in
+      let (own, others, top, are, second) = list_first begun (AList slots) (AWord ∷ known) s.values rest refl stand in
+      let (token, text, left, under, below_it) = word_first begun known others rest second in
+      let values = top ∙ ap (λ all. ListValue own ∷ all) under in
+      attributes_acts own (value_at s.values 1) known after left (ap (drop 2) values)
+      (subst (λ value. attributes_list s (value_at s.values 1) (parts_of value) ≡ Goes next) (ap (λ all. value_at all 0) values) is)
+      (within-fits slots lists_of_attributes tests.0 own are.0, are.1) tests.1 below_it
+
+  unnamed_acts :
+      (own : Parts (List ℕ)) (place : Value) (known after : List Known) (left : List Value) → drop 2 s.values ≡ left → unnamed_declarator s place own ≡ Goes next
+      → AreOf declarator_parts own → AList (Perhaps TypePart (ADeclarator ∷ []) ∷ []) ∷ known ≡ after → Stand begun known left rest → Leaves after
+  unnamed_acts NoParts place known after left values is are same stand =
+      replace (AList (Perhaps TypePart (ADeclarator ∷ []) ∷ [])) known after (ListValue NoParts) left
+      (reached _ next is ∙ ap (λ all. ListValue NoParts ∷ all) values) (left_out nothing, tt) same stand
+  unnamed_acts (Part role tree others) place known after left values is are same stand =
+      replace (AList (Perhaps TypePart (ADeclarator ∷ []) ∷ [])) known after _ left
+      (made-values s next 2 _ is ∙ beneath values) (there refl nothing, ((are.0, are.1), tt)) same stand
+
+  optional_acts :
+      (test : Bool) (own : Parts (List ℕ)) (name : List ℕ) (token : ℕ) (place : Value) (known after : List Known) (left : List Value) → drop 2 s.values ≡ left
+      → (if test then made_as s 2 (ListValue (Part TypePart (Node kinds.Declarator token name 0 own) NoParts)) else unnamed_declarator s place own) ≡ Goes next
+      → AreOf declarator_parts own → AList (Perhaps TypePart (ADeclarator ∷ []) ∷ []) ∷ known ≡ after → Stand begun known left rest → Leaves after
+  optional_acts true own name token place known after left values is are same stand =
+      replace (AList (Perhaps TypePart (ADeclarator ∷ []) ∷ [])) known after _ left
+      (made-values s next 2 _ is ∙ beneath values) (there refl nothing, ((are.0, are.1), tt)) same stand
+  optional_acts false own name token place known after left values is are same stand = unnamed_acts own place known after left values is are same stand
+
+  optional_declarator_acts :
+      (slots : List Slot) (known after : List Known) → act MakeOptionalDeclarator s ≡ Goes next
+      → where_ (is_within slots declarator_parts) (AList (Perhaps TypePart (ADeclarator ∷ []) ∷ []) ∷ known) ≡ Some after
+      → Stands (AList slots ∷ AWord ∷ known) → Leaves after
+  optional_declarator_acts slots known after is found stand =
+      let tests = where_holds (is_within slots declarator_parts) (AList (Perhaps TypePart (ADeclarator ∷ []) ∷ []) ∷ known) after found in
+      let (own, others, top, are, second) = list_first begun (AList slots) (AWord ∷ known) s.values rest refl stand in
+      let (token, text, left, under, below_it) = word_first begun known others rest second in
+      let values = top ∙ ap (λ all. ListValue own ∷ all) under in
+      optional_acts (has_spelling (value_at s.values 1)) own (text_of (value_at s.values 1)) (token_of (value_at s.values 1)) (value_at s.values 1) known after left
+      (ap (drop 2) values)
+      (subst
+      (λ value. (if has_spelling (value_at s.values 1) then made_as s 2 (ListValue (Part TypePart (Node kinds.Declarator (token_of (value_at s.values 1)) (text_of (value_at s.values 1)) 0 (parts_of value)) NoParts)) else unnamed_declarator s (value_at s.values 1) (parts_of value)) ≡ Goes next)
+      (ap (λ all. value_at all 0) values) is)
+      (within-fits slots declarator_parts tests.0 own are.0, are.1) tests.1 below_it
+
+  for_part_acts :
+      (own : Parts (List ℕ)) (word : Value) (known after : List Known) (left : List Value) → drop 2 s.values ≡ left → part_of_for s own word ≡ Goes next
+      → AreOf (Perhaps Evaluated expressions ∷ []) own → ATree optional_expressions ∷ known ≡ after → Stand begun known left rest → Leaves after
+  for_part_acts NoParts word known after left values is are same stand =
+      replace (ATree optional_expressions) known after _ left (made-values s next 2 _ is ∙ beneath values) ((nothing, tt), refl) same stand
+  for_part_acts (Part role tree others) word known after left values is are same stand =
+      replace (ATree optional_expressions) known after (TreeValue tree) left (reached _ next is ∙ ap (λ all. TreeValue tree ∷ all) values)
+      (are.1.0, an_operand role tree others are.0) same stand
+    where
+      an_operand : (its_role : Role) (operand : SyntaxTree) (more : Parts (List ℕ)) → Fits (Perhaps Evaluated expressions ∷ []) (Part its_role operand more)
+          → IsOf optional_expressions operand
+      an_operand its_role operand more (there of fits) = IsOf-more expressions optional_expressions operand refl of
+      an_operand its_role operand more (left_out fits) = elim fits [ ]
+
+  make_for_part_acts :
+      (slots : List Slot) (known after : List Known) → act MakeForPart s ≡ Goes next
+      → where_ (is_within slots (Perhaps Evaluated expressions ∷ [])) (ATree optional_expressions ∷ known) ≡ Some after
+      → Stands (AWord ∷ AList slots ∷ known) → Leaves after
+  make_for_part_acts slots known after is found stand =
+      let tests = where_holds (is_within slots (Perhaps Evaluated expressions ∷ [])) (ATree optional_expressions ∷ known) after found in
+      let (token, text, others, top, second) = word_first begun (AList slots ∷ known) s.values rest stand in
+      let (own, left, under, are, below_it) = list_first begun (AList slots) known others rest refl second in
+      let values = top ∙ ap (λ all. WordValue token text ∷ all) under in
+      for_part_acts own (value_at s.values 0) known after left (ap (drop 2) values)
+      (subst (λ value. part_of_for s (parts_of value) (value_at s.values 0) ≡ Goes next) (ap (λ all. value_at all 1) values) is)
+      (within-fits slots (Perhaps Evaluated expressions ∷ []) tests.0 own are.0, are.1) tests.1 below_it
+
+  attribute_acts : (list : Known) (known after : List Known) → act AppendAttribute s ≡ Goes next → Some (list ∷ known) ≡ Some after → Stands (AWord ∷ list ∷ known) → Leaves after
+  attribute_acts list known after is found stand =
+      let (token, text, others, top, second) = word_first begun (list ∷ known) s.values rest stand in
+      let (value, left, under, value_is, below_it) = some_first begun list known others rest second in
+      replace list known after value left
+      (reached _ next is ∙ ap (λ all. value_at all 1 ∷ drop 2 all) (top ∙ ap (λ all. WordValue token text ∷ all) under)) value_is (same_Some _ _ found) below_it
+
+  string_acts :
+      (slots : List Slot) (known after : List Known) → act MakeStringLiteral s ≡ Goes next
+      → where_ (is_within slots (slots_of kinds.StringLiteral)) (ATree (AString ∷ []) ∷ known) ≡ Some after → Stands (AList slots ∷ AWord ∷ known) → Leaves after
+  string_acts slots known after is found stand =
+      let tests = where_holds (is_within slots (slots_of kinds.StringLiteral)) (ATree (AString ∷ []) ∷ known) after found in
+      let (own, others, top, are, second) = list_first begun (AList slots) (AWord ∷ known) s.values rest refl stand in
+      let (token, text, left, under, below_it) = word_first begun known others rest second in
+      let values = top ∙ ap (λ all. ListValue own ∷ all) under in
+      replace (ATree (AString ∷ [])) known after _ left (made-values s next 2 _ is ∙ beneath (ap (drop 2) values)) (
+        subst (λ value. AreOf (slots_of kinds.StringLiteral) (parts_of value)) (sym (ap (λ all. value_at all 0) values))
+            (within-fits slots (slots_of kinds.StringLiteral) tests.0 own are.0, are.1),
+        refl,
+      ) tests.1 below_it
+
+  -- Names
+
+  declared_values : (tree : Value) (new : Bound) → declared s tree new ≡ Goes next → next.values ≡ s.values
+  declared_values tree new is =
+      reached_unless (is_redeclared (bound_here (found_name s Ordinary (name_of tree))) new) (bound s Ordinary (name_of tree) (last_handle s) new) next _ _ is
+
+  parameter_values : (specifiers : Value) (parts : Parts (List ℕ)) → parameter_bound s specifiers parts ≡ Goes next → next.values ≡ s.values
+  parameter_values specifiers NoParts is = reached s next is
+  parameter_values specifiers (Part role (Node kind token [] number parts) others) is = reached s next is
+  parameter_values specifiers (Part role (Node kind token (byte ∷ bytes) number parts) others) is =
+      declared_values (TreeValue (Node kind token (byte ∷ bytes) number parts)) Unlinked is
+
+  tag_acts :
+      (found : Option (Found (List ℕ))) (tag : List ℕ) (keyword : ℕ) (known after : List Known) → tag_at s found tag keyword ≡ Goes next
+      → Some (AWord ∷ known) ≡ Some after → Stands known → Leaves after
+  tag_acts None tag keyword known after is same stand = put AWord known after (WordValue keyword []) (reached _ next is) tt (same_Some _ _ same) stand
+  tag_acts (Some first) tag keyword known after is same stand =
+      put AWord known after (WordValue first.entry.declaration []) (reached _ next is) tt (same_Some _ _ same) stand
+
+  name_acts :
+      (found : Option (Found (List ℕ))) (word : Value) (known after : List Known) → name_used s found word ≡ Goes next → Some (ATree (AnExpression ∷ []) ∷ known) ≡ Some after
+      → Stands (AWord ∷ known) → Leaves after
+  name_acts None word known after is same stand = absurd (cc is)
+  name_acts (Some declaration) word known after is same stand = in_place_of_word _ (AnExpression ∷ []) known after is (nothing, tt) refl same stand
+
+  typedef_acts :
+      (found : Option (Found (List ℕ))) (word : Value) (known after : List Known) → typedef_named s found word ≡ Goes next → Some (ATree (ASpecifier ∷ []) ∷ known) ≡ Some after
+      → Stands (AWord ∷ known) → Leaves after
+  typedef_acts None word known after is same stand = absurd (cc is)
+  typedef_acts (Some declaration) word known after is same stand = in_place_of_word _ (ASpecifier ∷ []) known after is (nothing, tt) refl same stand
+
+  -- something is noted, or not
+  noted_values : (test : Bool) (noted : State) → noted.values ≡ s.values → (if test then noted else s).values ≡ s.values
+  noted_values true noted is = is
+  noted_values false noted is = refl
+
+  limited_values : (test : Bool) (limited : State) → limited.values ≡ s.values → (if test then s else limited).values ≡ s.values
+  limited_values true limited is = refl
+  limited_values false limited is = is
+
+  -- Shapes
+
+  shape_acts :
+      (action : Action) (known after : List Known) (shape : Option Shape) → IfSome shape (λ it. act action s ≡ made s it.takes (shaped_tree it s.values)) → act action s ≡ Goes next
+      → behind_shape known shape ≡ Some after → Stands known → Leaves after
+  shape_acts action known after None makes is found stand = absurd (cc found)
+  shape_acts action known after (Some shape) makes is found stand =
+      made_stands begun known s.values rest stand shape (slots_from shape.sources known) after next.values refl found
+      (made-values s next shape.takes (TreeValue (shaped_tree shape s.values)) (sym makes ∙ is))
+
+  -- Each action
+
+  pub acts : (action : Action) (known after : List Known) → act action s ≡ Goes next → behind_known action known ≡ Some after → Stands known → Leaves after
+  acts BeginList known after is found stand = put (AList []) known after (ListValue NoParts) (reached _ next is) (nothing, tt) (same_Some _ _ found) stand
+  acts BeginAtNext known after is found stand =
+      leaves_same (AList [] ∷ AWord ∷ known) after (same_Some _ _ found)
+      (stand_same begun (AList [] ∷ AWord ∷ known) (ListValue NoParts ∷ WordValue s.next_token [] ∷ s.values) next.values rest (reached _ next is)
+      (stand_more begun (AList []) (AWord ∷ known) (ListValue NoParts) (WordValue s.next_token [] ∷ s.values) rest (nothing, tt)
+      (stand_more begun AWord known (WordValue s.next_token []) s.values rest tt stand)))
+  acts (Append role) (ATree sorts ∷ list ∷ known) after is found stand = append_acts role sorts list known after is found stand
+  acts (Append role) known after is found stand = absurd (cc found)
+  acts BeginDeclarators (AList slots ∷ ATree sorts ∷ known) after is found stand = begin_declarators_acts slots sorts known after is found stand
+  acts BeginDeclarators known after is found stand = absurd (cc found)
+  acts AppendDeclarator (AList slots ∷ ATree sorts ∷ list ∷ known) after is found stand = append_declarator_acts slots sorts list known after is found stand
+  acts AppendDeclarator known after is found stand = absurd (cc found)
+  acts AppendLeadingAttributes (AList slots ∷ list ∷ known) after is found stand = append_leading_acts slots list known after is found stand
+  acts AppendLeadingAttributes known after is found stand = absurd (cc found)
+  acts BindDeclarator known after is found stand = kept known after (declared_values (below s 0) (bound_as s (below s 1) (below s 0)) is) found stand
+  acts BindFurtherDeclarator known after is found stand = kept known after (declared_values (below s 0) (bound_as s (below s 2) (below s 0)) is) found stand
+  acts NoteFunctionDeclarator known after is found stand =
+      kept known after (reached _ next is ∙ noted_values (ends_with_parameters (parts_below (below s 1))) (record s { function_end = Some s.taken }) refl) found stand
+  acts AwaitBody known after is found stand = kept known after (reached _ next is) found stand
+  acts RequireType known after is found stand = kept known after (reached _ next is) found stand
+  acts RequireTypeOrAttributes known after is found stand = kept known after (reached _ next is) found stand
+  acts DeclareTag known after is found stand = kept known after (reached _ next is) found stand
+  acts UseTypedefName (AWord ∷ known) after is found stand = typedef_acts (found_name s Ordinary (text_of (below s 0))) (below s 0) known after is found stand
+  acts UseTypedefName known after is found stand = absurd (cc found)
+  acts DefineTag known after is found stand =
+      tag_acts (found_here (found_name s Tags (text_of (below s 0)))) (text_of (below s 0)) (token_of (below s 2)) known after is found stand
+  acts UseTag known after is found stand = tag_acts (found_name s Tags (text_of (below s 0))) (text_of (below s 0)) (token_of (below s 2)) known after is found stand
+  acts WithoutTag known after is found stand =
+      leaves_same (AWord ∷ AWord ∷ known) after (same_Some _ _ found)
+      (stand_same begun (AWord ∷ AWord ∷ known) (WordValue (token_of (below s 1)) [] ∷ WordValue (token_of (below s 1)) [] ∷ s.values) next.values rest (reached _ next is)
+      (stand_more begun AWord (AWord ∷ known) (WordValue (token_of (below s 1)) []) (WordValue (token_of (below s 1)) [] ∷ s.values) rest tt
+      (stand_more begun AWord known (WordValue (token_of (below s 1)) []) s.values rest tt stand)))
+  acts BindEnumerator known after is found stand = kept known after (declared_values (below s 0) Enumerator is) found stand
+  acts AppendAttribute (AWord ∷ list ∷ known) after is found stand = attribute_acts list known after is found stand
+  acts AppendAttribute known after is found stand = absurd (cc found)
+  acts JoinParts (AList slots ∷ AWord ∷ AList first ∷ known) after is found stand = join_acts slots first known after is found stand
+  acts JoinParts known after is found stand = absurd (cc found)
+  acts JoinAnyParts (AList slots ∷ AWord ∷ AList first ∷ AWord ∷ known) after is found stand = join_any_acts slots first known after is found stand
+  acts JoinAnyParts known after is found stand = absurd (cc found)
+  acts JoinSuffixes (AList suffixes ∷ AList inner ∷ known) after is found stand = join_suffixes_acts suffixes inner known after is found stand
+  acts JoinSuffixes known after is found stand = absurd (cc found)
+  acts MakeParenthesizedAttributes (AList slots ∷ AWord ∷ known) after is found stand = parenthesized_acts slots known after is found stand
+  acts MakeParenthesizedAttributes known after is found stand = absurd (cc found)
+  acts MakeOptionalDeclarator (AList slots ∷ AWord ∷ known) after is found stand = optional_declarator_acts slots known after is found stand
+  acts MakeOptionalDeclarator known after is found stand = absurd (cc found)
+  acts CountParameter known after is found stand =
+      kept known after (reached _ next is ∙ limited_values (nat_lt (part_count (parts_of (below s 0))) most_parameters) (with_limit Parameters s) refl) found stand
+  acts BindParameter known after is found stand = kept known after (parameter_values (below s 1) (parts_of (below s 0)) is) found stand
+  acts CloseParameters known after is found stand = kept known after (reached _ next is) found stand
+  acts OpenScope known after is found stand = kept known after (reached _ next is) found stand
+  acts CloseScope known after is found stand = kept known after (reached _ next is) found stand
+  acts OpenBody known after is found stand = kept known after (reached _ next is) found stand
+  acts MakeForPart (AWord ∷ AList slots ∷ known) after is found stand = make_for_part_acts slots known after is found stand
+  acts MakeForPart known after is found stand = absurd (cc found)
+  acts UseName (AWord ∷ known) after is found stand = name_acts (found_name s Ordinary (text_of (below s 0))) (below s 0) known after is found stand
+  acts UseName known after is found stand = absurd (cc found)
+  acts MakeIntegerConstant (AWord ∷ known) after is found stand = in_place_of_word _ (AConstant ∷ []) known after is (nothing, tt) refl found stand
+  acts MakeIntegerConstant known after is found stand = absurd (cc found)
+  acts MakeCharacterConstant (AWord ∷ known) after is found stand = in_place_of_word _ (AnExpression ∷ []) known after is (nothing, tt) refl found stand
+  acts MakeCharacterConstant known after is found stand = absurd (cc found)
+  acts MakeStringLiteral (AList slots ∷ AWord ∷ known) after is found stand = string_acts slots known after is found stand
+  acts MakeStringLiteral known after is found stand = absurd (cc found)
+  -- each other one makes the node of its shape
+  acts action known after is found stand = shape_acts action known after (shape_of action) (shapes_are_made action s) is found stand

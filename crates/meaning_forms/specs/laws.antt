@@ -1,0 +1,2 @@
+-- What is proved of the trees that units derive.
+pub mod Forms

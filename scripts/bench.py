@@ -243,6 +243,36 @@ def conditions(count):
     return b"#define m(a) a\n" + b"#if m(1) < 2 && defined m || x\n#endif\n" * count
 
 
+KERNEL_MACROS = (
+    b"likely(x) __builtin_expect(!!(x), 1)",
+    b"BIT(nr) (1UL << (nr))",
+    b"SECOND(first, second, ...) second",
+    b"COMMA_BEHIND_1 0,",
+    b"IS_ONE_(comma) SECOND(comma 1, 0)",
+    b"IS_ONE(value) IS_ONE_(COMMA_BEHIND_##value)",
+    b"IS_ENABLED(option) IS_ONE(option)",
+    b"CONFIG_ODD 1",
+    b"min(x, y) ({ typeof(x) _x = (x); typeof(y) _y = (y); _x < _y ? _x : _y; })",
+)
+KERNEL_FUNCTION = b"""int f%06d(int a, int b)
+{
+	if (likely(a < b))
+		return IS_ENABLED(CONFIG_ODD);
+	return min(a, BIT(3));
+}
+"""
+
+
+def uses_in_functions(functions):
+    """So many functions, each with four uses of macros in the manner of the kernel's."""
+    return defined(KERNEL_MACROS, b"".join(KERNEL_FUNCTION % number for number in range(functions)))
+
+
+def nested_min(depth):
+    """Calls of a macro within one another that puts each argument twice: 2^depth copies of the innermost one."""
+    return defined([b"min(x, y) (x < y ? x : y)"], b"min(1, " * depth + b"a" + b")" * depth)
+
+
 class Call(NamedTuple):
     """Calls of a library: their name, the words of the command before and behind the file, files of each of the sizes,
     and how many times as long one of ten times the size may take.
@@ -320,6 +350,8 @@ CALLS = (
     of_macros("parameters", parameters, (10, 100, 1000)),
     of_directives("definitions with uses", used_definitions, (1000, 5000, 10000, 50000)),
     of_directives("calls in lines", calls_in_lines, (1000, 5000, 10000, 50000)),
+    of_directives("uses in functions", uses_in_functions, (1900, 19000)),
+    of_directives("calls within calls, doubled", nested_min, (14,)),
     of_directives("groups", groups, (1000, 5000, 10000, 50000)),
     of_directives("nested groups", nested_groups, (1000, 10000, 100000)),
     of_directives("lines of #if", conditions, (10000, 100000)),

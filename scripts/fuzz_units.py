@@ -80,12 +80,17 @@ class Folder:
             os.close(folder)
 
 
-def wanted(words, folder):
+def wanted_of_command(words, folder):
     """What a command has to write in a folder, and its status: one of its own where a file is there and can't be read."""
     try:
         return answer(words, Folder(folder))
     except OSError:
         return b"", b"", 4
+
+
+def wanted_of_tool(words, folder):
+    """The same of the tool `preprocess`."""
+    return workbench_answers.preprocessed(words[1], Folder(folder)), b"", 0
 
 
 def preprocesses(program, folder):
@@ -94,7 +99,14 @@ def preprocesses(program, folder):
     return run(program, [b"-E", b"t.c"], folder)[0] == 0
 
 
-def command_differs(program, folder, words):
+def includes(workbench, folder):
+    """Whether its tool `preprocess` reads what a file includes."""
+    write(folder, b"t.c", b'#include "empty.h"\n')
+    write(folder, b"empty.h", b"")
+    return run(workbench, [b"preprocess", b"t.c"], folder)[0] == 0
+
+
+def command_differs(program, words, folder, wanted):
     """A test of a text: whether this command answers otherwise where the text is that of `t.c`."""
 
     def differs(text):
@@ -105,21 +117,37 @@ def command_differs(program, folder, words):
     return differs
 
 
+def same_answer(program, words, folder, files, wanted):
+    """Whether a command over these files has the answer that is wanted. Prints a small text with another one."""
+    room = os.path.join(folder, "files")
+    for path, text in files.items():
+        write(room, path, text)
+    differs = command_differs(program, words, room, wanted)
+    if differs(files[b"t.c"]):
+        small = shrunk(files[b"t.c"], differs)
+        differs(small)
+        print(f"fuzz: command {words!r}, files {files | {b't.c': small}!r}")
+        print(f"fuzz: it answers {run(program, words, room)!r}")
+        print(f"fuzz: in place of {wanted(words, room)!r}")
+        return False
+    shutil.rmtree(room)
+    return True
+
+
 def check_commands(program, folder, chance, count):
     """Compares so many answers to random words and files; true where all are alike."""
-    for number in range(count):
+    for _ in range(count):
         maker = Maker(chance)
-        files, words = maker.files(), maker.words()
-        room = os.path.join(folder, "files")
-        for path, text in files.items():
-            write(room, path, text)
-        differs = command_differs(program, room, words)
-        if differs(files[b"t.c"]):
-            small = shrunk(files[b"t.c"], differs)
-            differs(small)
-            print(f"fuzz: command {number}: {words!r}, files {files | {b't.c': small}!r}")
-            print(f"fuzz: it answers {run(program, words, room)!r}")
-            print(f"fuzz: in place of {wanted(words, room)!r}")
+        if not same_answer(program, maker.words(), folder, maker.files(), wanted_of_command):
             return False
-        shutil.rmtree(room)
+    return True
+
+
+def check_headers(workbench, folder, chance, count):
+    """Compares so many units of random files with headers; true where all are alike, or where no header is read yet."""
+    if not includes(workbench, folder):
+        return True
+    for _ in range(count):
+        if not same_answer(workbench, [b"preprocess", b"t.c"], folder, Maker(chance).files(), wanted_of_tool):
+            return False
     return True

@@ -1,5 +1,5 @@
 -- One step of a derivation leads to the next: whatever the items that wait derive behind it, the items before it derive.
-use Rattle.std.proofs.Common.{◌≡◌, ℕ, ◌+◌, true, List, [], ◌∷◌, ◌++◌, Option, Some, None, refl, sym, ap, subst, ◌∙◌, arith}
+use Rattle.std.proofs.Common.{◌≡◌, ℕ, ◌+◌, true, List, [], ◌∷◌, ◌++◌, Some, None, refl, subst, arith}
 use Rattle.vocabulary.specs.declared.token_class.TokenClass.TheVariants.{End}
 use Rattle.vocabulary.specs.declared.symbol.Symbol.{Symbol}
 use Rattle.vocabulary.specs.declared.action.Action.{Action}

@@ -1,8 +1,8 @@
 -- The trees of a list are those for which its nodes stand.
-use Rattle.std.proofs.Common.{◌≡◌, ℕ, zero, suc, ◌+◌, ◌-◌, ◌<◌, ◌≤◌, List, [], ◌∷◌, ◌++◌, length, slice_get, Some, All, ⊎_elim, refl, sym, ap, subst, ◌∙◌, arith, append-nil, append_assoc}
+use Rattle.std.proofs.Common.{◌≡◌, ℕ, ◌+◌, ◌-◌, ◌<◌, ◌≤◌, List, [], ◌∷◌, ◌++◌, length, slice_get, Some, All, ⊎_elim, refl, sym, ap, subst, ◌∙◌, arith, append-nil, append_assoc}
 use Rattle.std.proofs.lemmas.Bool.{cases_lt}
 use Rattle.std.proofs.lemmas.List.{length-append}
-use Rattle.std.proofs.lemmas.List.Elements.{All-head, All-tail, All-weaker}
+use Rattle.std.proofs.lemmas.List.Elements.{All-head, All-tail}
 use Rattle.meaning_tree.specs.Trees.{SyntaxTree}
 use Rattle.meaning_tree.specs.Nodes.{TreeNode, NodeList, HasNode, StandsFor, StandFor, ChildrenStandBefore}
 use Rattle.meaning_tree.specs.Listed.{tree_at, parts_at, tree_over, trees_from, trees_of}

@@ -2,3 +2,4 @@ pub mod Uniqueness
 pub mod Deriving
 pub mod Sorting
 pub mod Shaping
+pub mod Stepping

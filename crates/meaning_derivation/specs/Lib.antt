@@ -2,6 +2,7 @@ pub mod Values
 pub mod State
 pub mod Taking
 pub mod Derivation
+pub mod Leading
 pub mod Units
 pub mod Lists
 pub mod Scoping

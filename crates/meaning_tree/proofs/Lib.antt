@@ -1,3 +1,5 @@
 pub mod Finding
 pub mod Standing
 pub mod LookingUp
+pub mod Listing
+pub mod ListedStand

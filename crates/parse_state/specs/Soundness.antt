@@ -1,0 +1,28 @@
+-- What always holds of what was read: ids and handles are known.
+use Rattle.std.specs.Prelude.{◌≡◌, ◌≤◌, ℕ, Bool, true, nat_lt, List, length}
+use Rattle.std.specs.List.{list_all}
+use Rattle.meaning_tree.specs.Nodes.{NodeList}
+use Rattle.meaning_scopes.specs.Scopes.{ScopeList}
+use Rattle.meaning_scopes.specs.laws.Scopes.{all_named}
+use Rattle.sparse_model.specs.declared.ids.NameId.{NameId}
+use Rattle.parse_state.specs.Giving.{has_handles_below}
+use Rattle.parse_state.specs.declared.value.Value.{Value}
+use Rattle.parse_state.specs.declared.value.Value.TheVariants.{Word}
+
+-- an id that the table of spellings has
+abbrev pub is_known : List (List ℕ) → NameId → Bool
+is_known names name = nat_lt name.0 (length names)
+
+-- the id of a word is one
+abbrev pub has_known_name : List (List ℕ) → Value → Bool
+has_known_name names (Word token name) = is_known names name
+has_known_name names value = true
+
+pub record IsSound (names : List (List ℕ)) (list : NodeList NameId) (stack : List Value) (scopes : ScopeList NameId) : Type 0 where
+  -- the list is a unit's from its beginning
+  pub first : list.first ≡ 0
+  pub few : length list.nodes ≤ 16000000
+  pub handles : list_all (has_handles_below (length list.nodes)) stack ≡ true
+  pub words : list_all (has_known_name names) stack ≡ true
+  pub node_names : list_all (λ node. is_known names node.name) list.nodes ≡ true
+  pub bound_names : all_named (is_known names) scopes ≡ true

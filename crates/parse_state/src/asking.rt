@@ -1,0 +1,91 @@
+// What is asked of the last values: by how far each stands below the top.
+ghost use Rattle.std.specs.Prelude.{◌≡◌, reverse, slice_get};
+ghost use Rattle.parse_state.specs.Asking.{handle_in, name_in, name_in_at, token_in};
+
+use crate::children::value_at;
+use crate::state::ParseState;
+use crate::value::Value;
+use c_tree::Handle;
+use sparse_model::NameId;
+
+// The index of the token of a word.
+fn token_at(values: &[Value], depth: usize) -> u32
+    ensures { result ≡ token_in (slice_get (reverse values.now) depth) }
+{
+    match value_at(values, depth) {
+        Some(Value::Word(token, _)) => *token,
+        _ => 0,
+    }
+}
+
+// The spelling of a word, which is empty for a value that is none.
+fn name_at(values: &[Value], depth: usize) -> NameId
+    ensures { result ≡ name_in (slice_get (reverse values.now) depth) }
+{
+    match value_at(values, depth) {
+        Some(Value::Word(_, name)) => *name,
+        _ => NameId(0),
+    }
+}
+
+// The node of a tree.
+fn tree_at(values: &[Value], depth: usize) -> Option<Handle>
+    ensures { result ≡ handle_in (slice_get (reverse values.now) depth) }
+{
+    match value_at(values, depth) {
+        Some(Value::Tree(handle)) => Some(*handle),
+        _ => None,
+    }
+}
+
+/// The name of a node that has the spelling of a word, or none.
+pub(crate) fn name_of_word(values: &[Value], depth: Option<usize>) -> NameId
+    ensures { result ≡ name_in_at (reverse values.now) depth }
+{
+    match depth {
+        Some(depth) => name_at(values, depth),
+        None => NameId(0),
+    }
+}
+
+impl<'t> ParseState<'t> {
+    ghost use Rattle.meaning_derivation.specs.Values.{text_of, token_of, value_at as value_below};
+    ghost use Rattle.meaning_derivation.specs.Lists.{has_spelling};
+    ghost use Rattle.parse_state.specs.Seen.{state_of};
+
+    /// The index of the token of a word.
+    pub fn token(&self, depth: usize) -> u32
+        ensures { result ≡ token_of (value_below (state_of self.now).values depth) }
+    {
+        token_at(&self.values, depth)
+    }
+
+    /// The spelling of a word.
+    pub fn spelling(&self, depth: usize) -> &[u8]
+        ensures { result.now ≡ text_of (value_below (state_of self.now).values depth) }
+    {
+        self.names.apart();
+        self.names.spelling(name_at(&self.values, depth))
+    }
+
+    /// Whether a word has a spelling: the place of a token has none.
+    pub fn has_spelling(&self, depth: usize) -> bool
+        ensures { result ≡ has_spelling (value_below (state_of self.now).values depth) }
+    {
+        !self.spelling(depth).is_empty()
+    }
+
+    /// The index of the token that comes next, or of the last one of the unit.
+    pub fn next_token(&self) -> u32
+        ensures { result ≡ (state_of self.now).next_token }
+    {
+        self.next_token
+    }
+
+    /// How many terminals were taken.
+    pub fn taken(&self) -> u32
+        ensures { result ≡ (state_of self.now).taken }
+    {
+        self.taken
+    }
+}

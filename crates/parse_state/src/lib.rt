@@ -1,0 +1,23 @@
+//! What was read of a unit so far, and how it changes: the stack of values, the nodes, and the names that are visible.
+//!
+//! A [`ParseState`] is seen as the `State` of `meaning_derivation`, through the table of spellings that it reads, by
+//! `specs/Seen.antt`. Each method is one step of that meaning. No production and no action is known here. Start reading
+//! at [`ParseState`] and [`Shape`].
+#![tactic(auto)]
+
+mod asking;
+mod children;
+mod fault;
+mod marks;
+mod nodes;
+mod scoping;
+mod shape;
+mod stacking;
+mod state;
+mod value;
+
+pub use fault::ActionFault;
+pub use marks::{HeldError, PassedLimit};
+pub use shape::{Shape, Source};
+pub use state::ParseState;
+pub use value::Value;

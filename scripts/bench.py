@@ -41,6 +41,8 @@ COUNTED_TOKENS = 100000
 MOST_CALL_RATIO = 11
 # The sets of names that a chain hides outgrow the caches.
 MOST_CHAIN_RATIO = 16
+# So do the tables of a million different names.
+MOST_NAMES_RATIO = 20
 MOST_DOUBLING_SECONDS = 0.3
 # A call that takes less is compared as one that takes this: its start hides what it costs.
 LEAST_CALL_SECONDS = 0.01
@@ -236,9 +238,9 @@ def of_macros(name, make, sizes, most_ratio=MOST_CALL_RATIO):
     return Call("macros: " + name, ["expand"], ["replacements=4000000", "tokens=16000000"], make, sizes, most_ratio)
 
 
-def of_scopes(name, make):
+def of_scopes(name, make, most_ratio):
     """Commands on scopes, over so many names."""
-    return Call("scopes: " + name, ["scopes"], [], make, CALL_TOKENS, MOST_CALL_RATIO)
+    return Call("scopes: " + name, ["scopes"], [], make, CALL_TOKENS, most_ratio)
 
 
 DOUBLED = of_macros("each twice the next", doubled, (20,))
@@ -254,9 +256,9 @@ CALLS = (
     of_macros("a chain", chain, (1000, 10000, 100000), MOST_CHAIN_RATIO),
     of_macros("two chains", crossing_chains, (1000, 10000, 100000), MOST_CHAIN_RATIO),
     of_macros("parameters", parameters, (10, 100, 1000)),
-    of_scopes("names of one scope", names_of_one_scope),
-    of_scopes("nested, of a name each", scopes_of_one_name_each),
-    of_scopes("nested, of one name", one_name_in_each_scope),
+    of_scopes("names of one scope", names_of_one_scope, MOST_NAMES_RATIO),
+    of_scopes("nested, of a name each", scopes_of_one_name_each, MOST_NAMES_RATIO),
+    of_scopes("nested, of one name", one_name_in_each_scope, MOST_CALL_RATIO),
 )
 
 

@@ -298,16 +298,12 @@ def of_macros(name, make, sizes, most_ratio=MOST_CALL_RATIO):
     return Call("macros: " + name, ["expand"], ["replacements=4000000", "tokens=16000000"], make, sizes, most_ratio)
 
 
-<<<<<<< HEAD
 def of_directives(name, make, sizes):
     """The preprocessed unit of a file."""
     return Call("units: " + name, ["preprocess"], [], make, sizes, MOST_CALL_RATIO)
 
 
-def of_scopes(name, make):
-=======
 def of_scopes(name, make, most_ratio):
->>>>>>> 46453157a78301c73d415d4dd19016c59e748d03
     """Commands on scopes, over so many names."""
     return Call("scopes: " + name, ["scopes"], [], make, CALL_TOKENS, most_ratio)
 
@@ -354,7 +350,6 @@ CALLS = (
     of_macros("a chain", chain, (1000, 10000, 100000), MOST_CHAIN_RATIO),
     of_macros("two chains", crossing_chains, (1000, 10000, 100000), MOST_CHAIN_RATIO),
     of_macros("parameters", parameters, (10, 100, 1000)),
-<<<<<<< HEAD
     of_directives("definitions with uses", used_definitions, (1000, 5000, 10000, 50000)),
     of_directives("calls in lines", calls_in_lines, (1000, 5000, 10000, 50000)),
     of_directives("uses in functions", uses_in_functions, (1900, 19000)),
@@ -362,14 +357,9 @@ CALLS = (
     of_directives("groups", groups, (1000, 5000, 10000, 50000)),
     of_directives("nested groups", nested_groups, (1000, 10000, 100000)),
     of_directives("lines of #if", conditions, (10000, 100000)),
-    of_scopes("names of one scope", names_of_one_scope),
-    of_scopes("nested, of a name each", scopes_of_one_name_each),
-    of_scopes("nested, of one name", one_name_in_each_scope),
-=======
     of_scopes("names of one scope", names_of_one_scope, MOST_NAMES_RATIO),
     of_scopes("nested, of a name each", scopes_of_one_name_each, MOST_NAMES_RATIO),
     of_scopes("nested, of one name", one_name_in_each_scope, MOST_CALL_RATIO),
->>>>>>> 46453157a78301c73d415d4dd19016c59e748d03
 )
 
 

@@ -1,4 +1,5 @@
 // Lists of tokens behind `#if`, with their values or faults by hand.
+use crate::repeated::repeated;
 use c_preproc::{IfFault, if_value};
 use c_tokens::{Names, lex};
 use std::alloc::{AllocError, Global};
@@ -159,20 +160,8 @@ const LONG: [Long; 7] = [
     Long { front: "- ", between: "1", back: "", times: 1_000_000, answer: "1" },
 ];
 
-fn repeated(alloc: Global, row: &Long) -> Result<Vec<u8>, AllocError> {
-    let mut text = Vec::new(alloc);
-    for _front in 0..row.times {
-        text.extend_from_slice(row.front.as_bytes())?;
-    }
-    text.extend_from_slice(row.between.as_bytes())?;
-    for _back in 0..row.times {
-        text.extend_from_slice(row.back.as_bytes())?;
-    }
-    Ok(text)
-}
-
 fn assert_long(rt: &impl Abort, alloc: Global, row: &Long) -> Result<(), Fail> {
-    let text = repeated(alloc, row)?;
+    let text = repeated(alloc, [row.front, row.between, row.back], row.times)?;
     let found = answer(rt, alloc, &text)?;
     let front = row.front;
     assert_eq!(rt; found.as_str(), row.answer, "{front}");

@@ -3,7 +3,7 @@ use Rattle.std.specs.List.{list_all}
 use Rattle.meaning_text.specs.Tokens.{is_hash}
 use Rattle.meaning_macros.specs.Signs.{is_hash_hash}
 use Rattle.c_tokens.specs.declared.token.Token.{Token}
-use Rattle.acceptance.proofs.macros.is_plain.Given as goal
+use Rattle.acceptance_layers.proofs.macros.is_plain.Given as goal
 
 -- what is left has no sign where all has none
 abbrev pub invariant-loop-token : goal.invariant-loop-token

@@ -4,7 +4,7 @@ use Rattle.meaning_text.specs.Tokens.{is_hash}
 use Rattle.meaning_macros.specs.Signs.{is_hash_hash}
 use Rattle.c_tokens.specs.declared.token.Token.{Token}
 use Rattle.c_macros.proofs.PlainLemmas.{plain-IsWellFormed}
-use Rattle.acceptance.proofs.macros.plain_macro.Goals as goal
+use Rattle.acceptance_layers.proofs.macros.plain_macro.Goals as goal
 
 pub returns : goal.returns
 returns c =

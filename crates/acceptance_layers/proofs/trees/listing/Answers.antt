@@ -3,7 +3,7 @@ use Rattle.std.proofs.lemmas.List.{length-map}
 use Rattle.meaning_text.specs.Terminals.{terminal_of}
 use Rattle.c_tokens.specs.Seen.{tok_of, toks_of}
 use Rattle.meaning_syntax.proofs.UnitReading.{IsSpelled-read_items}
-use Rattle.acceptance.proofs.trees.listing.Goals as goal
+use Rattle.acceptance_layers.proofs.trees.listing.Goals as goal
 
 pub build-requires-clause-fits : goal.build-requires-clause-fits
 build-requires-clause-fits c =

@@ -98,6 +98,7 @@ fn made_of(
 // The text becomes the tokens of the row, and leaves what it says.
 fn assert_row(rt: &impl Abort, alloc: Global, row: &Row) -> Result<(), Fail> {
     let case = row.case;
+    known_tables_stay_known();
     let mut names = Names::new(alloc)?;
     let mut table = MacroTable::new(alloc);
     with_macro(alloc, &mut names, &mut table, row.first)?;

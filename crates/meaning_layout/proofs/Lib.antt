@@ -1,2 +1,3 @@
 pub mod MultipleLemmas
 pub mod LayoutLemmas
+pub mod SizeLemmas

@@ -12,6 +12,8 @@ pub record Layout : Type 0 where
 
 -- why there is none
 pub data LayoutFault : Type 0 where
+  -- no size is known of it, or there is none
+  Incomplete : LayoutFault
   -- it would have more bytes than an object may have
   TooLarge : LayoutFault
 

@@ -1,5 +1,6 @@
 pub mod Bodies
 pub mod Placing
 pub mod Layouts
+pub mod Sizes
 pub mod laws
 pub mod examples

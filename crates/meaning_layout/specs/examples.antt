@@ -1,2 +1,3 @@
 -- Worked examples.
 pub mod Layouts
+pub mod Sizes

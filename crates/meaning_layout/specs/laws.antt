@@ -1,2 +1,3 @@
 -- What is proved of the definitions.
 pub mod Layouts
+pub mod Sizes

@@ -1,6 +1,8 @@
 // What is proved of layouts, and examples.
 ghost use Rattle.meaning_layout.specs.laws.Layouts.{SizesAreMultiples, MembersLieInside, MembersStandApart, FieldsLieInUnits, MembersAreAligned, UnionsBeginAtOnce};
+ghost use Rattle.meaning_layout.specs.laws.Sizes.{TypesAreWhole};
 ghost use Rattle.meaning_layout.specs.examples.Layouts.{PlainExamples, FieldExamples, WrittenExamples, SizeExamples};
+ghost use Rattle.meaning_layout.specs.examples.Sizes.{TypeExamples, MemberExamples};
 
 /// A size is a multiple of the alignment, and members lie inside; in a structure no two of them share a
 /// bit, in a union all begin with the first one; a bit-field lies in one unit of its declared type, and
@@ -14,10 +16,18 @@ pub fn layouts_are_sound()
     ensures unions { UnionsBeginAtOnce }
 {}
 
-/// Bodies have the sizes, alignments and first bits that one can count.
+/// Where the layouts of aggregates are so, the size of a type is a multiple of its alignment, and no more than 2^40 bytes.
+#[tactic(auto, using(crate::proofs::SizeLemmas::types_are_whole))]
+pub fn sizes_are_whole()
+    ensures { TypesAreWhole }
+{}
+
+/// Bodies and types have the sizes, alignments and first bits that one can count.
 pub fn worked_examples()
     ensures plain { PlainExamples }
     ensures fields { FieldExamples }
     ensures written { WrittenExamples }
     ensures sizes { SizeExamples }
+    ensures types { TypeExamples }
+    ensures members { MemberExamples }
 {}

@@ -1,9 +1,11 @@
 -- Worked examples: short units, and the trees that they derive or what is told of them.
-use Rattle.std.specs.Prelude.{◌≡◌, ℕ, Option, Some, None, List, [], ◌∷◌, codes}
+use Rattle.std.specs.Prelude.{◌≡◌, ℕ, Option, Some, None, List, [], ◌∷◌, ◌++◌, codes}
 use Rattle.vocabulary.specs.declared.int_kind.IntKind.TheVariants.{Int}
 use Rattle.vocabulary.specs.declared.error_kind.ErrorKind.TheVariants.{SyntaxError, NotDeclared, Redeclared, FloatingType, NestedFunction, ComputedGoto}
 use Rattle.vocabulary.specs.declared.limit.LimitKind.TheVariants.{ParseStack}
-use Rattle.vocabulary.specs.declared.role.Role.TheVariants.{Evaluated, TypePart, Unevaluated}
+use Rattle.vocabulary.specs.declared.role.Role.{Role}
+use Rattle.vocabulary.specs.declared.role.Role.TheVariants.{Evaluated, Condition, TypePart, Unevaluated}
+use Rattle.vocabulary.specs.declared.node_kind.NodeKind.{NodeKind}
 use Rattle.vocabulary.specs.declared.node_kind.NodeKind.TheVariants as kinds
 use Rattle.vocabulary.specs.declared.symbol.Symbol.TheVariants.{Expression}
 use Rattle.vocabulary.specs.declared.token_class.TokenClass.TheVariants.{Semicolon}
@@ -126,6 +128,45 @@ pub record TreeExamples : Type 0 where
       NoParts)))))
       NoParts)))
       NoParts)
+
+-- Operators of one level, one behind the other (C11 6.5.5 to 6.5.14)
+
+-- `int x = 1 OPERATOR 2 OPERATOR 3;`
+abbrev pub chained : List ℕ → Shown
+chained operator = unit (codes "int x = 1" ++ operator ++ codes "2" ++ operator ++ codes "3;")
+
+abbrev pub constant_at : (token number : ℕ) → SyntaxTree
+constant_at token number = Node (kinds.IntegerConstant Int) token [] number NoParts
+
+-- an operator at a token, between two operands
+abbrev pub joined_at : NodeKind → Role → (token : ℕ) → (left right : SyntaxTree) → SyntaxTree
+joined_at kind role token left right = plain_tree kind token (Part role left (Part role right NoParts))
+
+-- the first two operands are joined first
+abbrev pub from_the_left : NodeKind → Role → Shown
+from_the_left kind role =
+    tree
+    (evaluated
+    (plain_tree kinds.Declaration 0
+    (typed (int_at 0)
+    (evaluated (named_tree kinds.Declarator 1 (codes "x") NoParts)
+    (evaluated
+    (plain_tree kinds.Initializer 2
+    (evaluated (joined_at kind role 6 (joined_at kind role 4 (constant_at 3 1) (constant_at 5 2)) (constant_at 7 3)) NoParts))
+    NoParts))))
+    NoParts)
+
+pub record ChainExamples : Type 0 where
+  pub multiplied : chained (codes "*") ≡ from_the_left kinds.Multiplication Evaluated
+  pub subtracted : chained (codes "-") ≡ from_the_left kinds.Subtraction Evaluated
+  pub shifted : chained (codes "<<") ≡ from_the_left kinds.LeftShift Evaluated
+  pub ordered : chained (codes "<") ≡ from_the_left kinds.Less Evaluated
+  pub compared : chained (codes "==") ≡ from_the_left kinds.Equal Evaluated
+  pub anded : chained (codes "&") ≡ from_the_left kinds.BitwiseAnd Evaluated
+  pub exclusive : chained (codes "^") ≡ from_the_left kinds.BitwiseExclusiveOr Evaluated
+  pub inclusive : chained (codes "|") ≡ from_the_left kinds.BitwiseOr Evaluated
+  pub both : chained (codes "&&") ≡ from_the_left kinds.LogicalAnd Condition
+  pub either : chained (codes "||") ≡ from_the_left kinds.LogicalOr Condition
 
 -- what comes of an expression and a semicolon where so many symbols wait
 abbrev pub waiting : ℕ → List Terminal → Shown

@@ -20,6 +20,21 @@ returns-clause-trees c = record {
   declarator = refl;
 }
 
+pub returns-clause-chains : goal.returns-clause-chains
+unfolding opened
+returns-clause-chains c = record {
+  multiplied = refl;
+  subtracted = refl;
+  shifted = refl;
+  ordered = refl;
+  compared = refl;
+  anded = refl;
+  exclusive = refl;
+  inclusive = refl;
+  both = refl;
+  either = refl;
+}
+
 pub returns-clause-refusals : goal.returns-clause-refusals
 unfolding opened
 returns-clause-refusals c = record {

@@ -49,3 +49,23 @@ returns-clause-sizes c = record {
   unions = refl;
   empty_ones = refl;
 }
+
+pub returns-clause-types : goal.returns-clause-types
+returns-clause-types c = record {
+  signed = refl;
+  unsigned = refl;
+  restricted = refl;
+  pointers = refl;
+  arrays = refl;
+  aggregates = refl;
+  incomplete = refl;
+  largest = refl;
+  too_large = refl;
+}
+
+pub returns-clause-members : goal.returns-clause-members
+returns-clause-members c = record {
+  offsets_told = refl;
+  fields_told = refl;
+  flexible = refl;
+}

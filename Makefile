@@ -63,8 +63,10 @@ fuzz: $(PROGRAM)
 	$(PYTHON) scripts/fuzz.py $(PROGRAM)
 
 # Worked rows over the checker that fuzz compares the program with.
+PREPROCESSED := checks_through_macros command_lines expansion_arguments expansion_changing_names expansion_hidden_names expansion_limits expansion_of_kernel_macros expansion_pasting expansion_strings include_limits option_words preprocessed_text undefined_names
+
 rows:
-	$(PYTHON) scripts/preprocessing_rows.py crates/cases/data/if_values.txt crates/cases/data/directives.txt crates/cases/data/conditionals.txt scripts/reference/rows/*.txt
+	$(PYTHON) scripts/preprocessing_rows.py crates/cases/data/if_values.txt crates/cases/data/directives.txt crates/cases/data/conditionals.txt $(PREPROCESSED:%=crates/cases/data/%.txt) scripts/reference/rows/*.txt
 
 # Files of a kernel tree, preprocessed by the program and by the compiler: make headers LINUX=/path/to/a/tree FILES="lib/ctype.c"
 headers: $(PROGRAM)

@@ -1,28 +1,23 @@
 #!/usr/bin/env python3
-"""Batters the program with random files in, near and outside the first form, and with random words.
+"""Batters the program with random files in, near and outside the first form, random macros, headers and words.
 
 usage: fuzz.py PROGRAM [COUNT [SEED]]
 
-A run must end by itself within ten seconds, write nothing to standard output, and give for a file the
-status and the bytes on standard error that `rules.py` works out from the rules alone. For words it must
-give one of the stated statuses, with lines of the stated form.
+A run must end by itself within ten seconds, and give for its words and files the status and the bytes on both outputs
+that `reference` and `rules.py` work out from the rules alone.
 
 Where a compiler is installed, random macros go through it and through `reference`, and both must come to the same tokens.
 """
 import os
 import random
-import re
 import shutil
 import subprocess
 import sys
 import tempfile
 
 import compilers
-import rules
 from made_units import Maker
-
-USAGE = re.compile(rb"ksparse: (?:bad word: .*|missing file)\n", re.DOTALL)
-MISSING = re.compile(rb"ksparse: error\[1\]: no such file: .*\n", re.DOTALL)
+from reference import commands
 
 PIECES = [
     "extern", "int", "void", "__attribute__", "noderef", "address_space", "(", ")", "{", "}", "*", "=", ";",
@@ -117,30 +112,41 @@ def run(program, words, folder):
     return done.returncode, done.stdout, done.stderr
 
 
-def check_text(program, folder, text, in_form):
-    """What is wrong about the check of this text, or nothing."""
-    with open(os.path.join(folder, "t.c"), "wb") as file:
-        file.write(text)
-    status, out, err = run(program, ["t.c"], folder)
-    if in_form and status not in (0, 1):
-        return "a unit of the first form is refused"
-    if (status, err) != rules.answer(text):
-        return f"status {status}, {err!r} in place of {rules.answer(text)!r}"
-    return "something on standard output" if out else None
-
-
-def check_words(program, folder, chance):
-    """What is wrong about the answer to random words, or nothing."""
-    choices = ["t.c", "-E", "-", "--", "eval", "gen", "", "no.c", "ä ö", "a b", "-Wx", "link", "x\ny"]
-    words = [chance.choice(choices) for _ in range(chance.randrange(4))]
+def differs(program, words, files, folder):
+    """How the program's answer to these words over these files differs from that of the rules, or nothing."""
+    for path, text in files.items():
+        path = os.path.join(os.fsencode(folder), path)
+        os.makedirs(os.path.dirname(path), exist_ok=True)
+        with open(path, "wb") as file:
+            file.write(text)
     status, out, err = run(program, words, folder)
-    if out:
-        return words, "something on standard output"
-    if status == 3:
-        return words, None if USAGE.fullmatch(err) else "no usage line"
-    if words == ["t.c"]:
-        return words, None
-    return words, None if status == 2 and MISSING.fullmatch(err) else f"status {status}, {err!r}"
+    wanted_out, wanted_err, wanted_status = commands.answer(words, files)
+    if (out, err, status) == (wanted_out, wanted_err, wanted_status):
+        return None
+    return f"status {status}, {out!r}, {err!r} in place of {wanted_status}, {wanted_out!r}, {wanted_err!r}"
+
+
+def check_text(program, folder, text, in_form):
+    """What is wrong about the check of this text, and about its tokens, or nothing."""
+    files = {b"t.c": text}
+    if in_form and commands.answer([b"t.c"], files)[2] not in (0, 1):
+        return "a unit of the first form is refused"
+    return differs(program, [b"t.c"], files, folder) or differs(program, [b"-E", b"t.c"], files, folder)
+
+
+def check_words(program, folder, text, chance):
+    """What is wrong about the answer to random words, or nothing."""
+    choices = ["t.c", "-E", "-", "--", "eval", "gen", "", "no.c", "ä ö", "a b", "-Wx", "link", "x\ny", "-DX", "-DX=1 + 2", "-UX", "-D1",
+               "-Wundef", "-Wno-undef", "-Wno-address-space", "-Waddress-space", "-Id", "-I", "-DX=a\nb", "-EE"]
+    words = [chance.choice(choices).encode() for _ in range(chance.randrange(5))]
+    return words, differs(program, words, {b"t.c": text}, folder)
+
+
+def check_unit(program, folder, chance):
+    """What is wrong about random macros, conditionals, headers and words, or nothing; and the words and the files."""
+    maker = Maker(chance)
+    files, words = maker.files(), maker.words()
+    return differs(program, words, files, folder), (words, files)
 
 
 def check_expansion(compiler, folder, chance):
@@ -179,9 +185,14 @@ def main():
             if wrong:
                 print(f"fuzz: file {number}: {wrong}: {text!r}")
                 return 1
-            words, wrong = check_words(program, folder, chance)
+            words, wrong = check_words(program, folder, text, chance)
             if wrong:
-                print(f"fuzz: words {words!r}: {wrong}")
+                print(f"fuzz: words {words!r} and {text!r}: {wrong}")
+                return 1
+            with tempfile.TemporaryDirectory() as headers:
+                wrong, made = check_unit(program, headers, chance)
+            if wrong:
+                print(f"fuzz: unit {made!r}: {wrong}")
                 return 1
         if not check_expansions(folder, chance, count // 4):
             return 1

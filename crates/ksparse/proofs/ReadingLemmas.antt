@@ -1,6 +1,8 @@
 -- The words of a command one by one: what is asked for stays the same from word to word.
-use Rattle.std.proofs.Common.{◌≡◌, ℕ, zero, suc, ◌+◌, Bool, true, false, ◌||◌, List, [], ◌∷◌, ◌++◌, Option, Some, None, drop, sym, ◌∙◌, ap, subst, refl, append_assoc, append-nil, if◌then◌else◌}
+use Rattle.std.proofs.Common.{◌≡◌, ℕ, ◌+◌, Bool, true, false, ◌||◌, List, [], ◌∷◌, ◌++◌, Option, Some, None, drop, sym, ◌∙◌, ap, subst, refl, append_assoc, append-nil, if◌then◌else◌}
 use Rattle.std.specs.Prelude.{is_some, slice_get}
+use Rattle.std.proofs.lemmas.List.{drop_more}
+use Rattle.std.proofs.lemmas.Option.{slice_get_within, get_or_from_slice_get}
 use Rattle.meaning_answer.specs.Options.{Switch, Word, AsksForTokens, AddsDirectory, AddsLine, Switches, IsOperand, IsStrange, word_of}
 use Rattle.meaning_answer.specs.Requests.{BadWord, MissingFile, Request, Fault, request_of, request_without, is_bad, is_operand, is_expand, first_fault, asks_for_tokens, directories_of, directory_in, command_of, line_in, switches_of, switch_in, operand_in}
 use Rattle.ksparse.specs.Reading.{Reading, empty_reading, has_file, taken, requested, reading_behind, request_by, request_behind, begins_with_command, first_file, IsMissing}
@@ -97,12 +99,9 @@ module _ (position : ℕ) (reading : Reading) (text : List ℕ) (words : List (L
 
 -- a word of the list stands before those that are left
 pub word_left : (words : List (List ℕ)) (position : ℕ) (text : List ℕ) → Some text ≡ slice_get words position → drop position words ≡ text ∷ drop (position + 1) words
-word_left [] position text is = cc
-word_left (word ∷ words) zero text is = ap (λ (t : List ℕ). t ∷ words) (sym (is_head is))
-  where
-    is_head : Some text ≡ Some word → text ≡ word
-    is_head same = cc
-word_left (word ∷ words) (suc position) text is = word_left words position text is
+word_left words position text is =
+    drop_more words position text (slice_get_within words position text (sym is))
+    ∙ ap (λ (t : List ℕ). t ∷ drop (position + 1) words) (get_or_from_slice_get words position text text (sym is))
 
 -- The loop over the words of a command
 

@@ -1,5 +1,5 @@
 // Failures in, the bytes of their warnings out. No rule is judged here.
-ghost use Rattle.std.specs.Prelude.{◌≡◌, ◌<◌, ◌++◌, All, OnOk, codes, length, map};
+ghost use Rattle.std.specs.Prelude.{◌≡◌, ◌<◌, ◌++◌, ℕ, List, All, OnOk, codes, length, map};
 ghost use Rattle.std.specs.Fmt.{decimal};
 ghost use Rattle.c_tokens.specs.Seen.{IsKnown, at_of, text_of, toks_of};
 ghost use Rattle.meaning_types.specs.Spelling as types;
@@ -47,10 +47,18 @@ fn write_failure(
         ++ rules.unit_failure_text (map (text_of names.now) files.now) (toks_of names.now tokens.now)
         (failure_of names.now failure)) }
 {
-    let at = tokens[failure.token as usize].place;
+    let at = place_of(tokens, failure.token);
     let path = path_in(names, files, at.file);
     write_cause(text, path, names, at, failure.cause)?;
     Ok(())
+}
+
+// Where the token with this index begins.
+fn place_of(tokens: &[Token], index: u32) -> Place
+    requires { index < length tokens.now }
+    ensures { (names : List (List ℕ)) → at_of result ≡ rules.place_of (toks_of names tokens.now) index }
+{
+    tokens[index as usize].place
 }
 
 /// The path of the file with this number; there is none for another number.

@@ -1,5 +1,5 @@
 -- What was read and judged of tokens.
-use Rattle.std.proofs.Common.{◌≡◌, ◌≤◌, ℕ, List, true, false, Some, None, length, sym, ◌∙◌, ap, subst, refl, inl, inr, arith}
+use Rattle.std.proofs.Common.{◌≡◌, ℕ, List, true, false, Option, Some, None, Result, Ok, Err, IfOk, IfSome, IfNone, length, sym, ◌∙◌, ap, subst, refl, inl, inr, arith}
 use Rattle.c_tokens.specs.declared.token.Token.{Token}
 use Rattle.c_tokens.specs.Seen.{toks_of}
 use Rattle.meaning_text.specs.Tokens.{Tok}
@@ -51,3 +51,18 @@ module _ (names : List (List ℕ)) (classes : List Class) (files : List (List �
   pub unread_replied :
       read_unit (spellings_of names tokens) ≡ None → reply ≡ not_built_reply files → IsCheckReply classes files (toks_of names tokens) undefined reply
   unread_replied none is = replied (is ∙ sym (ap (items_reply classes files (toks_of names tokens) undefined) none))
+
+-- What is said of a value in three ways, if there is one, may be said of it in a fourth
+pub all_found :
+    {V E : Type 0} (result : Result (Option V) E) (P Q R S : V → Type 0) → ((v : V) → P v → Q v → R v → S v)
+    → IfOk result (λ found. IfSome found P) → IfOk result (λ found. IfSome found Q) → IfOk result (λ found. IfSome found R) → IfOk result (λ found. IfSome found S)
+all_found (Ok None) P Q R S all p q r = tt
+all_found (Ok (Some v)) P Q R S all p q r = all v p q r
+all_found (Err e) P Q R S all p q r = tt
+
+-- where there is none, the tokens are no unit
+pub none_found :
+    {V E : Type 0} (result : Result (Option V) E) (P Q : Type 0) → (P → Q) → IfOk result (λ found. IfNone found P) → IfOk result (λ found. IfNone found Q)
+none_found (Ok None) P Q to p = to p
+none_found (Ok (Some v)) P Q to p = tt
+none_found (Err e) P Q to p = tt

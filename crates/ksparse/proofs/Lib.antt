@@ -2,6 +2,8 @@ pub mod Classes
 pub mod CleanIsSafe
 pub mod Counts
 pub mod Endings
+pub mod FrontLemmas
+pub mod IdentifierLemmas
 pub mod Judging
 pub mod Loads
 pub mod ReadingLemmas

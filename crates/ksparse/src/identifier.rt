@@ -46,13 +46,23 @@ fn word_goes_on(byte: u8, text: &[u8]) -> bool
 fn universal_length(text: &[u8]) -> usize
     ensures { result ≡ universal_length text.now }
 {
-    if text.len() < 2 || text[0] != b'\\' {
-        return 0;
+    match text.split_first() {
+        Some((&first, behind)) => length_behind(first, behind),
+        None => 0,
     }
-    if text[1] == b'u' && begins_hexadecimal(&text[2..], 4) {
+}
+
+// The same where this byte is the first.
+fn length_behind(first: u8, behind: &[u8]) -> usize
+    ensures { result ≡ universal_length (first ∷ behind.now) }
+{
+    let Some((&second, digits)) = behind.split_first() else {
+        return 0;
+    };
+    if first == b'\\' && second == b'u' && begins_hexadecimal(digits, 4) {
         return 6;
     }
-    if text[1] == b'U' && begins_hexadecimal(&text[2..], 8) {
+    if first == b'\\' && second == b'U' && begins_hexadecimal(digits, 8) {
         return 10;
     }
     0

@@ -64,8 +64,10 @@ fuzz: $(PROGRAM) $(WORKBENCH)
 	$(PYTHON) scripts/fuzz.py $(PROGRAM) $(WORKBENCH)
 
 # Worked rows over the checker that fuzz compares the program with.
+PREPROCESSED := checks_through_macros command_lines expansion_arguments expansion_changing_names expansion_hidden_names expansion_limits expansion_of_kernel_macros expansion_pasting expansion_strings include_limits option_words preprocessed_text undefined_names
+
 rows:
-	$(PYTHON) scripts/preprocessing_rows.py $$(grep -l '^[$$] workbench' crates/cases/data/*.txt) scripts/reference/rows/*.txt
+	$(PYTHON) scripts/preprocessing_rows.py $$(grep -l '^[$$] workbench' crates/cases/data/*.txt) $(PREPROCESSED:%=crates/cases/data/%.txt) scripts/reference/rows/*.txt
 
 # Expressions whose types and values gcc says, beside the committed examples.
 compare:

@@ -67,6 +67,8 @@ impl State {
         match self {
             State::BetweenTokens => match byte {
                 b' ' | b'\t' | b'\n' | 0x0b | 0x0c => Answer::Empty,
+                // A directive that does nothing.
+                b'#' => Answer::Empty,
                 b'\'' | b'"' => Answer::Opens(1),
                 _ => Answer::NotInForm,
             },

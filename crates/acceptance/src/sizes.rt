@@ -1,5 +1,5 @@
 // Units with as many tokens as they may have, and with a few more.
-use crate::run::{NOT_BUILT, assert_check};
+use crate::run::assert_check;
 use ksparse::Exit;
 use std::alloc::{AllocError, Global};
 use std::test::Fail;
@@ -35,7 +35,7 @@ const LONG_UNITS: [LongUnit; 4] = [
     LongUnit { case: "2,000,000 tokens", object: "extern int *p;", end: "}", err: "", exit: Exit::Clean },
     LongUnit { case: "2,000,001 tokens", object: "extern int **p;", end: "}", err: TOO_MANY, exit: Exit::Limit },
     LongUnit { case: "2,000,009 tokens and a rule that fails", object: "extern int __attribute__((noderef))b;", end: "b=a;}", err: TOO_MANY, exit: Exit::Limit },
-    LongUnit { case: "2,000,001 tokens and no unit", object: "extern int *p;", end: "}}", err: NOT_BUILT, exit: Exit::Refused },
+    LongUnit { case: "2,000,001 tokens and no unit", object: "extern int *p;", end: "}}", err: TOO_MANY, exit: Exit::Limit },
 ];
 
 #[test]

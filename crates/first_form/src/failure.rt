@@ -1,5 +1,10 @@
 // What the judge hands to the writer: causes and types, at indices of tokens; no spelling and no place.
+ghost use Rattle.std.specs.Prelude.{◌≡◌, ℕ, List};
+ghost use Rattle.meaning_first_rules.specs.Failures.{code_of};
+ghost use Rattle.first_form.specs.Seen.{cause_of};
+
 use crate::object::ObjectType;
+use sparse_model::RuleCode;
 
 /// What a rule is broken by, with the types that its warning names.
 #[derive(Clone, Copy, Debug, PartialEq, Eq)]
@@ -9,6 +14,18 @@ pub enum Cause {
     SpacesMixed(ObjectType, ObjectType),
     /// A place with a flag is read or written.
     FlaggedAccess(ObjectType),
+}
+
+impl Cause {
+    /// The rule that fails.
+    pub fn rule(self) -> RuleCode
+        ensures { (names : List (List ℕ)) → result ≡ code_of (cause_of names self) }
+    {
+        match self {
+            Cause::SpacesMixed(_, _) => RuleCode::A1,
+            Cause::FlaggedAccess(_) => RuleCode::A4,
+        }
+    }
 }
 
 /// A rule that fails at a token.

@@ -30,4 +30,4 @@ pub use item::{Item, Statement, Word};
 pub use judging::judge;
 pub use object::ObjectType;
 pub use read::read_items;
-pub use text::{write_place, write_warnings};
+pub use text::{path_in, write_place, write_warnings};

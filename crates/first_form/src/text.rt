@@ -1,7 +1,7 @@
 // Failures in, the bytes of their warnings out. No rule is judged here.
-ghost use Rattle.std.specs.Prelude.{◌≡◌, ◌<◌, ◌++◌, All, OnOk, codes, length};
+ghost use Rattle.std.specs.Prelude.{◌≡◌, ◌<◌, ◌++◌, ℕ, List, All, OnOk, codes, length, map};
 ghost use Rattle.std.specs.Fmt.{decimal};
-ghost use Rattle.c_tokens.specs.Seen.{IsKnown, at_of, toks_of};
+ghost use Rattle.c_tokens.specs.Seen.{IsKnown, at_of, text_of, toks_of};
 ghost use Rattle.meaning_types.specs.Spelling as types;
 ghost use Rattle.meaning_first_rules.specs.Text as rules;
 ghost use Rattle.first_form.specs.Known.{AreKnownFailures, IsKnownCause, IsKnownFailure, IsKnownObject, IsKnownSpace};
@@ -11,43 +11,67 @@ use crate::failure::{Cause, Failure};
 use crate::object::ObjectType;
 use c_tokens::{Names, Token};
 use itoa::Buffer;
-use sparse_model::{Place, Space};
+use sparse_model::{FileNames, Place, Space};
 use std::alloc::AllocError;
 
-/// Appends the warnings for the failures of a file with this path.
+/// Appends the warnings for the failures of a unit, each with the path of its token's file.
 pub fn write_warnings(
     text: &mut Vec<u8>,
-    path: &[u8],
     names: &Names,
+    files: &FileNames,
     tokens: &[Token],
     failures: &[Failure],
 ) -> Result<(), AllocError>
+    requires files { All (IsKnown names.now) files.now }
     requires known { AreKnownFailures names.now (length tokens.now) failures.now }
     ensures { OnOk result (text.new.items ≡ text.old.items
-        ++ rules.warnings_text path.now (toks_of names.now tokens.now)
+        ++ rules.unit_warnings_text (map (text_of names.now) files.now) (toks_of names.now tokens.now)
         (failures_of names.now failures.now)) }
 {
     for failure in failures {
-        write_failure(text, path, names, tokens, *failure)?;
+        write_failure(text, names, files, tokens, *failure)?;
     }
     Ok(())
 }
 
 fn write_failure(
     text: &mut Vec<u8>,
-    path: &[u8],
     names: &Names,
+    files: &FileNames,
     tokens: &[Token],
     failure: Failure,
 ) -> Result<(), AllocError>
+    requires files { All (IsKnown names.now) files.now }
     requires known { IsKnownFailure names.now (length tokens.now) failure }
     ensures { OnOk result (text.new.items ≡ text.old.items
-        ++ rules.failure_text path.now (toks_of names.now tokens.now)
+        ++ rules.unit_failure_text (map (text_of names.now) files.now) (toks_of names.now tokens.now)
         (failure_of names.now failure)) }
 {
-    let at = tokens[failure.token as usize].place;
+    let at = place_of(tokens, failure.token);
+    let path = path_in(names, files, at.file);
     write_cause(text, path, names, at, failure.cause)?;
     Ok(())
+}
+
+// Where the token with this index begins.
+fn place_of(tokens: &[Token], index: u32) -> Place
+    requires { index < length tokens.now }
+    ensures { (names : List (List ℕ)) → at_of result ≡ rules.place_of (toks_of names tokens.now) index }
+{
+    tokens[index as usize].place
+}
+
+/// The path of the file with this number; there is none for another number.
+pub fn path_in<'n>(names: &'n Names, files: &FileNames, file: u32) -> &'n [u8]
+    requires { All (IsKnown names.now) files.now }
+    ensures { result.now ≡ rules.path_in (map (text_of names.now) files.now) file }
+{
+    let file = file as usize;
+    if file < files.len() {
+        names.spelling(*files.get(file))
+    } else {
+        b""
+    }
 }
 
 // The warning for a rule that fails here.

@@ -1,65 +1,77 @@
--- A right reply that ends clean is to words that name a safe file.
-use Rattle.std.proofs.Common.{◌≡◌, ℕ, List, [], ◌∷◌, Option, Some, None, IsSomeAnd, sym, ◌∙◌, ap, subst, refl, inl, inr}
-use Rattle.meaning_outside.specs.Files.{FileMap, file_at}
+-- A right reply that ends clean is to words that name a safe unit.
+use Rattle.std.proofs.Common.{◌≡◌, ℕ, List, [], ◌∷◌, sym, ◌∙◌, ap, subst, refl, inl, inr}
+use Rattle.vocabulary.specs.declared.class.Class.{Class}
+use Rattle.vocabulary.specs.declared.class.Class.TheVariants.{AddressSpace}
+use Rattle.vocabulary.specs.Rules.{rule_class}
+use Rattle.meaning_outside.specs.Files.{FileMap}
 use Rattle.meaning_outside.specs.Loads.{Loaded, AgreesWith}
-use Rattle.meaning_text.specs.Logical.{logical_text}
-use Rattle.meaning_text.specs.Tokens.{Tok, AtLineStart, LexesFile}
+use Rattle.meaning_text.specs.Tokens.{Tok}
 use Rattle.meaning_text.specs.Terminals.{terminals_of}
-use Rattle.meaning_text.proofs.Lexing.{tokens_are_unique}
 use Rattle.meaning_tree.specs.Trees.{SyntaxTree}
 use Rattle.meaning_syntax.specs.Trees.{Derives}
 use Rattle.meaning_syntax.proofs.Derivations.{derived_trees_are_unique, derived_trees_are_in_first_form}
-use Rattle.meaning_first_rules.specs.Failures.{Failure, IsListing}
-use Rattle.meaning_text.specs.Places.{main_file}
+use Rattle.meaning_first_rules.specs.Failures.{Cause, SpacesMixed, FlaggedAccess, Failure, IsListing, code_of}
+use Rattle.meaning_preprocessing.specs.State.{Stop, Refuses, Passes}
+use Rattle.meaning_preprocessing.specs.Unit.{UnitEnd, Ends, EndsEarly, PreprocessedUnit}
 use Rattle.meaning_answer.specs.Reply.{Reply, Clean}
-use Rattle.meaning_answer.specs.Command.{Request, BadWord, MissingFile, Check, request_of}
-use Rattle.meaning_answer.specs.Answer.{warned, IsChecked, IsTextReply, IsFileReply, IsRequestReply, IsAnswer}
+use Rattle.meaning_answer.specs.Requests.{Request, BadWord, MissingFile, Check, Expand, request_of}
+use Rattle.meaning_answer.specs.Lines.{warned, failures_on, undefined_on, stop_reply}
+use Rattle.meaning_answer.specs.Answers.{files_of, IsCheckReply, IsCheckEnd, IsRequestReply, IsAnswer}
+use Rattle.meaning_machine.specs.Runs.{IsSafe}
 use Rattle.meaning_machine.specs.laws.Runs.{SilenceIsSafe}
-use Rattle.ksparse.specs.Safe.{IsSafeText, NamesSafeFile, IsSafeIfClean}
+use Rattle.ksparse.specs.Safe.{AreGuarding, IsSafeUnit, NamesSafeUnit, IsSafeIfClean}
 
--- a text is at most one unit
-one_unit :
-    (text : List ℕ) (tokens others : List Tok) (unit other : SyntaxTree) → LexesFile main_file text tokens → Derives (terminals_of tokens) unit →
-    LexesFile main_file text others → Derives (terminals_of others) other → unit ≡ other
-one_unit text tokens others unit other lexes derives other_lexes other_derives =
-    let here = tokens_are_unique AtLineStart (logical_text main_file text) tokens lexes in
-    let there = tokens_are_unique AtLineStart (logical_text main_file text) others other_lexes in
-    let same : tokens ≡ others = cc in
-    let also : Derives (terminals_of others) unit = subst (λ (ts : List Tok). Derives (terminals_of ts) unit) same derives in
-    derived_trees_are_unique (terminals_of others) unit other also other_derives
+-- only a unit without failures that are on is answered by silence
+no_failures : (files : List (List ℕ)) (tokens undefined : List Tok) (failures : List Failure) → (warned files tokens undefined failures).ending ≡ Clean → failures ≡ []
+no_failures files tokens [] [] is = refl
+no_failures files tokens [] (failure ∷ failures) is = cc
+no_failures files tokens (t ∷ undefined) failures is = cc
 
--- only a text without failures is answered by silence
-no_failures : (path : List ℕ) (tokens : List Tok) (failures : List Failure) → (warned path tokens failures).ending ≡ Clean → failures ≡ []
-no_failures path tokens [] is = refl
-no_failures path tokens (failure ∷ failures) is = cc
+class_of_cause : (cause : Cause) → rule_class (code_of cause) ≡ AddressSpace
+class_of_cause (SpacesMixed position expected got) = refl
+class_of_cause (FlaggedAccess place) = refl
+
+-- each failure of a tree is on where the three classes are
+all_on : (classes : List Class) → AreGuarding classes → (failures : List Failure) → failures_on classes failures ≡ failures
+all_on classes guards [] = refl
+all_on classes guards (failure ∷ failures) =
+    rw (class_of_cause failure.cause, guards.address_space) (ap (λ (fs : List Failure). failure ∷ fs) (all_on classes guards failures))
+
+stop_is_not_clean : (stop : Stop) (reply : Reply) → reply ≡ stop_reply stop → reply.ending ≡ Clean → ⊥
+stop_is_not_clean (Refuses refusal) reply is clean = let ending = ap (λ (r : Reply). r.ending) is in cc
+stop_is_not_clean (Passes kind) reply is clean = let ending = ap (λ (r : Reply). r.ending) is in cc
 
 module _ (law : SilenceIsSafe) where
-  -- a text that was checked without failures is safe
-  checked_safe : (text : List ℕ) (tokens : List Tok) (unit : SyntaxTree) → IsChecked text tokens unit [] → IsSafeText text
-  checked_safe text tokens unit checked =
-      record {
-        in_form = (tokens, unit, checked.lexes, checked.derives);
-        safe = λ others other lexes derives. law other (derived_trees_are_in_first_form (terminals_of others) other derives)
-            (subst (λ (u : SyntaxTree). IsListing u []) (one_unit text tokens others unit other checked.lexes checked.derives lexes derives) checked.is_listing);
-      }
+  module _ (classes : List Class) (files : List (List ℕ)) (tokens undefined : List Tok) where
+    -- a tree without failures is safe
+    tree_safe :
+        (tree other : SyntaxTree) → Derives (terminals_of tokens) tree → IsListing tree [] → Derives (terminals_of tokens) other → IsSafe other
+    tree_safe tree other derives listing others =
+        law other (derived_trees_are_in_first_form (terminals_of tokens) other others)
+        (subst (λ (t : SyntaxTree). IsListing t []) (derived_trees_are_unique (terminals_of tokens) tree other derives others) listing)
 
-  pub text_safe : (path text : List ℕ) (reply : Reply) → IsTextReply path text reply → reply.ending ≡ Clean → IsSafeText text
-  text_safe path text reply (inl tells) is =
-      let none : tells.2 ≡ [] = no_failures path tells.0 tells.2 (sym (ap (λ (r : Reply). r.ending) tells.5) ∙ is) in
-      checked_safe text tells.0 tells.1 (subst (λ (failures : List Failure). IsChecked text tells.0 tells.1 failures) none tells.3)
-  text_safe path text reply (inr (inl tells)) is = let ending = ap (λ (r : Reply). r.ending) tells.5 in cc
-  text_safe path text reply (inr (inr (inl tells))) is = let ending = ap (λ (r : Reply). r.ending) tells.3 in cc
-  text_safe path text reply (inr (inr (inr tells))) is = let ending = ap (λ (r : Reply). r.ending) tells.2 in cc
+    check_safe :
+        (reply : Reply) → IsCheckReply classes files tokens undefined reply → reply.ending ≡ Clean
+        → ((tree : SyntaxTree) × Derives (terminals_of tokens) tree) × (AreGuarding classes → (tree : SyntaxTree) → Derives (terminals_of tokens) tree → IsSafe tree)
+    check_safe reply (inl tells) clean =
+        let none = no_failures files tokens (undefined_on classes undefined) (failures_on classes tells.1) (sym (ap (λ (r : Reply). r.ending) tells.4) ∙ clean) in (
+          (tells.0, tells.2),
+          λ guards other others. tree_safe tells.0 other tells.2 (subst (IsListing tells.0) (sym (all_on classes guards tells.1) ∙ none) tells.3) others,
+        )
+    check_safe reply (inr tells) clean = let ending = ap (λ (r : Reply). r.ending) tells.1 in cc
 
-  file_safe : (path : List ℕ) (found : Option (List ℕ)) (reply : Reply) → IsFileReply path found reply → reply.ending ≡ Clean → IsSomeAnd found IsSafeText
-  file_safe path None reply answer is = let ending = ap (λ (r : Reply). r.ending) answer in cc
-  file_safe path (Some text) reply (inl large) is = let ending = ap (λ (r : Reply). r.ending) large.1 in cc
-  file_safe path (Some text) reply (inr told) is = text_safe path text reply told.1 is
+  pub end_safe : (classes : List Class) (tokens : List Tok) (end : UnitEnd) (reply : Reply) → IsCheckEnd classes tokens end reply → reply.ending ≡ Clean
+      → IsSafeUnit classes (record { tokens = tokens; end = end })
+  end_safe classes tokens (Ends undefined paths) reply is clean =
+      let found = check_safe classes (files_of paths) tokens undefined reply is clean in
+      record { ends = (undefined, paths, refl); in_form = found.0; safe = found.1 }
+  end_safe classes tokens (EndsEarly stop) reply is clean = absurd (stop_is_not_clean stop reply is clean)
 
-  request_safe : (request : Request) (files : FileMap) (reply : Reply) → IsRequestReply request files reply → reply.ending ≡ Clean → NamesSafeFile request files
+  request_safe : (request : Request) (files : FileMap) (reply : Reply) → IsRequestReply request files reply → reply.ending ≡ Clean → NamesSafeUnit request files
   request_safe (BadWord position word) files reply answer is = let ending = ap (λ (r : Reply). r.ending) answer in cc
   request_safe MissingFile files reply answer is = let ending = ap (λ (r : Reply). r.ending) answer in cc
-  request_safe (Check path) files reply answer is = file_safe path (file_at files path) reply answer is
+  request_safe (Check options path) files reply answer is = (answer.0, answer.1, end_safe options.classes answer.0.tokens answer.0.end reply answer.2 is)
+  request_safe (Expand options path) files reply answer is = tt
 
   pub clean_is_safe : (words : List (List ℕ)) (loads : List Loaded) (reply : Reply) → ((files : FileMap) → AgreesWith files loads → IsAnswer words files reply)
       → IsSafeIfClean words loads reply.ending

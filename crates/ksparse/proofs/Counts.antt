@@ -24,3 +24,8 @@ told_of_two_by_none before_out now_out before_err now_err failed other told none
       always_out = λ grew. absurd (none (told.always_out grew));
       always_err = λ grew. absurd (none (told.always_err grew));
     }
+
+-- a fault may be told by another answer that comes where the first one comes
+pub told_as : (before now : ℕ) (failed other : Type 0) → Told before now failed → (failed → other) → (other → failed) → Told before now other
+told_as before now failed other told to from =
+    record { later = told.later; only = λ is. told.only (from is); always = λ grew. to (told.always grew) }

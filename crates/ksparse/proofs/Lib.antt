@@ -2,9 +2,12 @@ pub mod Classes
 pub mod CleanIsSafe
 pub mod Counts
 pub mod Endings
+pub mod FrontLemmas
+pub mod IdentifierLemmas
+pub mod Judging
 pub mod Loads
+pub mod ReadingLemmas
 pub mod SafeTexts
-pub mod SecondWord
 pub mod Taken
-pub mod TextReplies
 pub mod TokenLemmas
+pub mod UnitReplies

@@ -1,27 +1,40 @@
--- What silence means: no run of the file that the words name meets a fault.
-use Rattle.std.specs.Prelude.{◌≡◌, ℕ, List, IsSomeAnd}
-use Rattle.meaning_outside.specs.Files.{FileMap, file_at}
+-- What silence means: no run of the unit that the words name meets a fault.
+use Rattle.std.specs.Prelude.{◌≡◌, ℕ, true, List}
+use Rattle.vocabulary.specs.declared.class.Class.{Class}
+use Rattle.vocabulary.specs.declared.class.Class.TheVariants.{AddressSpace, Bitwise, Context}
+use Rattle.meaning_outside.specs.Files.{FileMap}
 use Rattle.meaning_outside.specs.Loads.{Loaded, AgreesWith}
-use Rattle.meaning_text.specs.Tokens.{Tok, LexesFile}
+use Rattle.meaning_text.specs.Tokens.{Tok}
 use Rattle.meaning_text.specs.Terminals.{terminals_of}
 use Rattle.meaning_tree.specs.Trees.{SyntaxTree}
-use Rattle.meaning_syntax.specs.Trees.{Derives, IsInForm}
-use Rattle.meaning_text.specs.Places.{main_file}
+use Rattle.meaning_syntax.specs.Trees.{Derives}
+use Rattle.meaning_preprocessing.specs.Unit.{Ends, PreprocessedUnit, IsPreprocessedUnit}
 use Rattle.meaning_answer.specs.Reply.{Ending, Clean}
-use Rattle.meaning_answer.specs.Command.{Request, BadWord, MissingFile, Check, request_of}
+use Rattle.meaning_answer.specs.Requests.{Request, BadWord, MissingFile, Check, Expand, request_of}
+use Rattle.meaning_answer.specs.Lines.{is_on}
 use Rattle.meaning_machine.specs.Runs.{IsSafe}
 
--- The text is a unit, and each unit that it is is safe.
-pub record IsSafeText (text : List ℕ) : Type 0 where
-  pub in_form : IsInForm text
-  pub safe : (tokens : List Tok) (unit : SyntaxTree) → LexesFile main_file text tokens → Derives (terminals_of tokens) unit → IsSafe unit
+-- the classes are on whose rules keep runs from faults
+pub record AreGuarding (classes : List Class) : Type 0 where
+  pub address_space : is_on classes AddressSpace ≡ true
+  pub bitwise : is_on classes Bitwise ≡ true
+  pub context : is_on classes Context ≡ true
 
--- the words ask to check a file, it is there, and its text is safe
-abbrev pub NamesSafeFile : Request → FileMap → Type 0
-NamesSafeFile (BadWord position word) files = ⊥
-NamesSafeFile MissingFile files = ⊥
-NamesSafeFile (Check path) files = IsSomeAnd (file_at files path) IsSafeText
+-- Preprocessing comes to its end, its tokens derive a tree, and each tree that they derive is safe where those
+-- classes are on.
+pub record IsSafeUnit (classes : List Class) (unit : PreprocessedUnit) : Type 0 where
+  pub ends : (undefined : List Tok) × (paths : List (List ℕ)) × (unit.end ≡ Ends undefined paths)
+  pub in_form : (tree : SyntaxTree) × Derives (terminals_of unit.tokens) tree
+  pub safe : AreGuarding classes → (tree : SyntaxTree) → Derives (terminals_of unit.tokens) tree → IsSafe tree
 
--- A clean ending says that the words name a safe file, in each map that agrees with the loads.
+-- The words ask to check a safe unit. The question for tokens promises nothing of runs.
+abbrev pub NamesSafeUnit : Request → FileMap → Type 0
+NamesSafeUnit (BadWord position word) files = ⊥
+NamesSafeUnit MissingFile files = ⊥
+NamesSafeUnit (Check options path) files =
+    (unit : PreprocessedUnit) × IsPreprocessedUnit options.preprocessing files path unit × IsSafeUnit options.classes unit
+NamesSafeUnit (Expand options path) files = Unit {0}
+
+-- A clean ending says so, in each map that agrees with the loads.
 abbrev pub IsSafeIfClean : List (List ℕ) → List Loaded → Ending → Type 0
-IsSafeIfClean words loads ending = ending ≡ Clean → (files : FileMap) → AgreesWith files loads → NamesSafeFile (request_of words) files
+IsSafeIfClean words loads ending = ending ≡ Clean → (files : FileMap) → AgreesWith files loads → NamesSafeUnit (request_of words) files

@@ -1,22 +1,31 @@
-// The words of a command, and the file that they name, to the reply.
-ghost use Rattle.std.specs.Prelude.{◌≡◌, ◌<◌, IfErr, IfOk, IfSome, IsErrOf, length, slice_get};
+// The words of a command, and the unit that they name, to the reply.
+ghost use Rattle.std.specs.Prelude.{◌≡◌, ◌↔◌, IfErr, IfOk, IsErrOf};
 ghost use Rattle.meaning_outside.specs.Faults.{Told};
-ghost use Rattle.meaning_outside.specs.Files.{FileMap, file_at};
+ghost use Rattle.meaning_outside.specs.Files.{FileMap};
 ghost use Rattle.meaning_outside.specs.Loads.{AgreesWith, loads_since};
-ghost use Rattle.meaning_answer.specs.Answer.{IsAnswer, IsFileReply};
+ghost use Rattle.meaning_answer.specs.Answers.{IsAnswer, IsRequestReply};
+ghost use Rattle.meaning_answer.specs.Requests.{Check, Expand};
+ghost use Rattle.c_preproc.specs.States.{IsKnownFault, stop_of};
 ghost use Rattle.ksparse.specs.Loading.{Loading};
-ghost use Rattle.ksparse.specs.Words.{IsFaultOf};
+ghost use Rattle.ksparse.specs.Stopping.{TellsStop};
+ghost use Rattle.ksparse.specs.Words.{IsFaultOf, options_seen};
 ghost use Rattle.ksparse.specs.Written.{reply_seen};
 
-use crate::check::check_text;
+use crate::check::check_tokens;
 use crate::command::{Command, WordFault, read_words};
-use crate::refusal::Refusal;
+use crate::expand::expand_tokens;
+use crate::refusal::{bad_word, error, limit, missing_file};
 use crate::reply::Written;
-use sparse_outside::{Files, Load, Words, load_leaves_buffer, told_map_agrees};
+use c_preproc::{PreFault, preprocess};
+use c_tokens::Names;
+use meaning_outside::loads_of_each_path_once_agree;
+use meaning_preprocessing::each_path_has_one_unit;
+use sparse_model::Options;
+use sparse_outside::{Files, Words};
 use std::alloc::{AllocError, Global};
 
-/// The most bytes that a file may have.
-const MOST_BYTES: usize = 8_388_608;
+/// From this length on the text of the file `<command>` is too long to be read.
+const MAX_COMMANDS: usize = 1 << 30;
 
 /// Why there is no reply.
 #[derive(Clone, Copy, Debug, PartialEq, Eq)]
@@ -45,15 +54,13 @@ pub fn answer<F: Files>(alloc: Global, words: &Words, files: &mut F) -> Result<W
     ensures cause { Told (F.faults files.old) (F.faults files.new) (IsErrOf result Stop.ReadFault) }
     ensures keeps { F.holds files.new ≡ F.holds files.old }
 {
-    let command = match read_words(alloc, words) {
-        Ok(command) => command,
-        Err(fault) => return usage(alloc, words, fault),
-    };
-    let Command::Check {
-        options: _options,
-        file,
-    } = command;
-    check_file(alloc, file.as_slice(), files)
+    match read_words(alloc, words) {
+        Ok(Command::Check { options, file }) => check_file(alloc, &options, file.as_slice(), files),
+        Ok(Command::Expand { options, file }) => {
+            expand_file(alloc, &options, file.as_slice(), files)
+        }
+        Err(fault) => usage(alloc, words, fault),
+    }
 }
 
 // The reply to words that are at fault.
@@ -65,30 +72,79 @@ fn usage(alloc: Global, words: &Words, fault: WordFault) -> Result<Written, Stop
     match fault {
         WordFault::BadWord(position) => {
             let word = words.get(position).unwrap();
-            Ok(Refusal::UnknownWord.reply(alloc, word)?)
+            Ok(bad_word(alloc, word)?)
         }
-        WordFault::MissingFile => Ok(Refusal::MissingOperand.reply(alloc, b"")?),
+        WordFault::MissingFile => Ok(missing_file(alloc)?),
         WordFault::Memory => Err(Stop::NoMemory),
     }
 }
 
 // The reply to the check of a file.
-fn check_file<F: Files>(alloc: Global, path: &[u8], files: &mut F) -> Result<Written, Stop>
+fn check_file<F: Files>(
+    alloc: Global,
+    options: &Options,
+    path: &[u8],
+    files: &mut F,
+) -> Result<Written, Stop>
     ensures right { IfOk result (λ written. (map : FileMap)
         → AgreesWith map (loads_since (F.loads files.old) (F.loads files.new))
-        → IsFileReply path.now (file_at map path.now) (reply_seen written)) }
+        → IsRequestReply (Check (options_seen options.now) path.now) map (reply_seen written)) }
     ensures loading { Loading (F.holds files.old) (F.loads files.old) (F.loads files.new) }
     ensures cause { Told (F.faults files.old) (F.faults files.new) (IsErrOf result Stop.ReadFault) }
     ensures keeps { F.holds files.new ≡ F.holds files.old }
 {
-    told_map_agrees();
-    load_leaves_buffer();
-    let mut text = Vec::new(alloc);
-    match files.load(path, MOST_BYTES, &mut text) {
-        Load::Whole => Ok(check_text(alloc, path, &text)?),
-        Load::Missing => Ok(Refusal::NoSuchFile.reply(alloc, path)?),
-        Load::TooLong => Ok(Refusal::LargeFile.reply(alloc, path)?),
-        Load::Failed => Err(Stop::ReadFault),
-        Load::NoMemory => Err(Stop::NoMemory),
+    loads_of_each_path_once_agree();
+    each_path_has_one_unit();
+    if options.commands.len() >= MAX_COMMANDS {
+        return Err(Stop::NoMemory);
+    }
+    let mut names = Names::new(alloc)?;
+    match preprocess(alloc, options, files, &mut names, path) {
+        Ok(toks) => Ok(check_tokens(alloc, &names, &toks, &options.classes)?),
+        Err(fault) => tell_stop(alloc, &names, fault),
+    }
+}
+
+// The reply to the question for the tokens of a file.
+fn expand_file<F: Files>(
+    alloc: Global,
+    options: &Options,
+    path: &[u8],
+    files: &mut F,
+) -> Result<Written, Stop>
+    ensures right { IfOk result (λ written. (map : FileMap)
+        → AgreesWith map (loads_since (F.loads files.old) (F.loads files.new))
+        → IsRequestReply (Expand (options_seen options.now) path.now) map (reply_seen written)) }
+    ensures loading { Loading (F.holds files.old) (F.loads files.old) (F.loads files.new) }
+    ensures cause { Told (F.faults files.old) (F.faults files.new) (IsErrOf result Stop.ReadFault) }
+    ensures keeps { F.holds files.new ≡ F.holds files.old }
+{
+    if options.commands.len() >= MAX_COMMANDS {
+        return Err(Stop::NoMemory);
+    }
+    let mut names = Names::new(alloc)?;
+    match preprocess(alloc, options, files, &mut names, path) {
+        Ok(toks) => Ok(expand_tokens(alloc, &names, toks.tokens.as_slice())?),
+        Err(fault) => tell_stop(alloc, &names, fault),
+    }
+}
+
+// The reply to a unit that ends early.
+fn tell_stop(alloc: Global, names: &Names, fault: PreFault) -> Result<Written, Stop>
+    requires { IsKnownFault names.now fault }
+    ensures right { IfOk result (λ written. TellsStop (stop_of names.now fault) (reply_seen written)) }
+    ensures read { IsErrOf result Stop.ReadFault ↔ (fault ≡ PreFault.ReadFault) }
+{
+    match fault {
+        PreFault::Error(kind, place, word, path) => Ok(error(
+            alloc,
+            kind,
+            names.spelling(path),
+            place,
+            names.spelling(word),
+        )?),
+        PreFault::Limit(kind) => Ok(limit(alloc, kind)?),
+        PreFault::ReadFault => Err(Stop::ReadFault),
+        PreFault::Memory => Err(Stop::NoMemory),
     }
 }

@@ -1,9 +1,13 @@
 // Words in, the path and the options that they ask for out, or their fault. No file is loaded here.
 ghost use Rattle.std.specs.Prelude.{◌≡◌, IfOk, IfErr};
-ghost use Rattle.meaning_answer.specs.Command as meaning;
-ghost use Rattle.ksparse.specs.Words.{AreDefault, EachStandsOnce, IsFaultOf, options_seen, request_seen};
+ghost use Rattle.meaning_answer.specs.Options as meaning;
+ghost use Rattle.meaning_answer.specs.Requests.{request_of};
+ghost use Rattle.ksparse.specs.Reading.{begins_with_command};
+ghost use Rattle.ksparse.specs.Words.{EachStandsOnce, IsFaultOf, options_in, request_seen};
 
-use sparse_model::{Bytes, Class, Options, Seq};
+use crate::option::read_word;
+use crate::reading::Reading;
+use sparse_model::{Bytes, Options};
 use sparse_outside::Words;
 use std::alloc::{AllocError, Global};
 use thiserror::Error;
@@ -13,6 +17,8 @@ use thiserror::Error;
 pub enum Command {
     /// Check a file.
     Check { options: Options, file: Bytes },
+    /// Write the tokens of a file.
+    Expand { options: Options, file: Bytes },
 }
 
 /// Why words are no command.
@@ -37,63 +43,38 @@ impl From<AllocError> for WordFault {
     }
 }
 
-/// Reads the words of a command: one operand, the file, and nothing else.
+/// Reads the words of a command: one operand, the file, and options in any order.
 pub fn read_words(alloc: Global, words: &Words) -> Result<Command, WordFault>
-    ensures command { IfOk result (λ command. request_seen command ≡ meaning.request_of words.now) }
-    ensures options { IfOk result (λ command. AreDefault (options_seen command)) }
+    ensures command { IfOk result (λ command. request_seen command ≡ request_of words.now) }
 
     // Each class that is on stands once.
-    ensures once { IfOk result (λ command. EachStandsOnce (options_seen command).classes) }
+    ensures once { IfOk result (λ command. EachStandsOnce (options_in command).classes) }
     ensures fault { IfErr result (IsFaultOf words.now) }
 {
-    let Some(word) = words.get(0) else {
-        return Err(WordFault::MissingFile);
-    };
-    if is_bad_first(word) {
+    if begins_with_command(words) {
         return Err(WordFault::BadWord(0));
     }
-    if words.len() > 1 {
-        return Err(WordFault::BadWord(1));
+    let mut reading = Reading::new(alloc);
+    let mut position = 0;
+    'words: while let Some(text) = words.get(position) {
+        let word = read_word(text);
+        if reading.refuses(&word) {
+            return Err(WordFault::BadWord(position));
+        }
+        reading.take(alloc, text, &word)?;
+        position += 1;
     }
-    check_command(alloc, word)
+    reading.into_command(alloc)
 }
 
-// The command that checks a file, with nothing set besides.
-fn check_command(alloc: Global, path: &[u8]) -> Result<Command, WordFault>
-    ensures command { IfOk result (λ command. request_seen command ≡ meaning.Check path.now) }
-    ensures options { IfOk result (λ command. AreDefault (options_seen command)) }
-    ensures memory { IfErr result (λ fault. fault ≡ WordFault.Memory) }
+// The first word selects another command.
+fn begins_with_command(words: &Words) -> bool
+    ensures { result ≡ begins_with_command words.now }
 {
-    let file = Seq::from_vec(Vec::from_slice(alloc, path)?);
-    let options = default_options(alloc)?;
-    Ok(Command::Check { options, file })
-}
-
-// What is set where no word sets anything.
-fn default_options(alloc: Global) -> Result<Options, AllocError>
-    ensures { IfOk result AreDefault }
-{
-    let classes = Vec::from_array(
-        alloc,
-        [
-            Class::AddressSpace,
-            Class::Bitwise,
-            Class::Context,
-            Class::NonPointerNull,
-        ],
-    )?;
-    Ok(Options {
-        dirs: Seq::new(alloc),
-        commands: Seq::new(alloc),
-        classes: Seq::from_vec(classes),
-    })
-}
-
-// A word that can't stand first: it selects a command that isn't built, or is an option.
-fn is_bad_first(word: &[u8]) -> bool
-    ensures { result ≡ meaning.is_bad_first word.now }
-{
-    is_command(word) || word.first() == Some(&b'-')
+    match words.get(0) {
+        Some(word) => is_command(word),
+        None => false,
+    }
 }
 
 fn is_command(word: &[u8]) -> bool

@@ -1,23 +1,28 @@
 //! The top call: words and files in, an exit out, and on the two sinks the answer.
 //!
-//! [`check_text`] is the way of one text through the crates below. What the top call promises stands at
+//! [`check_tokens`] is the way of the tokens of one unit through the crates below. What the top call promises stands at
 //! [`ksparse`](top); start reading there.
 #![tactic(auto)]
 
 mod answer;
 mod check;
+mod class_names;
 mod command;
 mod examples;
 mod exit;
+mod expand;
+mod identifier;
+mod option;
+mod reading;
 mod refusal;
 mod reply;
 mod top;
+mod warnings;
 mod write;
 
-pub use check::check_text;
+pub use check::check_tokens;
 pub use command::{Command, WordFault, read_words};
 pub use examples::worked_examples;
 pub use exit::Exit;
-pub use refusal::Refusal;
 pub use reply::Written;
 pub use top::ksparse;

@@ -1,107 +1,93 @@
-// Why a command is refused, and the line that says so.
-ghost use Rattle.std.specs.Prelude.{◌≡◌, ◌++◌, IfOk, OnOk, codes};
+// The line of each refusal, as a reply.
+ghost use Rattle.std.specs.Prelude.{◌≡◌, ◌++◌, All, IfOk, OnOk};
 ghost use Rattle.vocabulary.specs.Errors.{error_line};
-ghost use Rattle.c_tokens.specs.Seen.{at_of};
-ghost use Rattle.meaning_answer.specs.Refusal.{error_text, limit_text, refusal_reply};
+ghost use Rattle.c_tokens.specs.Seen.{IsKnown, at_of};
+ghost use Rattle.meaning_answer.specs.Lines.{bad_word_reply, error_front, error_text, limit_text, missing_file_reply, not_built_reply};
 ghost use Rattle.meaning_answer.specs.Reply.{Limit, Refused, line};
-ghost use Rattle.ksparse.specs.Refusal.{refusal_seen};
-ghost use Rattle.ksparse.specs.Written.{reply_seen};
+ghost use Rattle.ksparse.specs.Written.{paths_of, reply_seen};
 
 use crate::exit::Exit;
 use crate::reply::Written;
-use first_form::write_place;
-use sparse_model::{ErrorKind, LimitKind, Place};
+use c_tokens::Names;
+use first_form::{path_in, write_place};
+use sparse_model::{ErrorKind, FileNames, LimitKind, Place};
 use std::alloc::{AllocError, Global};
 
-/// Why a command is refused.
-#[derive(Clone, Copy, Debug, PartialEq, Eq)]
-pub enum Refusal {
-    /// No rule allows the word.
-    UnknownWord,
-    /// An operand is wanting.
-    MissingOperand,
-    /// No file has this path.
-    NoSuchFile,
-    /// The file has more bytes than are read.
-    LargeFile,
-    /// A comment opens here and is never closed.
-    OpenComment(Place),
-    /// A literal opens here and is never closed.
-    OpenLiteral(Place),
-    /// The file isn't in the form.
-    NotBuilt,
-    /// The unit has too many tokens.
-    ManyTokens,
-}
+/// The number of the checked file, and where an error stands that is said of the whole of it.
+const MAIN_FILE: u32 = 1;
 
-/// Where an error stands that is said of a whole file.
 const START: Place = Place {
     file: 1,
     line: 1,
     column: 1,
 };
 
-impl Refusal {
-    /// The reply that says so, in one line. Its subject is the word that is refused, or else the path of
-    /// the file.
-    pub fn reply(self, alloc: Global, subject: &[u8]) -> Result<Written, AllocError>
-        ensures { IfOk result
-            (λ written. reply_seen written ≡ refusal_reply subject.now (refusal_seen self)) }
-    {
-        match self {
-            Refusal::UnknownWord => {
-                Written::line(alloc, Exit::Usage, b"ksparse: bad word: ", subject)
-            }
-            Refusal::MissingOperand => {
-                Written::line(alloc, Exit::Usage, b"ksparse: ", b"missing file")
-            }
-            Refusal::NoSuchFile => no_such_file(alloc, subject),
-            Refusal::LargeFile => limit(alloc, LimitKind::FileSize),
-            Refusal::OpenComment(place) => {
-                error_at(alloc, subject, place, ErrorKind::UnterminatedComment)
-            }
-            Refusal::OpenLiteral(place) => {
-                error_at(alloc, subject, place, ErrorKind::UnterminatedLiteral)
-            }
-            Refusal::NotBuilt => error_at(alloc, subject, START, ErrorKind::FormNotBuilt),
-            Refusal::ManyTokens => limit(alloc, LimitKind::UnitTokens),
-        }
-    }
+/// The first word that no rule allows.
+pub(crate) fn bad_word(alloc: Global, word: &[u8]) -> Result<Written, AllocError>
+    ensures { IfOk result (λ written. reply_seen written ≡ bad_word_reply word.now) }
+{
+    Written::line(alloc, Exit::Usage, b"ksparse: bad word: ", word)
 }
 
-// The line of a limit that was passed.
-fn limit(alloc: Global, kind: LimitKind) -> Result<Written, AllocError>
+/// An operand is wanting.
+pub(crate) fn missing_file(alloc: Global) -> Result<Written, AllocError>
+    ensures { IfOk result (λ written. reply_seen written ≡ missing_file_reply) }
+{
+    Written::line(alloc, Exit::Usage, b"ksparse: ", b"missing file")
+}
+
+/// A quantity passed its number.
+pub(crate) fn limit(alloc: Global, kind: LimitKind) -> Result<Written, AllocError>
     ensures { IfOk result (λ written. reply_seen written ≡ line Limit (limit_text kind)) }
 {
     Written::line(alloc, Exit::Limit, b"ksparse: limit: ", kind.name())
 }
 
-// The line for a file that isn't there, which has no place.
-fn no_such_file(alloc: Global, path: &[u8]) -> Result<Written, AllocError>
-    ensures { IfOk result (λ written. reply_seen written
-        ≡ line Refused (codes "ksparse: " ++ error_line ErrorKind.NoSuchFile path.now)) }
+/// The tokens of these files aren't in the form.
+pub(crate) fn not_built(
+    alloc: Global,
+    names: &Names,
+    files: &FileNames,
+) -> Result<Written, AllocError>
+    requires { All (IsKnown names.now) files.now }
+    ensures { IfOk result (λ written. reply_seen written ≡ not_built_reply (paths_of names.now files.now)) }
 {
-    let mut error = Vec::new(alloc);
-    write_error(&mut error, ErrorKind::NoSuchFile, path)?;
-    Written::line(alloc, Exit::Refused, b"ksparse: ", error.as_slice())
+    let path = path_in(names, files, MAIN_FILE);
+    error(alloc, ErrorKind::FormNotBuilt, path, START, b"")
 }
 
-// The line for an error at this place of the file with this path.
-fn error_at(
+/// An error at this place of the file with this path, and the word that its text names, if it names one.
+pub(crate) fn error(
     alloc: Global,
+    kind: ErrorKind,
     path: &[u8],
     place: Place,
-    kind: ErrorKind,
+    word: &[u8],
 ) -> Result<Written, AllocError>
     ensures { IfOk result (λ written. reply_seen written
-        ≡ line Refused (error_text path.now (at_of place) kind)) }
+        ≡ line Refused (error_text kind path.now (at_of place) word.now)) }
 {
     let mut front = Vec::new(alloc);
-    write_place(&mut front, path, place)?;
+    write_error_front(&mut front, kind, path, place)?;
     front.push(b' ')?;
     let mut error = Vec::new(alloc);
-    write_error(&mut error, kind, b"")?;
+    write_error(&mut error, kind, word)?;
     Written::line(alloc, Exit::Refused, front.as_slice(), error.as_slice())
+}
+
+// Where an error stands; a file that isn't there has no places.
+fn write_error_front(
+    text: &mut Vec<u8>,
+    kind: ErrorKind,
+    path: &[u8],
+    place: Place,
+) -> Result<(), AllocError>
+    ensures { OnOk result (text.new.items ≡ text.old.items ++ error_front kind path.now (at_of place)) }
+{
+    match kind {
+        ErrorKind::NoSuchFile => text.extend_from_slice(b"ksparse:"),
+        _ => write_place(text, path, place),
+    }
 }
 
 // Appends the number and the text of an error, with the word that the text names, if it names one.

@@ -1,17 +1,24 @@
 -- A command is complete where the answer that the plain program computes was taken whole, and only there.
-use Rattle.std.proofs.Common.{◌≡◌, ◌≢◌, ℕ, List, [], ◌∷◌, ◌⊎◌, None, sym, ◌∙◌, ap, subst, refl, inl, inr, codes, get_or, arith}
+use Rattle.std.proofs.Common.{◌≡◌, ◌≢◌, ℕ, List, [], ◌∷◌, ◌⊎◌, Option, Some, None, sym, ◌∙◌, ap, subst, refl, inl, inr, codes, get_or, arith}
 use Rattle.std.specs.Cmp.Lexicographic.{slice_cmp}
 use Rattle.std.specs.FinMap as map
 use Rattle.std.specs.Fmt.{digits}
 use Rattle.std.specs.Ordering.{nat_cmp}
 use Rattle.meaning_outside.specs.Files.{FileMap, file_at}
 use Rattle.meaning_outside.specs.Loads.{Loaded, AgreesWith}
-use Rattle.meaning_answer.specs.Reply.{Ending, Usage, NoMemory, Reply, line}
-use Rattle.meaning_answer.specs.Answer.{IsAnswer}
+use Rattle.vocabulary.specs.Rules.{default_classes}
+use Rattle.meaning_text.specs.Fronts.{front_of}
+use Rattle.meaning_macros.specs.Expansion.{within, expansion}
+use Rattle.meaning_conditions.specs.plain.Reading.{answer_of}
+use Rattle.meaning_preprocessing.specs.State.{and_then}
+use Rattle.meaning_preprocessing.specs.Unit.{Setting, PreprocessedUnit, capped, command_piece, first_state, main_piece_of, preprocessed, reader, unit_end, unit_limits}
+use Rattle.meaning_preprocessing.specs.examples.Rows.{plain_options}
+use Rattle.meaning_answer.specs.Reply.{Ending, Refused, Usage, NoMemory, Reply, line}
+use Rattle.meaning_answer.specs.Answers.{IsAnswer}
 use Rattle.meaning_answer.specs.Delivery.{Sinks, Delivers, Completes}
-use Rattle.meaning_answer.specs.plain.Answering.{file_reply, reply_to}
+use Rattle.meaning_answer.specs.plain.Replying.{end_reply, reply_to}
 use Rattle.meaning_answer.specs.examples.Completion.{taken, CompletionExamples, no_file, two_paths, three_words}
-use Rattle.meaning_answer.proofs.Texts.{answers_exist, answers_are_unique}
+use Rattle.meaning_answer.proofs.Replies.{answers_exist, answers_are_unique}
 
 -- it is complete with a reply that writes nothing to `out`, whichever map agrees with the loads
 completed : (words : List (List ℕ)) (loads : List Loaded) (ending : Ending) (err : List ℕ)
@@ -50,8 +57,23 @@ unfolding no_files
 none_there = map.get-empty (slice_cmp nat_cmp) (codes "t.c")
 
 -- the lines differ in a letter
-line_of_another_word : codes "ksparse: bad word: -x\n" ≢ codes "ksparse: bad word: -E\n"
-line_of_another_word is = let letter : 120 ≡ 69 = ap (λ (line : List ℕ). get_or line 20 0) is in omega (arith, letter)
+line_of_another_word : codes "ksparse: bad word: -x\n" ≢ codes "ksparse: bad word: -a\n"
+line_of_another_word is = let letter : 120 ≡ 97 = ap (λ (line : List ℕ). get_or line 20 0) is in omega (arith, letter)
+
+-- the unit of `t.c` in a map, by what is found there
+abbrev unit_found : FileMap → Option (List ℕ) → PreprocessedUnit
+unit_found files found =
+    let setting : Setting = record { options = plain_options; files = file_at files; value = answer_of; limits = unit_limits } in
+    let all = capped unit_limits.unit_tokens
+    (and_then (command_piece setting (first_state unit_limits (codes "t.c"))) (main_piece_of setting (codes "t.c") found)) in
+    record { tokens = all.tokens; end = unit_end all.ending }
+
+-- the reply where it isn't there
+missing_reply : (files : FileMap) → file_at files (codes "t.c") ≡ None
+    → reply_to (codes "t.c" ∷ []) files ≡ line Refused (codes "ksparse: error[1]: no such file: t.c")
+unfolding preprocessed digits reader expansion within front_of
+missing_reply files none =
+    ap (λ (found : Option (List ℕ)). let unit = unit_found files found in end_reply default_classes unit.tokens unit.end) none
 
 pub completion_examples : CompletionExamples
 unfolding digits
@@ -60,9 +82,9 @@ completion_examples = record {
   no_word_in_silence = incomplete [] [] no_files _ _ _ tt refl (another_ending (λ is. cc) (λ is. cc));
   no_word_with_silent_usage = incomplete [] [] no_files _ _ _ tt refl (another_text _ [] (λ is. cc) (λ is. cc));
   no_word_without_memory = without_memory [] (taken []);
-  one_word = completed (codes "t.c" ∷ []) no_file _ _ (λ files agrees. ap (file_reply (codes "t.c")) agrees.0);
+  one_word = completed (codes "t.c" ∷ []) no_file _ _ (λ files agrees. missing_reply files agrees.0);
   one_word_in_silence =
-      incomplete (codes "t.c" ∷ []) no_file no_files (file_reply (codes "t.c") None) _ _ (none_there, tt) (ap (file_reply (codes "t.c")) none_there)
+      incomplete (codes "t.c" ∷ []) no_file no_files (line Refused (codes "ksparse: error[1]: no such file: t.c")) _ _ (none_there, tt) (missing_reply no_files none_there)
       (another_ending (λ is. cc) (λ is. cc));
   two_words = completed two_paths [] _ _ (λ files agrees. refl);
   two_words_in_silence = incomplete two_paths [] no_files _ _ _ tt refl (another_ending (λ is. cc) (λ is. cc));
@@ -70,6 +92,6 @@ completion_examples = record {
   three_words_tell_the_first_bad_one = completed three_words [] _ _ (λ files agrees. refl);
   three_words_tell_another =
       incomplete three_words [] no_files _ _ _ tt refl
-      (another_text (line Usage (codes "ksparse: bad word: -E")) (codes "ksparse: bad word: -x\n") (λ is. cc) line_of_another_word);
+      (another_text (line Usage (codes "ksparse: bad word: -a")) (codes "ksparse: bad word: -x\n") (λ is. cc) line_of_another_word);
   behind_a_fault = λ words loads ending sinks files agrees reply answers none. absurd (none tt);
 }

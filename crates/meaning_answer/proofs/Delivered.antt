@@ -3,9 +3,9 @@ use Rattle.std.proofs.Common.{◌≡◌, ℕ, List, sym, ◌∙◌, ap, subst, r
 use Rattle.meaning_outside.specs.Files.{FileMap}
 use Rattle.meaning_outside.specs.Loads.{Loaded}
 use Rattle.meaning_answer.specs.Reply.{Ending, Clean, Warned, Refused, Usage, ReadFault, WriteFault, NoMemory, Limit, Reply}
-use Rattle.meaning_answer.specs.Answer.{IsAnswer}
+use Rattle.meaning_answer.specs.Answers.{IsAnswer}
 use Rattle.meaning_answer.specs.Delivery.{Sinks, Delivers, Ends, Outcome, IsOutcome, Completes}
-use Rattle.meaning_answer.proofs.Texts.{answers_are_unique}
+use Rattle.meaning_answer.proofs.Replies.{answers_are_unique}
 
 module _ (words : List (List ℕ)) (files : FileMap) (reply : Reply) (is : IsAnswer words files reply) (sinks : Sinks) where
   -- what was taken whole is the answer

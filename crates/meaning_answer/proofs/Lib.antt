@@ -1,6 +1,3 @@
-pub mod Texts
-pub mod Shapes
-mod Usage
 mod Written
 mod Told
 pub mod Delivered

@@ -3,7 +3,7 @@ use Rattle.std.specs.Prelude.{◌≡◌, ℕ, List, ◌++◌, ◌⊎◌}
 use Rattle.meaning_outside.specs.Files.{FileMap}
 use Rattle.meaning_outside.specs.Loads.{Loaded, AgreesWith}
 use Rattle.meaning_answer.specs.Reply.{Ending, Clean, Warned, Refused, Usage, ReadFault, WriteFault, NoMemory, Limit, Reply}
-use Rattle.meaning_answer.specs.Answer.{IsAnswer}
+use Rattle.meaning_answer.specs.Answers.{IsAnswer}
 
 -- What the two sinks had taken before the call, and have taken behind it.
 pub record Sinks : Type 0 where

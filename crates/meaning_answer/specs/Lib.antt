@@ -1,7 +1,4 @@
 pub mod Reply
-pub mod Refusal
-pub mod Command
-pub mod Answer
 pub mod Delivery
 pub mod Options
 pub mod Requests

@@ -48,18 +48,3 @@ line ending text = record { out = []; err = text ++ codes "\n"; ending = ending 
 -- a text and one new-line behind it
 abbrev pub IsLine : List ℕ → Type 0
 IsLine err = (text : List ℕ) × (err ≡ text ++ codes "\n")
-
--- What each reply is like. A fault of reading or writing and want of memory are no replies.
-abbrev pub HasShape : Ending → List ℕ → List ℕ → Type 0
-HasShape Clean out err = (out ≡ []) × (err ≡ [])
-HasShape Warned out err = (out ≡ []) × IsLine err
-HasShape Refused out err = (out ≡ []) × IsLine err
-HasShape Usage out err = (out ≡ []) × IsLine err
-HasShape Limit out err = (out ≡ []) × IsLine err
-HasShape ReadFault out err = ⊥
-HasShape WriteFault out err = ⊥
-HasShape NoMemory out err = ⊥
-
--- the reply is like what its ending says
-abbrev pub IsShaped : Reply → Type 0
-IsShaped reply = HasShape reply.ending reply.out reply.err

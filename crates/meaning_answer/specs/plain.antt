@@ -1,3 +1,2 @@
 -- The plain programs beside the definitions.
-pub mod Answering
 pub mod Replying

@@ -1,22 +1,23 @@
 // What is proved of answers and outcomes, and examples of them.
-ghost use Rattle.meaning_answer.specs.examples.Answers.{AnswerExamples, LimitExamples, RequestExamples};
+ghost use Rattle.meaning_answer.specs.examples.Answers.{AnswerExamples, ExpandExamples, RequestExamples};
 ghost use Rattle.meaning_answer.specs.examples.Completion.{CompletionExamples};
-ghost use Rattle.meaning_answer.specs.laws.Answers.{AnswersAreShaped, AnswersAreUnique, AnswersExist, AnswersTellUsage, EndingsTellWhatIsWritten, OutcomesAreTold};
+ghost use Rattle.meaning_answer.specs.laws.Answers.{EndingsTellWhatIsWritten, OutcomesAreTold, TokensAloneGoOut};
+ghost use Rattle.meaning_answer.specs.laws.Commands.{AnswersAreShaped, AnswersAreUnique, AnswersExist, AnswersTellFaults};
 
-/// Each command has exactly one answer over given files, with the shape of its ending. It is a usage line
-/// exactly where the words are at fault.
+/// Each command has exactly one answer over given files, with the shape of what it asks for and of its ending. It
+/// is a usage line exactly where the words are at fault.
 pub fn each_command_has_one_answer()
     ensures exist { AnswersExist }
     ensures unique { AnswersAreUnique }
     ensures shaped { AnswersAreShaped }
-    ensures usage { AnswersTellUsage }
+    ensures faults { AnswersTellFaults }
 {}
 
 /// Small commands, from their words and files to their texts.
 pub fn worked_examples()
     ensures answers { AnswerExamples }
     ensures requests { RequestExamples }
-    ensures limits { LimitExamples }
+    ensures expanded { ExpandExamples }
 {}
 
 /// Commands of no word, one and more, and what completes them.
@@ -24,9 +25,10 @@ pub fn worked_completions()
     ensures { CompletionExamples }
 {}
 
-/// What the sinks of a command have taken, by its ending alone, whatever the files hold.
+/// What the sinks of a command have taken, by what it asks for and by its ending alone, whatever the files hold.
 pub fn endings_tell_what_is_written()
-    ensures { EndingsTellWhatIsWritten }
+    ensures tell { EndingsTellWhatIsWritten }
+    ensures tokens { TokensAloneGoOut }
 {}
 
 /// The outcome by what loads gave and sinks took is that by what files and sinks tell, where they tell it.

@@ -2,14 +2,12 @@
 //!
 //! A relation between the command's words, a map of files, and what is written. Definitions over pure
 //! shapes; [`answers`] has the law that there is exactly one answer. Start reading at
-//! `specs/Answer.antt`.
+//! `specs/Answers.antt`.
 #![tactic(auto)]
 
 mod answers;
-mod commands;
 
 pub use answers::{
     each_command_has_one_answer, endings_tell_what_is_written, outcomes_are_told,
     worked_completions, worked_examples,
 };
-pub use commands::each_command_is_answered_once;

@@ -1,35 +1,74 @@
 -- Worked examples: small commands and files, with their answers.
-use Rattle.std.specs.Prelude.{◌≡◌, ℕ, List, [], ◌∷◌, ◌++◌, ◌*◌, codes, length, map, Some, None}
+use Rattle.std.specs.Prelude.{◌≡◌, ℕ, List, [], ◌∷◌, ◌++◌, codes, map, Some, None}
+use Rattle.vocabulary.specs.declared.class.Class.{Class}
+use Rattle.vocabulary.specs.declared.class.Class.TheVariants.{AddressSpace, Bitwise, Context, NonPointerNull, Undef}
+use Rattle.vocabulary.specs.Rules.{default_classes}
 use Rattle.meaning_outside.specs.Files.{FileMap}
+use Rattle.meaning_conditions.specs.plain.Reading.{answer_of}
+use Rattle.meaning_preprocessing.specs.Unit.{PreprocessedUnit, unit_in, unit_limits}
+use Rattle.meaning_preprocessing.specs.Unit as preprocessing
+use Rattle.meaning_preprocessing.specs.examples.Rows.{main_path, files_of, plain_options, unit_among}
 use Rattle.meaning_answer.specs.Reply.{Reply, Clean, Warned, Refused, Usage, ReadFault, WriteFault, NoMemory, Limit, status_of, silence, line}
-use Rattle.meaning_text.specs.Tokens.{Tok}
-use Rattle.meaning_first_rules.specs.Failures.{Failure}
-use Rattle.meaning_answer.specs.Command.{BadWord, Check, request_of}
-use Rattle.meaning_answer.specs.Answer.{most_bytes, most_tokens, warned}
-use Rattle.meaning_answer.specs.plain.Answering.{bounded_reply, text_reply, file_reply, reply_to}
+use Rattle.meaning_answer.specs.Requests.{Options, Request, BadWord, MissingFile, Check, Expand, request_of}
+use Rattle.meaning_answer.specs.Answers.{expand_reply}
+use Rattle.meaning_answer.specs.plain.Replying.{end_reply, reply_to}
 
--- the reply to the check of `t.c` where it has this text
+-- the reply to a check of a unit
+abbrev pub checked_unit : List Class → PreprocessedUnit → Reply
+checked_unit classes unit = end_reply classes unit.tokens unit.end
+
+-- to a check of `t.c` where it has this text
 abbrev pub checked : List ℕ → Reply
-checked text = file_reply (codes "t.c") (Some text)
+checked text = checked_unit default_classes (unit_among unit_limits plain_options [] text)
+
+-- with the class of undefined identifiers on too
+abbrev pub checked_undefined : List ℕ → Reply
+checked_undefined text = checked_unit (Undef ∷ default_classes) (unit_among unit_limits plain_options [] text)
+
+-- beside a header `k.h`
+abbrev pub checked_with : List ℕ → List ℕ → Reply
+checked_with header text = checked_unit default_classes (unit_among unit_limits plain_options ((codes "k.h", header) ∷ []) text)
+
+-- where `t.c` isn't there
+abbrev pub unit_without : PreprocessedUnit
+unit_without = unit_in (record { options = plain_options; files = files_of []; value = answer_of; limits = unit_limits }) main_path
+
+-- to the question for its tokens
+abbrev pub expanded : List ℕ → Reply
+expanded text = let unit = unit_among unit_limits plain_options [] text in expand_reply unit.tokens unit.end
+
+-- this text on `out`
+abbrev pub out_of : List ℕ → Reply
+out_of text = record { out = text; err = []; ending = Clean }
+
+-- this text on `err`
+abbrev pub warns : List ℕ → Reply
+warns text = record { out = []; err = text; ending = Warned }
+
+-- the flags of a pointer as kernel headers define them
+abbrev pub user_macro : List ℕ
+user_macro = codes "#define __user __attribute__((noderef, address_space(__user)))\n"
 
 -- Each reply is worked out by hand from the rules.
 pub record AnswerExamples : Type 0 where
   pub statuses :
       map status_of (Clean ∷ Warned ∷ Refused ∷ Usage ∷ ReadFault ∷ WriteFault ∷ NoMemory ∷ Limit ∷ [])
       ≡ 0 ∷ 1 ∷ 2 ∷ 3 ∷ 4 ∷ 5 ∷ 6 ∷ 7 ∷ []
-  pub most_is_8_MiB : most_bytes ≡ 8 * 1024 * 1024
-  pub most_is_two_million : most_tokens ≡ 2 * 1000 * 1000
   pub empty : checked [] ≡ silence
-  pub directive : checked (codes "#define X 1") ≡ line Refused (codes "t.c:1:1: error[29]: form not built")
+  pub definition : checked (codes "#define X 1") ≡ silence
+  pub number : checked (codes "#define X 1\nX") ≡ line Refused (codes "t.c:1:1: error[29]: form not built")
   pub open_comment : checked (codes "/* a") ≡ line Refused (codes "t.c:1:1: error[3]: unterminated comment")
   pub open_literal : checked (codes "char *s = \"a") ≡ line Refused (codes "t.c:1:11: error[4]: unterminated literal")
   -- `L` is a token, so that the literal opens behind it
   pub prefixed : checked (codes "L\"a") ≡ line Refused (codes "t.c:1:2: error[4]: unterminated literal")
-  -- an opening goes before the form
+  -- errors of preprocessing go before the form
   pub opening_first : checked (codes "x + 'a") ≡ line Refused (codes "t.c:1:5: error[4]: unterminated literal")
+  pub directive_first : checked (codes "x\n#error a  b") ≡ line Refused (codes "t.c:2:1: error[17]: #error a b")
   pub comments : checked (codes "/* nothing */ // at all") ≡ silence
   pub declared_twice : checked (codes "extern int x; extern int x;") ≡ line Refused (codes "t.c:1:1: error[29]: form not built")
-  pub missing : file_reply (codes "t.c") None ≡ line Refused (codes "ksparse: error[1]: no such file: t.c")
+  pub missing : checked_unit default_classes unit_without ≡ line Refused (codes "ksparse: error[1]: no such file: t.c")
+  pub no_header : checked (codes "#include \"no.h\"") ≡ line Refused (codes "t.c:1:10: error[2]: include not found: no.h")
+  pub header_error : checked_with (codes "\n #foo") (codes "x\n#include \"k.h\"") ≡ line Refused (codes "k.h:2:2: error[9]: unknown directive")
   pub no_word : (files : FileMap) → reply_to [] files ≡ line Usage (codes "ksparse: missing file")
   pub option : (files : FileMap) → reply_to (codes "-Wfoo" ∷ codes "t.c" ∷ []) files ≡ line Usage (codes "ksparse: bad word: -Wfoo")
   pub command : (files : FileMap) → reply_to (codes "eval" ∷ []) files ≡ line Usage (codes "ksparse: bad word: eval")
@@ -40,36 +79,100 @@ pub record AnswerExamples : Type 0 where
       (codes "extern int *p;\n"
       ++ codes "extern int __attribute__((noderef, address_space(__user))) *u;\n"
       ++ codes "void f(void) { p = u; }\n")
-      ≡ record {
-        out = [];
-        err =
-            codes "t.c:3:18: warning: incorrect type in assignment (different address spaces)\n"
-            ++ codes "t.c:3:18:    expected int *\n"
-            ++ codes "t.c:3:18:    got int noderef address_space(__user) *\n";
-        ending = Warned;
-      }
+      ≡ warns
+      (codes "t.c:3:18: warning: incorrect type in assignment (different address spaces)\n"
+      ++ codes "t.c:3:18:    expected int *\n"
+      ++ codes "t.c:3:18:    got int noderef address_space(__user) *\n")
+  -- a warning stands where the name of the macro stands
+  pub lost_in_a_macro :
+      checked (user_macro ++ codes "#define SET(a, b) a = b\nextern int *p;\nextern int __user *u;\nvoid f(void) { SET(p, u); }\n")
+      ≡ warns
+      (codes "t.c:5:16: warning: incorrect type in assignment (different address spaces)\n"
+      ++ codes "t.c:5:16:    expected int *\n"
+      ++ codes "t.c:5:16:    got int noderef address_space(__user) *\n")
+  -- with the path of its own file
+  pub lost_in_a_header :
+      checked_with (codes "extern int __attribute__((noderef)) *u;\nvoid f(void) { p = u; }\n") (codes "extern int *p;\n#include \"k.h\"\n")
+      ≡ warns
+      (codes "k.h:2:18: warning: incorrect type in assignment (different address spaces)\n"
+      ++ codes "k.h:2:18:    expected int *\n"
+      ++ codes "k.h:2:18:    got int noderef *\n")
+  pub undefined_off : checked (codes "#if FOO\n#endif") ≡ silence
+  pub undefined_on : checked_undefined (codes "#if FOO\n#endif") ≡ warns (codes "t.c:1:5: warning: undefined preprocessor identifier 'FOO'\n")
+  -- they come first, each at its own token or at the outermost macro name
+  pub undefined_first :
+      checked_undefined (codes "extern int __attribute__((noderef)) x;\nextern int y;\nvoid f(void) { x = y; }\n#define m a + b\n#if m\n#endif")
+      ≡ warns
+      (codes "t.c:5:5: warning: undefined preprocessor identifier 'a'\n"
+      ++ codes "t.c:5:5: warning: undefined preprocessor identifier 'b'\n"
+      ++ codes "t.c:3:16: warning: dereference of noderef expression\n")
+  pub classes_off : checked_unit (Bitwise ∷ Context ∷ NonPointerNull ∷ []) (unit_among unit_limits plain_options [] (codes "extern int __attribute__((noderef)) x;\nextern int y;\nvoid f(void) { x = y; }\n")) ≡ silence
 
--- what single words ask for, and where the word at fault stands
+-- what `-E` writes
+pub record ExpandExamples : Type 0 where
+  pub empty : expanded [] ≡ silence
+  pub one_line : expanded (codes "a  b/**/c") ≡ out_of (codes "a b c\n")
+  pub lines : expanded (codes "a\n\n\n b") ≡ out_of (codes "a\nb\n")
+  pub call : expanded (codes "#define f(a) a\nx f(1\n) y\n z") ≡ out_of (codes "x 1\ny\nz\n")
+  -- a token that is made stands on the line of the name
+  pub joined : expanded (codes "__LINE__\n__LINE__ \\\n__LINE__") ≡ out_of (codes "1\n2\n3\n")
+  pub refused : expanded (codes "x\n#foo") ≡ line Refused (codes "t.c:2:1: error[9]: unknown directive")
+  -- neither the form nor an undefined identifier is told
+  pub any_tokens : expanded (codes "#if FOO\n#else\nint 1.5 @\n#endif") ≡ out_of (codes "int 1.5 @\n")
+
+-- where nothing is set
+abbrev pub plain_request : Options
+plain_request = record { preprocessing = plain_options; classes = default_classes }
+
+-- with these directories and this text of `<command>`
+abbrev pub set_to : List (List ℕ) → List ℕ → Options
+set_to directories command = record { preprocessing = record { directories = directories; command = command }; classes = default_classes }
+
+-- with these classes
+abbrev pub with_classes : List Class → Options
+with_classes classes = record { preprocessing = plain_options; classes = classes }
+
+-- a word alone
+abbrev pub alone : List ℕ → Request
+alone word = request_of (word ∷ [])
+
+-- a word before `t.c`
+abbrev pub before_file : List ℕ → Request
+before_file word = request_of (word ∷ main_path ∷ [])
+
+-- what words ask for, and where the word at fault stands
 pub record RequestExamples : Type 0 where
-  pub file : request_of (codes "t.c" ∷ []) ≡ Check (codes "t.c")
+  pub file : alone main_path ≡ Check plain_request main_path
   -- the empty word is a path like any other, and a hyphen alone is an option
-  pub empty_word : request_of ([] ∷ []) ≡ Check []
-  pub hyphen_alone : request_of (codes "-" ∷ []) ≡ BadWord 0 (codes "-")
-  pub hyphen_inside : request_of (codes "a-b" ∷ []) ≡ Check (codes "a-b")
+  pub empty_word : alone [] ≡ Check plain_request []
+  pub hyphen_alone : alone (codes "-") ≡ BadWord 0 (codes "-")
+  pub hyphen_inside : alone (codes "a-b") ≡ Check plain_request (codes "a-b")
   pub commands :
-      map (λ word. request_of (word ∷ [])) (codes "eval" ∷ codes "gen" ∷ codes "link" ∷ codes "index" ∷ codes "annotate" ∷ [])
+      map alone (codes "eval" ∷ codes "gen" ∷ codes "link" ∷ codes "index" ∷ codes "annotate" ∷ [])
       ≡ BadWord 0 (codes "eval") ∷ BadWord 0 (codes "gen") ∷ BadWord 0 (codes "link") ∷ BadWord 0 (codes "index") ∷ BadWord 0 (codes "annotate") ∷ []
-  pub longer_than_a_command : request_of (codes "eval.c" ∷ []) ≡ Check (codes "eval.c")
-  pub second_word : request_of (codes "t.c" ∷ codes "-E" ∷ codes "-x" ∷ []) ≡ BadWord 1 (codes "-E")
-  pub first_word : request_of (codes "-E" ∷ codes "t.c" ∷ []) ≡ BadWord 0 (codes "-E")
-
--- a number that is just reached is allowed, and one more is not
-pub record LimitExamples : Type 0 where
-  pub full_file : (path text : List ℕ) → length text ≡ 8388608 → file_reply path (Some text) ≡ text_reply path text
-  pub larger_file : (path text : List ℕ) → length text ≡ 8388609 → file_reply path (Some text) ≡ line Limit (codes "ksparse: limit: file size")
-  pub full_unit :
-      (path : List ℕ) (tokens : List Tok) (failures : List Failure) → length tokens ≡ 2000000
-      → bounded_reply path tokens failures ≡ warned path tokens failures
-  pub larger_unit :
-      (path : List ℕ) (tokens : List Tok) (failures : List Failure) → length tokens ≡ 2000001
-      → bounded_reply path tokens failures ≡ line Limit (codes "ksparse: limit: unit tokens")
+  pub longer_than_a_command : alone (codes "eval.c") ≡ Check plain_request (codes "eval.c")
+  -- behind another word they are paths
+  pub later_command : request_of (codes "-E" ∷ codes "eval" ∷ []) ≡ Expand plain_request (codes "eval")
+  pub any_order : request_of (main_path ∷ codes "-E" ∷ codes "-E" ∷ []) ≡ Expand plain_request main_path
+  pub first_bad_word : request_of (main_path ∷ codes "-E" ∷ codes "-x" ∷ codes "-y" ∷ []) ≡ BadWord 2 (codes "-x")
+  pub second_operand : request_of (main_path ∷ codes "u.c" ∷ codes "-q" ∷ []) ≡ BadWord 1 (codes "u.c")
+  pub no_operand : map request_of ([] ∷ (codes "-DX" ∷ codes "-UY" ∷ []) ∷ (codes "-E" ∷ []) ∷ []) ≡ MissingFile ∷ MissingFile ∷ MissingFile ∷ []
+  pub directories : request_of (codes "-Ia" ∷ main_path ∷ codes "-I/b" ∷ []) ≡ Check (set_to (codes "a" ∷ codes "/b" ∷ []) []) main_path
+  pub definitions :
+      request_of (codes "-DX" ∷ codes "-UY" ∷ codes "-DZ=a=b" ∷ codes "-D_1=" ∷ main_path ∷ [])
+      ≡ Check (set_to [] (codes "#define X 1\n#undef Y\n#define Z a=b\n#define _1 \n")) main_path
+  pub universal_name : before_file (codes "-U\\u00e9") ≡ Check (set_to [] (codes "#undef \\u00e9\n")) main_path
+  pub bad_options :
+      map before_file
+      (codes "-D1" ∷ codes "-D" ∷ codes "-D=1" ∷ codes "-Df(x)=x" ∷ codes "-DX=a\nb" ∷ codes "-U" ∷ codes "-UX=1" ∷ codes "-I" ∷ codes "--" ∷ codes "-EE" ∷ [])
+      ≡ map (BadWord 0)
+      (codes "-D1" ∷ codes "-D" ∷ codes "-D=1" ∷ codes "-Df(x)=x" ∷ codes "-DX=a\nb" ∷ codes "-U" ∷ codes "-UX=1" ∷ codes "-I" ∷ codes "--" ∷ codes "-EE" ∷ [])
+  pub bad_classes :
+      map before_file (codes "-Wfoo" ∷ codes "-Wall" ∷ codes "-Wno-" ∷ codes "-W" ∷ codes "-include" ∷ [])
+      ≡ map (BadWord 0) (codes "-Wfoo" ∷ codes "-Wall" ∷ codes "-Wno-" ∷ codes "-W" ∷ codes "-include" ∷ [])
+  pub class_on : before_file (codes "-Wundef") ≡ Check (with_classes (AddressSpace ∷ Bitwise ∷ Context ∷ NonPointerNull ∷ Undef ∷ [])) main_path
+  pub class_off : before_file (codes "-Wno-non-pointer-null") ≡ Check (with_classes (AddressSpace ∷ Bitwise ∷ Context ∷ [])) main_path
+  -- the later word wins
+  pub later_class :
+      map (λ words. request_of (main_path ∷ words)) ((codes "-Wundef" ∷ codes "-Wno-undef" ∷ []) ∷ (codes "-Wno-bitwise" ∷ codes "-Wbitwise" ∷ []) ∷ [])
+      ≡ Check plain_request main_path ∷ Check plain_request main_path ∷ []

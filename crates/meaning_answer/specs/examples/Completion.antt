@@ -20,7 +20,7 @@ abbrev pub two_paths : Command
 two_paths = codes "t.c" ∷ codes "u.c" ∷ []
 
 abbrev pub three_words : Command
-three_words = codes "t.c" ∷ codes "-E" ∷ codes "-x" ∷ []
+three_words = codes "t.c" ∷ codes "-a" ∷ codes "-x" ∷ []
 
 -- the one file that the words name was loaded, and isn't there
 abbrev pub no_file : List Loaded
@@ -36,7 +36,7 @@ pub record CompletionExamples : Type 0 where
   pub two_words : CompletesAtOnce two_paths Usage (taken (codes "ksparse: bad word: u.c\n"))
   pub two_words_in_silence : CompletesAtOnce two_paths Clean (taken []) → ⊥
   pub two_words_without_memory : CompletesAtOnce two_paths NoMemory (taken [])
-  pub three_words_tell_the_first_bad_one : CompletesAtOnce three_words Usage (taken (codes "ksparse: bad word: -E\n"))
+  pub three_words_tell_the_first_bad_one : CompletesAtOnce three_words Usage (taken (codes "ksparse: bad word: -a\n"))
   pub three_words_tell_another : CompletesAtOnce three_words Usage (taken (codes "ksparse: bad word: -x\n")) → ⊥
   -- where a count rose nothing is asked
   pub behind_a_fault : (words : Command) (loads : List Loaded) (ending : Ending) (sinks : Sinks) → Completes words loads (Unit {0}) ending sinks

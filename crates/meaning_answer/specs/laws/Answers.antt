@@ -1,56 +1,46 @@
--- What holds of the answer to each command.
-use Rattle.std.specs.Prelude.{◌≡◌, ◌≢◌, ℕ, List, [], ◌++◌, ◌⊎◌}
+-- What the sinks of a command have taken.
+use Rattle.std.specs.Prelude.{◌≡◌, ℕ, List, [], ◌++◌}
 use Rattle.meaning_outside.specs.Files.{FileMap}
 use Rattle.meaning_outside.specs.Loads.{Loaded, AgreesWith}
-use Rattle.meaning_answer.specs.Reply.{Ending, Clean, Warned, Refused, Usage, ReadFault, WriteFault, NoMemory, Limit, Reply, IsLine, IsShaped}
-use Rattle.meaning_answer.specs.Refusal.{UnknownWord, MissingOperand, refusal_reply}
-use Rattle.meaning_answer.specs.Command.{Request, BadWord, MissingFile, Check, request_of}
-use Rattle.meaning_answer.specs.Answer.{IsAnswer}
-use Rattle.meaning_answer.specs.plain.Answering.{reply_to}
+use Rattle.meaning_answer.specs.Reply.{Ending, Clean, Warned, Refused, Usage, ReadFault, WriteFault, NoMemory, Limit}
+use Rattle.meaning_answer.specs.Requests.{Request, BadWord, MissingFile, Check, Expand, request_of}
+use Rattle.meaning_answer.specs.Shapes.{HasShapeFor}
+use Rattle.meaning_answer.specs.Answers.{IsAnswer}
 use Rattle.meaning_answer.specs.Delivery.{Sinks, Outcome, IsOutcome, GrewAlike}
 
--- there is an answer, the one that the plain program computes
-abbrev pub AnswersExist : Type 0
-AnswersExist = (words : List (List ℕ)) (files : FileMap) → IsAnswer words files (reply_to words files)
+-- What the sinks have taken, by what was asked and by the ending alone
 
--- and no other
-abbrev pub AnswersAreUnique : Type 0
-AnswersAreUnique = (words : List (List ℕ)) (files : FileMap) (reply : Reply) → IsAnswer words files reply → reply ≡ reply_to words files
-
--- each answer has the shape of its ending
-abbrev pub AnswersAreShaped : Type 0
-AnswersAreShaped = (words : List (List ℕ)) (files : FileMap) (reply : Reply) → IsAnswer words files reply → IsShaped reply
-
--- a reply is a usage line exactly where the words are at fault, and then that of their fault
-abbrev pub TellsUsage : Request → Reply → Type 0
-TellsUsage (BadWord position word) reply = reply ≡ refusal_reply word UnknownWord
-TellsUsage MissingFile reply = reply ≡ refusal_reply [] MissingOperand
-TellsUsage (Check path) reply = reply.ending ≢ Usage
+-- nothing where memory is wanting and where a file can't be read; else what the ending says, and where a write
+-- fails a front of what some ending says
+abbrev pub HasWritten : Request → Ending → (out err : List ℕ) → Type 0
+HasWritten request NoMemory out err = (out ≡ []) × (err ≡ [])
+HasWritten request ReadFault out err = (out ≡ []) × (err ≡ [])
+HasWritten request WriteFault out err =
+    (ending : Ending) × (rest_out : List ℕ) × (rest_err : List ℕ) × HasShapeFor request ending (out ++ rest_out) (err ++ rest_err)
+HasWritten request Clean out err = HasShapeFor request Clean out err
+HasWritten request Warned out err = HasShapeFor request Warned out err
+HasWritten request Refused out err = HasShapeFor request Refused out err
+HasWritten request Usage out err = HasShapeFor request Usage out err
+HasWritten request Limit out err = HasShapeFor request Limit out err
 
 -- whatever the files hold
-abbrev pub AnswersTellUsage : Type 0
-AnswersTellUsage = (words : List (List ℕ)) (files : FileMap) (reply : Reply) → IsAnswer words files reply → TellsUsage (request_of words) reply
-
--- What the sinks have taken, by the ending alone
-
--- silence where no rule fails, where memory is wanting and where a file can't be read; a text that ends a line
--- where a rule fails and behind each refusal
-abbrev pub HasWritten : Ending → (written : List ℕ) → Type 0
-HasWritten Clean written = written ≡ []
-HasWritten NoMemory written = written ≡ []
-HasWritten ReadFault written = written ≡ []
-HasWritten Warned written = IsLine written
-HasWritten Refused written = IsLine written
-HasWritten Usage written = IsLine written
-HasWritten Limit written = IsLine written
--- a front of such a text
-HasWritten WriteFault written = (rest : List ℕ) × ((written ++ rest ≡ []) ⊎ IsLine (written ++ rest))
-
--- nothing goes to `out`, and to `err` goes what the ending says
 abbrev pub EndingsTellWhatIsWritten : Type 0
 EndingsTellWhatIsWritten =
     (words : List (List ℕ)) (files : FileMap) (ending : Ending) (sinks : Sinks) → Outcome (IsAnswer words files) ending sinks
-    → (sinks.new_out ≡ sinks.old_out) × (written : List ℕ) × (sinks.new_err ≡ sinks.old_err ++ written) × HasWritten ending written
+    → (out : List ℕ) × (err : List ℕ) × (sinks.new_out ≡ sinks.old_out ++ out) × (sinks.new_err ≡ sinks.old_err ++ err)
+    × HasWritten (request_of words) ending out err
+
+-- nothing goes to `out` but tokens that were asked for
+abbrev pub KeepsOut : Request → Sinks → Type 0
+KeepsOut (BadWord position word) sinks = sinks.new_out ≡ sinks.old_out
+KeepsOut MissingFile sinks = sinks.new_out ≡ sinks.old_out
+KeepsOut (Check options path) sinks = sinks.new_out ≡ sinks.old_out
+KeepsOut (Expand options path) sinks = Unit {0}
+
+abbrev pub TokensAloneGoOut : Type 0
+TokensAloneGoOut =
+    (words : List (List ℕ)) (files : FileMap) (ending : Ending) (sinks : Sinks) → Outcome (IsAnswer words files) ending sinks
+    → KeepsOut (request_of words) sinks
 
 -- What files and sinks tell of themselves
 

@@ -1,14 +1,29 @@
-use Rattle.std.proofs.Common.{◌∙◌, sym, arith}
-use Rattle.std.proofs.lemmas.Result.{IfOk-weaker}
-use Rattle.ksparse.specs.Words.{options_seen}
-use Rattle.ksparse.proofs.Classes.{each_once}
-use Rattle.ksparse.proofs.SecondWord.{second_word}
+use Rattle.std.proofs.Common.{ℕ, ◌+◌, List, drop, sym, ◌∙◌, ap}
+use Rattle.meaning_answer.specs.Options.{Word, word_of}
+use Rattle.meaning_answer.specs.Requests.{is_bad}
+use Rattle.ksparse.specs.Reading.{Reading, has_file, reading_seen, request_behind, taken}
+use Rattle.ksparse.proofs.ReadingLemmas.{command_first, words_begin, words_go_on, word_at_fault}
 use Rattle.ksparse.proofs.command.read_words.Goals as goal
 
-pub returns-then-len-gt1-clause-fault : goal.returns-then-len-gt1-clause-fault
-returns-then-len-gt1-clause-fault c =
-    second_word _ _ c.in-Some.ensures.word (sym c.is_bad_first.ensures ∙ c.if-is_bad_first.false) (omega arith)
+pub returns-then-begins_with_command-clause-fault : goal.returns-then-begins_with_command-clause-fault
+returns-then-begins_with_command-clause-fault c = command_first c.args.words.now (sym c.begins_with_command.ensures ∙ c.if-begins_with_command.true)
 
-pub returns-clause-once : goal.returns-clause-once
-returns-clause-once c =
-    IfOk-weaker c.check_command.result _ _ (λ command default. each_once (options_seen command) default) c.check_command.ensures.options
+pub words-init : goal.words-init
+words-init c =
+    ap (λ (r : Reading). request_behind 0 r c.args.words.now) c.new-reading.ensures
+    ∙ words_begin c.args.words.now (sym c.begins_with_command.ensures ∙ c.if-begins_with_command.false)
+
+pub returns-then-refuses-clause-fault : goal.returns-then-refuses-clause-fault
+returns-then-refuses-clause-fault c =
+    let reading = reading_seen c.words.reading in
+    word_at_fault c.args.words.now c.words.position reading c.words.invariant c.in-Some.text.now c.in-Some.ensures.word
+    (ap (is_bad (has_file reading)) (sym c.read_word-word.ensures) ∙ sym c.refuses.ensures ∙ c.if-refuses.true)
+
+pub words-preserved : goal.words-preserved
+words-preserved c =
+    let reading = reading_seen c.words.reading in
+    let text = c.in-Some.text.now in
+    let behind = c.in_ok-take.ensures ∙ ap (λ (w : Word). taken w text reading) c.read_word-word.ensures in
+    ap (λ (r : Reading). request_behind (c.words.position + 1) r (drop (c.words.position + 1) c.args.words.now)) behind
+    ∙ words_go_on c.args.words.now c.words.position reading c.words.invariant text c.in-Some.ensures.word
+    (ap (is_bad (has_file reading)) (sym c.read_word-word.ensures) ∙ sym c.refuses.ensures ∙ c.if-refuses.false)

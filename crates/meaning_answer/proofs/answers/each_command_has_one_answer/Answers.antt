@@ -1,6 +1,5 @@
-use Rattle.meaning_answer.proofs.Texts.{answers_exist, answers_are_unique}
-use Rattle.meaning_answer.proofs.Shapes.{answers_are_shaped}
-use Rattle.meaning_answer.proofs.Usage.{answers_tell_usage}
+use Rattle.meaning_answer.proofs.Replies.{answers_exist, answers_are_unique}
+use Rattle.meaning_answer.proofs.ShapesOfReplies.{answers_are_shaped, answers_tell_faults}
 use Rattle.meaning_answer.proofs.answers.each_command_has_one_answer.Goals as goal
 
 pub returns-clause-exist : goal.returns-clause-exist
@@ -12,5 +11,5 @@ returns-clause-unique c = answers_are_unique
 pub returns-clause-shaped : goal.returns-clause-shaped
 returns-clause-shaped c = answers_are_shaped
 
-pub returns-clause-usage : goal.returns-clause-usage
-returns-clause-usage c = answers_tell_usage
+pub returns-clause-faults : goal.returns-clause-faults
+returns-clause-faults c = answers_tell_faults

@@ -1,37 +1,65 @@
 -- The examples compute, once the digits of numbers and the tests of words unfold.
-use Rattle.std.proofs.Common.{refl}
+use Rattle.std.proofs.Common.{ℕ, refl}
 use Rattle.std.specs.Fmt.{digits}
 use Rattle.meaning_text.specs.Punctuators.{punctuator_of, punctuators, plain_punctuators, digraphs}
+use Rattle.meaning_text.specs.Kinds.{kind_in}
 use Rattle.meaning_text.specs.Fronts.{front_of}
+use Rattle.meaning_macros.specs.Expansion.{within, expansion}
+use Rattle.meaning_preprocessing.specs.Unit.{reader}
 use Rattle.meaning_syntax.specs.Words.{is_name, is_keyword, is_reserved, is_space_id, is_space_name, is_space_number, is_predefined_macro}
 use Rattle.meaning_syntax.specs.plain.Reading.{read_up_to, read_many, read_noderef, read_space, read_word, read_further_word, read_word_list, read_attribute, read_stars, read_object, read_assignment, read_assignment_through, read_address_assignment, read_statement, read_opening, read_function, read_item, read_items, read_unit}
 use Rattle.meaning_answer.proofs.answers.worked_examples.Goals as goal
 
+-- names what an example opens
+opened : ℕ
+unfolding digits front_of punctuator_of punctuators plain_punctuators digraphs kind_in within expansion reader is_name is_keyword is_reserved is_space_id is_space_name is_space_number is_predefined_macro read_up_to read_many read_noderef read_space read_word read_further_word read_word_list read_attribute read_stars read_object read_assignment read_assignment_through read_address_assignment read_statement read_opening read_function read_item read_items read_unit
+opened = 0
+
 pub returns-clause-answers : goal.returns-clause-answers
-unfolding digits front_of punctuator_of punctuators plain_punctuators digraphs is_name is_keyword is_reserved is_space_id is_space_name is_space_number is_predefined_macro read_up_to read_many read_noderef read_space read_word read_further_word read_word_list read_attribute read_stars read_object read_assignment read_assignment_through read_address_assignment read_statement read_opening read_function read_item read_items read_unit
-returns-clause-answers c =
-    record {
-      statuses = refl;
-      most_is_8_MiB = refl;
-      most_is_two_million = refl;
-      empty = refl;
-      directive = refl;
-      open_comment = refl;
-      open_literal = refl;
-      prefixed = refl;
-      opening_first = refl;
-      comments = refl;
-      declared_twice = refl;
-      missing = refl;
-      no_word = λ files. refl;
-      option = λ files. refl;
-      command = λ files. refl;
-      generator = λ files. refl;
-      second_file = λ files. refl;
-      space_lost = refl;
-    }
+unfolding opened
+returns-clause-answers c = record {
+  statuses = refl;
+  empty = refl;
+  definition = refl;
+  number = refl;
+  open_comment = refl;
+  open_literal = refl;
+  prefixed = refl;
+  opening_first = refl;
+  directive_first = refl;
+  comments = refl;
+  declared_twice = refl;
+  missing = refl;
+  no_header = refl;
+  header_error = refl;
+  no_word = λ files. refl;
+  option = λ files. refl;
+  command = λ files. refl;
+  generator = λ files. refl;
+  second_file = λ files. refl;
+  space_lost = refl;
+  lost_in_a_macro = refl;
+  lost_in_a_header = refl;
+  undefined_off = refl;
+  undefined_on = refl;
+  undefined_first = refl;
+  classes_off = refl;
+}
+
+pub returns-clause-expanded : goal.returns-clause-expanded
+unfolding opened
+returns-clause-expanded c = record {
+  empty = refl;
+  one_line = refl;
+  lines = refl;
+  call = refl;
+  joined = refl;
+  refused = refl;
+  any_tokens = refl;
+}
 
 pub returns-clause-requests : goal.returns-clause-requests
+unfolding opened
 returns-clause-requests c = record {
   file = refl;
   empty_word = refl;
@@ -39,14 +67,17 @@ returns-clause-requests c = record {
   hyphen_inside = refl;
   commands = refl;
   longer_than_a_command = refl;
-  second_word = refl;
-  first_word = refl;
-}
-
-pub returns-clause-limits : goal.returns-clause-limits
-returns-clause-limits c = record {
-  full_file = λ path text full. rw full refl;
-  larger_file = λ path text larger. rw larger refl;
-  full_unit = λ path tokens failures full. rw full refl;
-  larger_unit = λ path tokens failures larger. rw larger refl;
+  later_command = refl;
+  any_order = refl;
+  first_bad_word = refl;
+  second_operand = refl;
+  no_operand = refl;
+  directories = refl;
+  definitions = refl;
+  universal_name = refl;
+  bad_options = refl;
+  bad_classes = refl;
+  class_on = refl;
+  class_off = refl;
+  later_class = refl;
 }

@@ -1,5 +1,5 @@
 -- What was read and judged of tokens.
-use Rattle.std.proofs.Common.{◌≡◌, ℕ, List, true, false, Option, Some, None, Result, Ok, Err, IfOk, IfSome, IfNone, length, sym, ◌∙◌, ap, subst, refl, inl, inr, arith}
+use Rattle.std.proofs.Common.{◌≡◌, ℕ, List, [], true, false, Option, Some, None, Result, Ok, Err, IfOk, IfSome, IfNone, length, sym, ◌∙◌, ap, subst, refl, inl, inr, arith}
 use Rattle.c_tokens.specs.declared.token.Token.{Token}
 use Rattle.c_tokens.specs.Seen.{toks_of}
 use Rattle.meaning_text.specs.Tokens.{Tok}

@@ -2,6 +2,7 @@ pub mod Classes
 pub mod CleanIsSafe
 pub mod Counts
 pub mod Endings
+pub mod FailureLemmas
 pub mod FrontLemmas
 pub mod IdentifierLemmas
 pub mod Judging

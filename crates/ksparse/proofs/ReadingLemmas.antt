@@ -1,12 +1,15 @@
 -- The words of a command one by one: what is asked for stays the same from word to word.
-use Rattle.std.proofs.Common.{◌≡◌, ℕ, ◌+◌, Bool, true, false, ◌||◌, List, [], ◌∷◌, ◌++◌, Option, Some, None, drop, sym, ◌∙◌, ap, subst, refl, append_assoc, append-nil, if◌then◌else◌}
+use Rattle.std.proofs.Common.{◌≡◌, ℕ, zero, suc, ◌+◌, Bool, true, false, ◌||◌, List, [], ◌∷◌, ◌++◌, Option, Some, None, Result, IfOk, drop, sym, ◌∙◌, ap, subst, refl, append_assoc, append-nil, if◌then◌else◌}
 use Rattle.std.specs.Prelude.{is_some, slice_get}
 use Rattle.std.proofs.lemmas.List.{drop_more}
+use Rattle.std.proofs.lemmas.Result.{IfOk-weaker}
 use Rattle.std.proofs.lemmas.Option.{slice_get_within, get_or_from_slice_get}
 use Rattle.meaning_answer.specs.Options.{Switch, Word, AsksForTokens, AddsDirectory, AddsLine, Switches, IsOperand, IsStrange, word_of}
-use Rattle.meaning_answer.specs.Requests.{BadWord, MissingFile, Request, Fault, request_of, request_without, is_bad, is_operand, is_expand, first_fault, asks_for_tokens, directories_of, directory_in, command_of, line_in, switches_of, switch_in, operand_in}
+use Rattle.vocabulary.specs.declared.class.Class.{Class}
+use Rattle.meaning_answer.specs.Requests.{classes_on, request_with, BadWord, MissingFile, Request, Fault, request_of, request_without, is_bad, is_operand, is_expand, first_fault, asks_for_tokens, directories_of, directory_in, command_of, line_in, switches_of, switch_in, operand_in}
 use Rattle.ksparse.specs.Reading.{Reading, empty_reading, has_file, taken, requested, reading_behind, request_by, request_behind, begins_with_command, first_file, IsMissing}
-use Rattle.ksparse.specs.Words.{IsFaultOf}
+use Rattle.ksparse.specs.Words.{IsFaultOf, request_seen}
+use Rattle.ksparse.specs.declared.command.Command.{Command}
 use Rattle.ksparse.specs.declared.command.WordFault.{WordFault}
 use Rattle.ksparse.specs.declared.command.WordFault.TheVariants as faults
 
@@ -97,6 +100,15 @@ module _ (position : ℕ) (reading : Reading) (text : List ℕ) (words : List (L
       ap (λ (b : Bool). request_by (if b then Some (record { position = position; word = text }) else first_fault (position + 1) (has_file reading || is_operand (word_of text)) words)
       (reading_behind reading (text ∷ words))) bad
 
+-- what a reading asks for, by its parts
+pub asked_by :
+    (reading : Reading) (for_tokens : Bool) (directories : List (List ℕ)) (command : List ℕ) (classes : List Class) (path : List ℕ)
+    → reading.for_tokens ≡ for_tokens → directories ≡ reading.directories → command ≡ reading.command → classes ≡ classes_on reading.switches
+    → reading.file ≡ Some path
+    → request_with for_tokens (record { preprocessing = record { directories = directories; command = command }; classes = classes }) (Some path)
+    ≡ requested reading
+asked_by reading for_tokens directories command classes path asks looked told on there = rw (← asks, looked, told, on, there) refl
+
 -- a word of the list stands before those that are left
 pub word_left : (words : List (List ℕ)) (position : ℕ) (text : List ℕ) → Some text ≡ slice_get words position → drop position words ≡ text ∷ drop (position + 1) words
 word_left words position text is =
@@ -119,6 +131,13 @@ pub command_first : (words : List (List ℕ)) → begins_with_command words ≡ 
 command_first [] is = cc
 command_first (word ∷ words) is = (word, rw is refl, refl)
 
+-- where there is no word at a position, none is left from there on
+pub none_left : (words : List (List ℕ)) (position : ℕ) → None ≡ slice_get words position → drop position words ≡ []
+none_left [] zero none = refl
+none_left [] (suc position) none = refl
+none_left (word ∷ words) zero none = cc
+none_left (word ∷ words) (suc position) none = none_left words position none
+
 module _ (words : List (List ℕ)) (position : ℕ) (reading : Reading) (asked : request_behind position reading (drop position words) ≡ request_of words) where
   module _ (text : List ℕ) (there : Some text ≡ slice_get words position) where
     pub words_go_on : is_bad (has_file reading) (word_of text) ≡ false → request_behind (position + 1) (taken (word_of text) text reading) (drop (position + 1) words) ≡ request_of words
@@ -133,6 +152,13 @@ module _ (words : List (List ℕ)) (position : ℕ) (reading : Reading) (asked :
   pub words_end : drop position words ≡ [] → requested reading ≡ request_of words
   words_end none =
       sym (ap (request_behind position reading) none ∙ ap requested (nothing_behind [] [] reading.directories reading.command reading.switches reading.for_tokens reading.file)) ∙ asked
+
+  pub command_right :
+      (result : Result Command WordFault) → drop position words ≡ [] → IfOk result (λ command. request_seen command ≡ requested reading)
+      → IfOk result (λ command. request_seen command ≡ request_of words)
+  command_right result none right =
+      IfOk-weaker result (λ command. request_seen command ≡ requested reading) (λ command. request_seen command ≡ request_of words)
+      (λ command is. is ∙ words_end none) right
 
   pub missing_file : (fault : WordFault) → drop position words ≡ [] → IsMissing reading fault → IsFaultOf words fault
   missing_file (faults.BadWord other) none missing = absurd missing

@@ -24,7 +24,7 @@ tells_nothing None taken = tt
 tells_nothing (Some bytes) taken = ([], sym (append-nil bytes), sym (append-nil taken))
 
 -- one growth behind the other
-grows_on : (old mid new text more : List ℕ) → mid ≡ old ++ text → new ≡ mid ++ more → new ≡ old ++ (text ++ more)
+pub grows_on : (old mid new text more : List ℕ) → mid ≡ old ++ text → new ≡ mid ++ more → new ≡ old ++ (text ++ more)
 grows_on old mid new text more first second = second ∙ ap (λ (bytes : List ℕ). bytes ++ more) first ∙ append_assoc old text more
 
 -- a sink that tells what it took goes on telling it behind a put

@@ -62,6 +62,7 @@ pub fn read_words(alloc: Global, words: &Words) -> Result<Command, WordFault>
             return Err(WordFault::BadWord(position));
         }
         reading.take(alloc, text, &word)?;
+        prove!(position < words.len());
         position += 1;
     }
     reading.into_command(alloc)

@@ -8,7 +8,7 @@ abbrev pub invariant-failures : goal.invariant-failures
 invariant-failures l =
     record {
       on : failures_of l.names l.on.items ++ failures_on l.classes (failures_of l.names l.left) ≡ failures_on l.classes (failures_of l.names l.failures);
-      known : (count : ℕ) → AreKnownFailures l.names count l.failures → AreKnownFailures l.names count (l.on.items ++ l.left);
+      known : (count : ℕ) → AreKnownFailures l.names count l.failures → AreKnownFailures l.names count l.on.items × AreKnownFailures l.names count l.left;
     }
 
 abbrev pub decreases-failures : goal.decreases-failures

@@ -7,7 +7,7 @@ use Rattle.ksparse.proofs.expand.write_behind.Given as goal
 abbrev pub invariant-tokens : goal.invariant-tokens
 invariant-tokens l =
     record {
-      text : l.text.items ++ tokens_behind (at_of l.before) (toks_of l.names l.left) ≡ l.fn.text.items ++ tokens_behind (at_of l.place) (toks_of l.names l.tokens);
+      text : l.text.items ++ tokens_behind (at_of l.before) (toks_of l.names l.left) ≡ l.fn.text.items ++ tokens_behind (at_of l.fn.place) (toks_of l.names l.tokens);
       known : AreKnown l.names l.left;
     }
 

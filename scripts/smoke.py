@@ -405,7 +405,7 @@ def failures_of_permission(program):
     failures = 0
     user = OTHER_USER if os.geteuid() == 0 else None
     denials = [("clean.c", ["clean.c"]), ("folder", ["folder/t.c"]), ("folder", ["folder/missing.c"])]
-    if preprocesses(program):
+    if reads_headers(program):
         denials += [("include/k.h", ["-Iinclude", "k.c"]), ("include", ["-E", "-Iinclude", "k.c"])]
     for denied, words in denials:
         mode = os.stat(denied).st_mode

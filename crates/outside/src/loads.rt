@@ -44,8 +44,10 @@ fn show_small<R: System + AllocGlobal + Print>(rt: &R) -> io::Result<()> {
         show_load(rt, &mut files, case, path)?;
     }
     show_load(rt, &mut files, "a name too long", &LONG_NAME)?;
-    // The bytes of a pipe can be read once.
-    show_load(rt, &mut files, "a pipe", b"/dev/stdin")
+    // The system gives these no size.
+    show_load(rt, &mut files, "the program's name", b"/proc/self/comm")?;
+    show_load(rt, &mut files, "a device with no bytes", b"/dev/null")?;
+    show_load(rt, &mut files, "a device with no end", b"/dev/zero")
 }
 
 // Loads a small file, and writes how that ended, with the text in the buffer.

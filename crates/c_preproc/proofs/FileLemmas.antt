@@ -1,34 +1,41 @@
 -- What the parts of a file, read one by one, come to.
-use Rattle.std.proofs.Common.{◌≡◌, ◌<◌, ◌≤◌, ◌+◌, ℕ, List, [], ◌∷◌, ◌++◌, length, take, drop, map, All, Option, Some, None, IfSome, option_map, Result, Ok, Err, refl, sym, ap, subst, ◌∙◌, append_assoc, arith, length-append}
-use Rattle.std.specs.Global.{Global, Vec}
+use Rattle.std.proofs.Common.{◌≡◌, ◌<◌, ℕ, List, [], ◌∷◌, ◌++◌, length, take, drop, Option, Some, None, IfSome, option_map, IfOk, Result, Ok, Err, sym, ap, subst, ◌∙◌, append_assoc, arith, length-append}
 use Rattle.std.proofs.Math.Seq.{drop-append_seam, take-append_seam}
-use Rattle.std.proofs.lemmas.List.{append-nil, length-map}
+use Rattle.std.proofs.lemmas.List.{length-map}
 use Rattle.std.proofs.lemmas.List.Elements.{All-drop, All-head, All-same, All-tail, All-take}
-use Rattle.std.proofs.lemmas.Option.{same_Some, none-some}
+use Rattle.meaning_text.proofs.Lexing.{tokens_are_unique, faults_are_unique}
+use Rattle.meaning_text.specs.Lexing.{Lexed, Tokens, Refused, lexed_file}
+use Rattle.meaning_text.specs.Logical.{logical_text}
 use Rattle.meaning_text.specs.Tokens.{Tok, AtLineStart, LexesFile, OpensFile}
 use Rattle.meaning_text.specs.Tokens as tokens
-use Rattle.meaning_text.specs.Logical.{logical_text}
-use Rattle.meaning_text.specs.Lexing.{Lexed, Tokens, Refused, lexed_file}
-use Rattle.meaning_text.proofs.Lexing.{tokens_are_unique, faults_are_unique}
 use Rattle.meaning_preprocessing.specs.Directives.{turn_of}
 use Rattle.meaning_preprocessing.specs.Groups as groups
 use Rattle.meaning_preprocessing.specs.Groups.{Evaluation, Turn, Turns, Halts, closed_file}
 use Rattle.meaning_preprocessing.specs.Lines.{file_parts, lines_of}
-use Rattle.meaning_preprocessing.specs.State.{UnitState, Stop, Continues, IsOver, Piece, only_ending, tokens_before, and_then}
-use Rattle.meaning_preprocessing.specs.Unit.{Reader, over_parts, turn_piece, text_piece, text_of_file, lexed_piece, stop_of_fault, unit_limits, capped}
-use Rattle.c_tokens.specs.declared.token.Token.{Token}
-use Rattle.c_tokens.specs.declared.fault.LexFault.{LexFault}
-use Rattle.c_tokens.specs.Seen.{Extends, IsKnown, fault_of, text_of, tok_of, toks_of}
+use Rattle.meaning_preprocessing.specs.State.{UnitState, Stop, IsOver, Piece, only_ending, tokens_before, and_then}
+use Rattle.meaning_preprocessing.specs.Unit.{Reader, over_parts, turn_piece, text_of_file, lexed_piece, stop_of_fault, unit_limits, capped}
 use Rattle.c_tokens.proofs.SeenLemmas.{text_of-Extends, toks_of-Extends}
+use Rattle.c_tokens.specs.Seen.{Extends, IsKnown, fault_of, tok_of, toks_of}
+use Rattle.c_tokens.specs.declared.fault.LexFault.{LexFault}
+use Rattle.c_tokens.specs.declared.token.Token.{Token}
 use Rattle.c_preproc.specs.Conditions.{AreKnown}
+use Rattle.c_preproc.specs.Files.{IsReadEnd, IsReadPart}
 use Rattle.c_preproc.specs.Groups.{groups_seen}
 use Rattle.c_preproc.specs.Lines.{parts_of}
-use Rattle.c_preproc.specs.States.{EndsUnit, GoesOn, Holds, IsDone, put_of, stop_of}
+use Rattle.c_preproc.specs.Opens.{IsTurnDone}
+use Rattle.c_preproc.specs.Requests.{request_seen}
+use Rattle.c_preproc.specs.States.{EndsUnit, GoesOn, Holds, put_of, stop_of}
+use Rattle.c_preproc.specs.declared.file.OpenFile.{OpenFile}
+use Rattle.c_preproc.specs.declared.file.Read.{Read}
+use Rattle.c_preproc.specs.declared.file.Read.TheVariants as read
 use Rattle.c_preproc.specs.declared.groups.Group.{Group}
+use Rattle.c_preproc.specs.declared.include_line.HeaderRequest.{HeaderRequest}
+use Rattle.c_preproc.specs.declared.kept.KeptFile.{KeptFile}
 use Rattle.c_preproc.specs.declared.pre_fault.PreFault.{PreFault}
 use Rattle.c_preproc.specs.declared.state.State.{State}
+use Rattle.c_preproc.specs.declared.tasks.Turned.TheVariants as turned
 use Rattle.c_preproc.proofs.PieceLemmas.{capped-within, stops-behind}
-use Rattle.c_preproc.proofs.StateLemmas.{put-later, put-same}
+use Rattle.c_preproc.proofs.StateLemmas.{put-same}
 
 -- what is known of tokens is known of those in front and of those behind
 pub known-front : (names : List (List ℕ)) (front behind : List Token) → AreKnown names (front ++ behind) → AreKnown names front
@@ -83,7 +90,7 @@ module _ (value : Evaluation) (include : Reader) (names mid later : List (List �
   same-turn = λ i. turn_of value (tok-later names mid first hash known.hash_known i) (toks_of-Extends names mid first rest known.rest_known i) open_groups s
 
   -- it was done
-  pub part-goes : new.tokens ≡ old.tokens → (next_groups : List Group) → IsDone later path new next_groups (Ok tt) (turn_of value (tok_of mid hash) (toks_of mid rest) open_groups s)
+  pub part-goes : new.tokens ≡ old.tokens → (next_groups : List Group) → IsTurnDone later path new open_groups next_groups (Ok turned.Done) (turn_of value (tok_of mid hash) (toks_of mid rest) open_groups s)
       → GoesOn later path new whole (λ u. over_parts value include (parts_of later behind) (groups_seen next_groups) u)
   part-goes same next_groups done = (
     done.0,
@@ -97,8 +104,23 @@ module _ (value : Evaluation) (include : Reader) (names mid later : List (List �
       groups_parts : parts_of later behind ≡ parts_of names behind
       groups_parts = ap (λ ts. file_parts (lines_of ts)) (toks_of-Extends names later all behind known.behind_known)
 
+  -- it asks for a file, which is read first
+  pub part-includes : new.tokens ≡ old.tokens → (next_groups : List Group) (request : HeaderRequest) → IsTurnDone later path new open_groups next_groups (Ok (turned.Include request)) (turn_of value (tok_of mid hash) (toks_of mid rest) open_groups s)
+      → GoesOn later path new whole (λ u. and_then (include (request_seen later request) u) (λ v. over_parts value include (parts_of later behind) (groups_seen next_groups) v))
+  part-includes same next_groups request done = (
+    done.0,
+    done.1,
+    (λ i. tokens_before (put-same mid later more path old new s holds same i)
+        (and_then (include (request_seen later request) done.0) (λ v. over_parts value include (groups_parts i) (done.3 i) v)))
+        ∙ ap (λ turn. tokens_before (put_of mid old) (turn_piece include open_groups (λ others u. over_parts value include (parts_of names behind) others u) turn)) (sym (sym same-turn ∙ done.2))
+        ∙ comes,
+  )
+    where
+      groups_parts : parts_of later behind ≡ parts_of names behind
+      groups_parts = ap (λ ts. file_parts (lines_of ts)) (toks_of-Extends names later all behind known.behind_known)
+
   -- the unit ends at it
-  pub part-ends : (fault : PreFault) (next_groups : List Group) → IsDone later path new next_groups (Err fault) (turn_of value (tok_of mid hash) (toks_of mid rest) open_groups s) → EndsUnit later whole fault
+  pub part-ends : (fault : PreFault) (next_groups : List Group) → IsTurnDone later path new open_groups next_groups (Err fault) (turn_of value (tok_of mid hash) (toks_of mid rest) open_groups s) → EndsUnit later whole fault
   part-ends fault next_groups done = by (stop_of later fault) done
     where
       by : (found : Option Stop) → IfSome found (λ stop. turn_of value (tok_of mid hash) (toks_of mid rest) open_groups s ≡ Halts stop)
@@ -121,6 +143,12 @@ ends-file names path state s holds fault stop piece whole is comes told =
     (omega (arith, holds.few, ap (λ (p : Piece). length p.tokens) is, length-append (put_of names state) piece.tokens, length-map state.tokens.items (tok_of names)))
     (subst (λ (o : Option Stop). IfSome o (λ (found : Stop). piece.ending ≡ IsOver found)) (sym told) (ap (λ (p : Piece). p.ending) is)))
 
+-- behind the last text a file is at its end
+pub end-read : (names : List (List ℕ)) (value : Evaluation) (include : Reader) (path : List ℕ) (state : State) (files : List KeptFile) (file : OpenFile) (whole : Piece) (result_ : Result Read PreFault)
+    → IfOk result_ (λ found. found ≡ read.End) → IsReadEnd names path state whole result_ → IsReadPart names value include path state files file whole result_
+end-read names value include path state files file whole (Ok found) is end = subst (λ (r : Read). IsReadPart names value include path state files file whole (Ok r)) (sym is) end
+end-read names value include path state files file whole (Err fault) is end = end
+
 -- The tokens of a text
 
 pub lexed-tokens : (file : ℕ) (text : List ℕ) (found : List Tok) → LexesFile file text found → lexed_file file text ≡ Tokens found
@@ -129,25 +157,19 @@ lexed-tokens file text found lexes = tokens_are_unique AtLineStart (logical_text
 pub lexed-refused : (file : ℕ) (text : List ℕ) (fault : tokens.LexFault) → OpensFile file text fault → lexed_file file text ≡ Refused fault
 lexed-refused file text fault opens = faults_are_unique AtLineStart (logical_text file text) fault opens
 
-module _ (value : Evaluation) (include : Reader) (names later : List (List ℕ)) (more : Extends names later) (path : List ℕ) (state : State) (s : UnitState) (holds : Holds names path state s) (number : ℕ) (text : List ℕ) where
-  -- a file is what its tokens are
-  pub file-read : (found read : List Token) (next : UnitState → Piece) → read ≡ found → LexesFile number text (toks_of later found)
-      → tokens_before (put_of later state) (and_then (over_parts value include (parts_of later read) [] s) next) ≡ tokens_before (put_of names state) (and_then (text_of_file value include number text s) next)
-  file-read found tokens_ next are lexes =
-      ap (λ (ts : List Token). tokens_before (put_of later state) (and_then (over_parts value include (parts_of later ts) [] s) next)) are
-      ∙ ap (λ lexed. tokens_before (put_of later state) (and_then (lexed_piece value include lexed s) next)) (sym (lexed-tokens number text (toks_of later found) lexes))
-      ∙ ap (λ put. tokens_before put (and_then (text_of_file value include number text s) next)) (put-later names later more path state s holds)
+module _ (value : Evaluation) (include : Reader) (names : List (List ℕ)) (number : ℕ) (text : List ℕ) (s : UnitState) where
+  -- a text is what its tokens are
+  pub text-read : (found : List Token) → LexesFile number text (toks_of names found) → text_of_file value include number text s ≡ over_parts value include (parts_of names found) [] s
+  text-read found lexes = ap (λ (lexed : Lexed). lexed_piece value include lexed s) (lexed-tokens number text (toks_of names found) lexes)
 
   -- or it ends the unit
-  pub file-refused : (fault : LexFault) (told : PreFault) (next : UnitState → Piece) → IfSome (fault_of fault) (OpensFile number text) → stop_of later told ≡ option_map (stop_of_fault s) (fault_of fault)
-      → EndsUnit later (tokens_before (put_of names state) (and_then (text_of_file value include number text s) next)) told
-  file-refused fault told next opens is = by (fault_of fault) opens is
+  pub text-refused : (fault : LexFault) (told : PreFault) → IfSome (fault_of fault) (OpensFile number text) → stop_of names told ≡ option_map (stop_of_fault s) (fault_of fault)
+      → IfSome (stop_of names told) (λ stop. text_of_file value include number text s ≡ only_ending (IsOver stop))
+  text-refused fault told opens is = by (fault_of fault) opens is
     where
-      by : (found : Option tokens.LexFault) → IfSome found (OpensFile number text) → stop_of later told ≡ option_map (stop_of_fault s) found
-          → EndsUnit later (tokens_before (put_of names state) (and_then (text_of_file value include number text s) next)) told
-      by None opens is = subst (λ (o : Option Stop). IfSome o (λ stop. (capped unit_limits.unit_tokens (tokens_before (put_of names state) (and_then (text_of_file value include number text s) next))).ending ≡ IsOver stop)) (sym is) tt
-      by (Some opened) opens is =
-          subst (λ (lexed : Lexed). EndsUnit later (tokens_before (put_of names state) (and_then (lexed_piece value include lexed s) next)) told) (sym (lexed-refused number text opened opens))
-          (stops-behind later (put_of names state) (only_ending (IsOver (stop_of_fault s opened))) told
-          (omega (arith, holds.few, length-append (put_of names state) [], length-map state.tokens.items (tok_of names)))
-          (subst (λ (o : Option Stop). IfSome o (λ (found : Stop). IsOver (stop_of_fault s opened) ≡ IsOver found)) (sym is) refl))
+      by : (found : Option tokens.LexFault) → IfSome found (OpensFile number text) → stop_of names told ≡ option_map (stop_of_fault s) found
+          → IfSome (stop_of names told) (λ stop. text_of_file value include number text s ≡ only_ending (IsOver stop))
+      by None opens_ is_ = subst (λ (o : Option Stop). IfSome o (λ stop. text_of_file value include number text s ≡ only_ending (IsOver stop))) (sym is_) tt
+      by (Some opened) opens_ is_ =
+          subst (λ (o : Option Stop). IfSome o (λ stop. text_of_file value include number text s ≡ only_ending (IsOver stop))) (sym is_)
+          (ap (λ (lexed : Lexed). lexed_piece value include lexed s) (lexed-refused number text opened opens_))

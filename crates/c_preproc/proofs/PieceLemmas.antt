@@ -6,7 +6,6 @@ use Rattle.meaning_text.specs.Tokens.{Tok}
 use Rattle.meaning_preprocessing.specs.State.{UnitState, Stop, Passes, PieceEnd, Continues, IsOver, Piece, only_ending, tokens_before, behind_ending, and_then}
 use Rattle.meaning_preprocessing.specs.Unit.{capped, unit_limits}
 use Rattle.c_tokens.specs.Seen.{toks_of}
-use Rattle.c_preproc.specs.Files.{IsReadFile}
 use Rattle.c_preproc.specs.States.{EndsUnit, GoesOn, Holds, IsFaultInText, IsHeld, IsKnownFault, put_of, stop_of}
 use Rattle.c_preproc.specs.declared.pre_fault.PreFault.{PreFault}
 use Rattle.c_preproc.specs.declared.pre_fault.PreFault.TheVariants.{Error, ReadFault, Limit, Memory}
@@ -114,8 +113,3 @@ known-fault names Memory known = tt
 pub known-faults : (names : List (List ℕ)) (result : Result Unit PreFault) → IfErr result (IsFaultInText names) → IfErr result (IsKnownFault names)
 known-faults names (Ok done) known = tt
 known-faults names (Err fault) known = known-fault names fault known
-
--- behind a file that was read the state is known
-pub read-held : (names : List (List ℕ)) (path : List ℕ) (state : State) (whole : Piece) (next : UnitState → Piece) (result : Result Unit PreFault) → IsReadFile names path state whole next result → OnOk result (IsHeld names state)
-read-held names path state whole next (Ok done) goes = (path, goes.0, goes.1)
-read-held names path state whole next (Err fault) ends = tt

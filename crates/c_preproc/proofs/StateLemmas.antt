@@ -45,7 +45,7 @@ use Rattle.c_preproc.proofs.BodyLemmas.{equal-known}
 -- Where the table of names grows
 
 module _ (names later : List (List ℕ)) (more : Extends names later) where
-  texts-later : (ids : List NameId) → All (IsKnown names) ids → map (text_of later) ids ≡ map (text_of names) ids
+  pub texts-later : (ids : List NameId) → All (IsKnown names) ids → map (text_of later) ids ≡ map (text_of names) ids
   texts-later [] known = refl
   texts-later (id ∷ ids) known = λ i.
       text_of-Extends names later more id (All-head (IsKnown names) id ids known) i ∷ texts-later ids (All-tail (IsKnown names) id ids known) i

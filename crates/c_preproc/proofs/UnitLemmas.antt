@@ -1,5 +1,5 @@
 -- What all of a unit comes to, and the one file that is loaded.
-use Rattle.std.proofs.Common.{◌≡◌, ◌<◌, ◌≤◌, ◌+◌, ℕ, Bool, true, false, nat_lt, List, [], ◌∷◌, ◌++◌, length, drop, map, All, Option, Some, None, IfSome, IsSomeAnd, codes, if◌then◌else◌, refl, sym, ap, subst, ◌∙◌, arith, length-append}
+use Rattle.std.proofs.Common.{◌≡◌, ◌<◌, ◌≤◌, ◌+◌, ℕ, Bool, true, false, nat_lt, List, [], ◌∷◌, ◌++◌, length, drop, map, All, Option, Some, None, IfSome, IsErrAnd, IsSomeAnd, Result, Ok, Err, codes, if◌then◌else◌, refl, sym, ap, subst, ◌∙◌, arith, length-append}
 use Rattle.std.proofs.Math.Seq.{drop-append_seam}
 use Rattle.std.proofs.lemmas.Bool.{lt-ltb, le-ltb}
 use Rattle.std.proofs.lemmas.List.{append-nil, length-map}
@@ -21,13 +21,14 @@ use Rattle.sparse_outside.specs.declared.files.Load.{Load}
 use Rattle.sparse_outside.specs.declared.files.Load.TheVariants as load
 use Rattle.c_tokens.specs.Seen.{IsKnown, text_of, toks_of, tok_of}
 use Rattle.c_preproc.specs.Conditions.{AreKnown}
-use Rattle.c_preproc.specs.States.{EndsUnit, GoesOn, Holds, put_of, stop_of}
-use Rattle.c_preproc.specs.Units.{EndsEarlySo, IsUnit, setting_of}
+use Rattle.c_preproc.specs.Loads.{HasLoaded}
+use Rattle.c_preproc.specs.States.{EndsUnit, GoesOn, Holds, IsFaultInText, IsHeld, put_of, stop_of}
+use Rattle.c_preproc.specs.Units.{EndsEarlySo, IsKnownUnit, IsUnit, setting_of}
 use Rattle.c_preproc.specs.declared.pre_fault.PreFault.{PreFault}
 use Rattle.c_preproc.specs.declared.state.State.{State}
 use Rattle.c_preproc.specs.declared.unit.UnitTokens.{UnitTokens}
-use Rattle.c_preproc.specs.declared.pre_fault.PreFault.TheVariants.{Limit}
-use Rattle.c_preproc.proofs.FileLemmas.{ends-file}
+use Rattle.c_preproc.specs.declared.pre_fault.PreFault.TheVariants.{Memory, ReadFault}
+use Rattle.c_preproc.proofs.LoadLemmas.{loaded-then, ok-err}
 use Rattle.c_preproc.proofs.PieceLemmas.{capped-within}
 
 -- nothing behind a piece
@@ -58,55 +59,11 @@ module _ (limits : Limits) (bytes : List ℕ) (s : UnitState) (next : UnitState 
       ap (λ b. sized_by b (nat_lt limits.all_files (s.bytes + length bytes)) (next (record s { bytes = s.bytes + length bytes }))) (le-ltb limits.file_size (length bytes) small)
       ∙ ap (λ b. sized_by false b (next (record s { bytes = s.bytes + length bytes }))) (le-ltb limits.all_files (s.bytes + length bytes) few)
 
--- the file that is asked for first has the number 1
-pub first-number : (value : Evaluation) (include : Reader) (path bytes : List ℕ) (s : UnitState) (others : List (List ℕ)) → s.paths ≡ path ∷ others
-    → file_piece value include (record { path = path; bytes = bytes }) s ≡ text_of_file value include 1 bytes s
-first-number value include path bytes s others is = λ i. text_of_file value include (number i) bytes (record s { paths = paths i })
-  where
-    number : number_from 1 s.paths path ≡ 1
-    number = ap (λ ps. number_from 1 ps path) is ∙ ap (λ b. if b then 1 else number_from 2 others path) ((bytes_eq-Decides path path).1 refl)
-
-    paths : paths_with path s.paths ≡ s.paths
-    paths = ap (paths_with path) is ∙ ap (λ b. if b then path ∷ others else path ∷ paths_with path others) ((bytes_eq-Decides path path).1 refl) ∙ sym is
-
--- Loads
-
--- where there was one load
-pub one_load : (before now : List Loaded) (given : Loaded) → now ≡ before ++ given ∷ [] → loads_since before now ≡ given ∷ []
-one_load before now given is = ap (drop (length before)) is ∙ drop-append_seam before (given ∷ [])
-
-module _ (files : FileMap) (before now : List Loaded) (path : List ℕ) (most : ℕ) (into : List ℕ) (agrees : AgreesWith files (loads_since before now)) where
-  -- a map that agrees has the file that was loaded
-  pub found-whole : now ≡ before ++ loaded path most load.Whole into ∷ [] → file_at files path ≡ Some into
-  found-whole is = (subst (λ (all : List Loaded). AgreesWith files all) (one_load before now (loaded path most load.Whole into) is) agrees).0
-
-  -- it has none
-  pub found-missing : now ≡ before ++ loaded path most load.Missing into ∷ [] → file_at files path ≡ None
-  found-missing is = (subst (λ (all : List Loaded). AgreesWith files all) (one_load before now (loaded path most load.Missing into) is) agrees).0
-
-  -- it has a larger one
-  pub found-long : now ≡ before ++ loaded path most load.TooLong into ∷ [] → IsSomeAnd (file_at files path) (λ bytes. most < length bytes)
-  found-long is = (subst (λ (all : List Loaded). AgreesWith files all) (one_load before now (loaded path most load.TooLong into) is) agrees).0
-
 -- a file that is larger than the limit
 pub long-piece : (setting : Setting) (path : List ℕ) (found : Option (List ℕ)) (s : UnitState) → IsSomeAnd found (λ bytes. setting.limits.file_size < length bytes) → main_piece_of setting path found s ≡ only_ending (IsOver (Passes FileSize))
 long-piece setting path None s large = absurd large
 long-piece setting path (Some bytes) s large =
     sized-large setting.limits bytes s (file_piece setting.value (reader setting setting.limits.include_depth) (record { path = path; bytes = bytes })) large
-
--- The file that was loaded
-
-module _ (value : Evaluation) (options : unit.Options) (files : FileMap) (path bytes : List ℕ) (s : UnitState) where
-  abbrev include : Reader
-  include = reader (setting_of options files value) unit_limits.include_depth
-
-  -- it is read where it isn't too large
-  pub loaded-read : (others : List (List ℕ)) → s.paths ≡ path ∷ others → length bytes ≤ 8388608 → s.bytes + length bytes ≤ 67108864
-      → and_then (text_of_file value include 1 bytes (record s { bytes = s.bytes + length bytes })) (λ u. only_ending (Continues u)) ≡ main_piece_of (setting_of options files value) path (Some bytes) s
-  loaded-read others is small few =
-      then-nothing (text_of_file value include 1 bytes (record s { bytes = s.bytes + length bytes }))
-      ∙ sym (first-number value include path bytes (record s { bytes = s.bytes + length bytes }) others is)
-      ∙ sym (sized-small unit_limits bytes s (file_piece value include (record { path = path; bytes = bytes })) small few)
 
 -- All of a unit
 
@@ -153,7 +110,39 @@ module _ (options : unit.Options) (files : FileMap) (path : List ℕ) where
   )
 
   -- before the first line nothing was put
-  pub begins : (names : List (List ℕ)) (state : State) (text : List ℕ) → state.tokens.items ≡ [] → text ≡ options.command
-      → tokens_before (put_of names state) (and_then (text_of_file answer_of (reader setting unit_limits.include_depth) 0 text (first_state unit_limits path)) (main_piece setting path)) ≡ all_of_unit
-  begins names state text empty is = λ i.
-      tokens_before (toks_of names (empty i)) (and_then (text_of_file answer_of (reader setting unit_limits.include_depth) 0 (is i) (first_state unit_limits path)) (main_piece setting path))
+  pub begins : (names : List (List ℕ)) (state : State) (directories : List (List ℕ)) (text : List ℕ) → state.tokens.items ≡ [] → directories ≡ options.directories → text ≡ options.command
+      → tokens_before (put_of names state)
+      (and_then (text_of_file answer_of (reader (setting_of (record { directories = directories; command = options.command }) files answer_of) unit_limits.include_depth) 0 text (first_state unit_limits path))
+      (main_piece (setting_of (record { directories = directories; command = options.command }) files answer_of) path))
+      ≡ all_of_unit
+  begins names state directories text empty same is = λ i.
+      tokens_before (toks_of names (empty i))
+      (and_then (text_of_file answer_of (reader (setting_of (record { directories = same i; command = options.command }) files answer_of) unit_limits.include_depth) 0 (is i) (first_state unit_limits path))
+      (main_piece (setting_of (record { directories = same i; command = options.command }) files answer_of) path))
+
+-- what is handed out of a state is known
+pub unit-known : (names : List (List ℕ)) (state : State) → IsHeld names state → (found : UnitTokens) → found.tokens ≡ state.tokens.items → found.undef_tokens ≡ state.undefined.items → found.files ≡ state.paths.items → IsKnownUnit names found
+unit-known names state held found tokens undefined paths = record {
+  tokens = subst (AreKnown names) (sym tokens) held.2.tokens_known;
+  undef_tokens = subst (AreKnown names) (sym undefined) held.2.undefined_known;
+  files = subst (All (IsKnown names)) (sym paths) held.2.paths_known;
+}
+
+-- want of memory is no failed load
+pub memory-err : {T : Type 0} (result : Result T PreFault) → IsErrAnd result (λ fault. fault ≡ Memory) → result ≡ Err ReadFault → ⊥
+memory-err {T} result memory is = subst (IsFaultInText []) (sym (subst (λ (r : Result T PreFault). IsErrAnd r (λ fault. fault ≡ Memory)) is memory)) tt
+
+-- the same fault, of another call
+pub fault-err : {T E : Type 0} (fault : PreFault) → ◌≡◌ {A = Result T PreFault} (Err fault) (Err ReadFault) → ◌≡◌ {A = Result E PreFault} (Err fault) (Err ReadFault)
+fault-err {T} {E} fault is = ap (λ (r : Result T PreFault). by r) is
+  where
+    by : Result T PreFault → Result E PreFault
+    by (Ok done) = Err fault
+    by (Err told) = Err told
+
+-- The calls
+
+-- one that reads the command, and then one that reads the file
+pub loaded-both : (first mid last : List Loaded) (held between holds : Option FileMap) (before midst now : ℕ) (done : Unit) (told : Type 0) → HasLoaded first mid held between before midst (◌≡◌ {A = Result Unit PreFault} (Ok done) (Err ReadFault))
+    → HasLoaded mid last between holds midst now told → HasLoaded first last held holds before now told
+loaded-both first mid last held between holds before midst now done told has then_ = loaded-then first mid last held between holds before midst now _ told (ok-err done ReadFault) has then_

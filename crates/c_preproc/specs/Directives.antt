@@ -3,6 +3,7 @@ use Rattle.std.specs.Prelude.{◌≡◌, ℕ, Bool, List, ◌∷◌, Some, Resul
 use Rattle.meaning_text.specs.Tokens.{Tok}
 use Rattle.vocabulary.specs.declared.error_kind.ErrorKind.TheVariants.{ErrorDirective}
 use Rattle.meaning_preprocessing.specs.Directives.{define_turn, error_words, include_turn, undef_turn}
+use Rattle.meaning_preprocessing.specs.Groups as groups
 use Rattle.meaning_preprocessing.specs.Groups.{Evaluation, Turn, Turns, Halts, evaluated_line, group_of}
 use Rattle.meaning_preprocessing.specs.State.{UnitState, refused}
 use Rattle.c_tokens.specs.declared.token.Token.{Token}
@@ -35,6 +36,16 @@ IsDirective names value s hash groups (Ok (Undef line)) turn = turn ≡ undef_tu
 IsDirective names value s hash groups (Ok (Error line)) turn = turn ≡ Halts (refused s ErrorDirective hash.at (error_words (toks_of names line.now)))
 IsDirective names value s hash groups (Err (Refused kind word)) turn = turn ≡ Halts (refused s kind hash.at (word_seen names word))
 IsDirective names value s hash groups (Err Memory) turn = ⊤
+
+-- an `#include` leaves the groups as they were
+abbrev pub LeavesGroups : List groups.Group → List groups.Group → task.Task → Type 0
+LeavesGroups before now Nothing = ⊤
+LeavesGroups before now (If tokens) = ⊤
+LeavesGroups before now (Elif tokens) = ⊤
+LeavesGroups before now (Include line) = now ≡ before
+LeavesGroups before now (Define line) = ⊤
+LeavesGroups before now (Undef line) = ⊤
+LeavesGroups before now (Error line) = ⊤
 
 -- each id of what is left to do is one of the table
 abbrev pub IsKnownTask : List (List ℕ) → task.Task → Type 0

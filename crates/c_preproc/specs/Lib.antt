@@ -1,3 +1,4 @@
+pub mod Begins
 pub mod Conditions
 pub mod Definitions
 pub mod Directives
@@ -5,9 +6,15 @@ pub mod Files
 pub mod Frames
 pub mod Groups
 pub mod Headers
+pub mod Kept
 pub mod Lines
+pub mod Loads
 pub mod Made
+pub mod Numbers
+pub mod Opens
+pub mod Requests
 pub mod Seen
 pub mod States
+pub mod Steps
 pub mod Texts
 pub mod Units

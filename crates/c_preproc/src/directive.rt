@@ -1,13 +1,14 @@
 //! A directive (C11 6.10): what it does to the open groups, and what is left to do for those that know more: of
 //! macros, files and errors.
-ghost use Rattle.std.specs.Prelude.{◌≡◌, ◌∷◌, Bool, IfOk};
+ghost use Rattle.std.specs.Prelude.{◌≡◌, ◌∷◌, Bool, List, IfOk};
 ghost use Rattle.meaning_text.specs.Tokens.{Tok};
 ghost use Rattle.meaning_preprocessing.specs.Directives.{read_turn, skipped_turn, turn_of};
+ghost use Rattle.meaning_preprocessing.specs.Groups as conditionals;
 ghost use Rattle.meaning_preprocessing.specs.Groups.{Evaluation, Turn, Turns, elif_turn, else_turn, endif_turn, skipped_group, with_condition};
 ghost use Rattle.meaning_preprocessing.specs.State.{UnitState};
 ghost use Rattle.c_tokens.specs.Seen.{tok_of, toks_of};
 ghost use Rattle.c_preproc.specs.Conditions.{AreKnown, HasMacros};
-ghost use Rattle.c_preproc.specs.Directives.{IsCondition, IsDirective, IsKnownTask};
+ghost use Rattle.c_preproc.specs.Directives.{IsCondition, IsDirective, IsKnownTask, LeavesGroups};
 ghost use Rattle.c_preproc.specs.Groups.{groups_seen, with_part};
 ghost use Rattle.c_preproc.specs.Lines.{name_seen};
 ghost use Rattle.c_preproc.specs.Made.{AreMadeWords};
@@ -54,6 +55,7 @@ pub(crate) fn begin_directive<'t>(
         IsDirective names.now value s (tok_of names.now hash.now) groups.new.items result
         (turn_of value (tok_of names.now hash.now) (toks_of names.now rest.now) (groups_seen groups.old.items) s) }
     ensures known { IfOk result (IsKnownTask names.now) }
+    ensures left { IfOk result (LeavesGroups (groups_seen groups.old.items) (groups_seen groups.new.items)) }
 {
     let (name, line) = read_word(names, rest);
     if are_read(groups) {
@@ -80,6 +82,7 @@ fn read_directive<'t>(
         IsDirective names.now value s (tok_of names.now hash.now) groups.new.items result
         (read_turn value (name_seen name) (tok_of names.now hash.now) (toks_of names.now line.now) (groups_seen groups.old.items) s) }
     ensures known { IfOk result (IsKnownTask names.now) }
+    ensures left { IfOk result (LeavesGroups (groups_seen groups.old.items) (groups_seen groups.new.items)) }
 {
     match name {
         DirectiveName::If => match condition_tokens(alloc, names, made, macros, line) {
@@ -123,6 +126,7 @@ fn skip_directive<'t>(
         IsDirective names.now value s (tok_of names.now hash.now) groups.new.items result
         (skipped_turn value (name_seen name) (tok_of names.now hash.now) (toks_of names.now line.now) (groups_seen groups.old.items) s) }
     ensures known { IfOk result (IsKnownTask names.now) }
+    ensures left { IfOk result (LeavesGroups (groups_seen groups.old.items) (groups_seen groups.new.items)) }
 {
     match name {
         DirectiveName::If => skipped_task(names, groups, hash),
@@ -150,6 +154,7 @@ fn elif_task<'t>(
         IsDirective names.now value s (tok_of names.now hash.now) groups.new.items result
         (elif_turn value (tok_of names.now hash.now) (toks_of names.now line.now) (groups_seen groups.old.items) s) }
     ensures known { IfOk result (IsKnownTask names.now) }
+    ensures left { IfOk result (LeavesGroups (groups_seen groups.old.items) (groups_seen groups.new.items)) }
 {
     match begin_elif(groups) {
         Ok(NextPart::Asked) => elif_condition(alloc, names, made, macros, groups, hash, line),
@@ -173,6 +178,7 @@ fn elif_condition<'t>(
         IsDirective names.now value s (tok_of names.now hash.now) groups.now.items result
         (with_condition value (tok_of names.now hash.now) (toks_of names.now line.now) s (λ holds u. Turns (with_part holds (groups_seen groups.now.items)) u)) }
     ensures known { IfOk result (IsKnownTask names.now) }
+    ensures left { (before : List conditionals.Group) → IfOk result (LeavesGroups before (groups_seen groups.now.items)) }
 {
     match condition_tokens(alloc, names, made, macros, line) {
         Ok(tokens) => Ok(Task::Elif { tokens }),
@@ -189,6 +195,7 @@ fn skipped_task<'t>(
         IsDirective names.now value s (tok_of names.now hash.now) groups.new.items result
         (Turns (skipped_group (tok_of names.now hash.now) ∷ groups_seen groups.old.items) s) }
     ensures known { IfOk result (IsKnownTask names.now) }
+    ensures left { IfOk result (LeavesGroups (groups_seen groups.old.items) (groups_seen groups.new.items)) }
 {
     match open_skipped(groups, hash) {
         Ok(()) => Ok(Task::Nothing),
@@ -206,6 +213,7 @@ fn else_task<'t>(
         IsDirective names.now value s (tok_of names.now hash.now) groups.new.items result
         (else_turn (tok_of names.now hash.now) (toks_of names.now line.now) (groups_seen groups.old.items) s) }
     ensures known { IfOk result (IsKnownTask names.now) }
+    ensures left { IfOk result (LeavesGroups (groups_seen groups.old.items) (groups_seen groups.new.items)) }
 {
     match turn_else(groups, line) {
         Ok(()) => Ok(Task::Nothing),
@@ -223,6 +231,7 @@ fn endif_task<'t>(
         IsDirective names.now value s (tok_of names.now hash.now) groups.new.items result
         (endif_turn (tok_of names.now hash.now) (toks_of names.now line.now) (groups_seen groups.old.items) s) }
     ensures known { IfOk result (IsKnownTask names.now) }
+    ensures left { IfOk result (LeavesGroups (groups_seen groups.old.items) (groups_seen groups.new.items)) }
 {
     match turn_endif(groups, line) {
         Ok(()) => Ok(Task::Nothing),

@@ -1,162 +1,136 @@
-//! One file, part by part: its text is put, and its directives are done.
-ghost use Rattle.std.specs.Prelude.{◌≡◌, ◌<◌, ◌^◌, [], List, ℕ, length, option_map, IfErr, IfOk, OnOk};
+//! One file, part by part: its text is put, and its directives are done. A file that it includes isn't read here.
+ghost use Rattle.std.specs.Prelude.{◌≡◌, [], List, ℕ, length, IfErr, IfOk, OnOk};
 ghost use Rattle.meaning_preprocessing.specs.Directives.{turn_of};
 ghost use Rattle.meaning_preprocessing.specs.Groups.{Evaluation, closed_file};
-ghost use Rattle.meaning_preprocessing.specs.State.{Piece, UnitState, and_then, tokens_before};
-ghost use Rattle.meaning_preprocessing.specs.Unit.{IsEvaluation, Reader, over_parts, stop_of_fault, text_of_file, text_piece};
-ghost use Rattle.c_tokens.specs.declared.token.Token.{Token};
-ghost use Rattle.c_tokens.specs.Seen.{Extends, fault_of, tok_of, toks_of};
+ghost use Rattle.meaning_preprocessing.specs.State.{UnitState, and_then, tokens_before};
+ghost use Rattle.meaning_preprocessing.specs.Unit.{IsEvaluation, Reader, text_piece};
+ghost use Rattle.c_tokens.specs.Seen.{Extends, tok_of, toks_of};
 ghost use Rattle.c_preproc.specs.Conditions.{AreKnown};
-ghost use Rattle.c_preproc.specs.Files.{IsKnownRead, IsReadFile, IsReadPart, IsShorter};
+ghost use Rattle.c_preproc.specs.Files.{IsKnownRead, IsReadEnd, IsReadPart, IsShorter};
 ghost use Rattle.c_preproc.specs.Groups.{groups_seen};
-ghost use Rattle.c_preproc.specs.Lines.{parts_of};
-ghost use Rattle.c_preproc.specs.States.{Holds, IsDone, IsFaultInText, IsHeld, put_of, stop_of};
+ghost use Rattle.c_preproc.specs.Kept.{tokens_kept};
+ghost use Rattle.c_preproc.specs.Opens.{IsKnownTurned, IsTurnDone, left_of, open_piece};
+ghost use Rattle.c_preproc.specs.States.{Holds, IsFaultInText, IsHeld, put_of};
 
 use crate::directive::begin_directive;
 use crate::fault::LineFault;
 use crate::groups::{Group, outermost};
+use crate::include_line::HeaderRequest;
+use crate::kept::Kept;
 use crate::lines::{FilePart, first_part};
 use crate::pre_fault::PreFault;
 use crate::state::{NO_WORD, State};
-use c_tokens::{LexFault, Names, Token, lex};
+use crate::tasks::Turned;
+use c_tokens::{Names, Token};
 use sparse_model::ErrorKind;
 use std::alloc::Global;
 
+/// A kept file of which a front was read.
+#[derive(Drop)]
+pub(crate) struct OpenFile {
+    /// Its place among those that are kept.
+    pub(crate) place: usize,
+    /// How many of its tokens are left.
+    pub(crate) left: usize,
+    /// The groups that are open in it.
+    pub(crate) groups: Vec<Group>,
+}
+
 /// What reading the front of a file came to.
 #[derive(Clone, Copy, Debug, PartialEq, Eq)]
-pub(crate) enum Read<'t> {
-    /// A directive was done. These tokens are left behind it.
-    Part { behind: &'t [Token] },
+pub(crate) enum Read {
+    /// A directive was done.
+    Part,
+    /// A file is to be read before what follows.
+    Include(HeaderRequest),
     /// The file is at its end.
     End,
 }
 
+impl OpenFile {
+    /// The file that is kept in this place, of which nothing was read.
+    pub(crate) fn new(alloc: Global, kept: &Kept, place: usize) -> OpenFile
+        ensures place { result.place ≡ place }
+        ensures left { result.left ≡ length (tokens_kept kept.now.files.items place) }
+        ensures groups { result.groups.items ≡ [] }
+    {
+        OpenFile {
+            place,
+            left: kept.tokens(place).len(),
+            groups: Vec::new(alloc),
+        }
+    }
+
+    // What is left of its tokens.
+    fn left<'k>(&self, kept: &'k Kept) -> &'k [Token]
+        ensures { result.now ≡ left_of kept.now.files.items self.now }
+    {
+        let tokens = kept.tokens(self.place);
+        let (_read, left) = tokens.split_at(tokens.len().saturating_sub(self.left));
+        left
+    }
+}
+
 impl State {
-    /// Reads a text as the file with this number, to its end.
-    pub(crate) fn read_file(
+    /// Reads the text at the front of what is left of a file, and the directive behind it.
+    pub(crate) fn read_part(
         &mut self,
         alloc: Global,
         names: &mut Names,
-        number: u32,
-        text: &[u8],
-    ) -> Result<(), PreFault>
+        kept: &Kept,
+        file: &mut OpenFile,
+    ) -> Result<Read, PreFault>
         requires held { IsHeld names.old self.old }
-        requires few { length text.now < 2 ^ 30 }
-        ensures read { (value : Evaluation) (include : Reader) (path : List ℕ) (s : UnitState) (next : UnitState → Piece) → IsEvaluation value → Holds names.old path self.old s →
-            IsReadFile names.new path self.new (tokens_before (put_of names.old self.old) (and_then (text_of_file value include number text.now s) next)) next result }
-        ensures known { IfErr result (IsFaultInText names.new) }
-        ensures keeps { Extends names.old names.new }
-    {
-        match lex(alloc, names, number, text) {
-            Ok(tokens) => {
-                names.apart();
-                self.read_parts(alloc, names, tokens.as_slice())
-            }
-            Err(fault) => {
-                names.apart();
-                Err(self.lex_error(names, fault))
-            }
-        }
-    }
-
-    // What a unit ends with where a comment or a literal is never closed.
-    fn lex_error(&self, names: &Names, fault: LexFault) -> PreFault
-        ensures stop { (path : List ℕ) (s : UnitState) → Holds names.now path self.now s →
-            stop_of names.now result ≡ option_map (stop_of_fault s) (fault_of fault) }
-        ensures known { (path : List ℕ) (s : UnitState) → Holds names.now path self.now s → IsFaultInText names.now result }
-    {
-        names.apart();
-        match fault {
-            LexFault::OpenComment(place) => {
-                self.error(names, ErrorKind::UnterminatedComment, place, NO_WORD)
-            }
-            LexFault::OpenLiteral(place) => {
-                self.error(names, ErrorKind::UnterminatedLiteral, place, NO_WORD)
-            }
-            LexFault::Memory => PreFault::Memory,
-        }
-    }
-
-    // Reads the tokens of a file to their end.
-    fn read_parts(
-        &mut self,
-        alloc: Global,
-        names: &mut Names,
-        tokens: &[Token],
-    ) -> Result<(), PreFault>
-        requires held { IsHeld names.old self.old }
-        requires known { AreKnown names.old tokens.now }
-        ensures read { (value : Evaluation) (include : Reader) (path : List ℕ) (s : UnitState) (next : UnitState → Piece) → IsEvaluation value → Holds names.old path self.old s →
-            IsReadFile names.new path self.new
-            (tokens_before (put_of names.old self.old) (and_then (over_parts value include (parts_of names.old tokens.now) [] s) next)) next result }
-        ensures known { IfErr result (IsFaultInText names.new) }
-        ensures keeps { Extends names.old names.new }
-    {
-        let mut groups = Vec::new(alloc);
-        let mut left = tokens;
-        'parts: loop {
-            match self.read_part(alloc, names, &mut groups, left) {
-                Ok(Read::Part { behind }) => {
-                    left = behind;
-                    continue 'parts;
-                }
-                Ok(Read::End) => return Ok(()),
-                Err(fault) => return Err(fault),
-            }
-        }
-    }
-
-    // Reads the text at the front of a file, and the directive behind it, within the groups that are open in the
-    // file.
-    fn read_part<'t>(
-        &mut self,
-        alloc: Global,
-        names: &mut Names,
-        groups: &mut Vec<Group>,
-        left: &'t [Token],
-    ) -> Result<Read<'t>, PreFault>
-        requires held { IsHeld names.old self.old }
-        requires known { AreKnown names.old left.now }
+        requires known { AreKnown names.old (left_of kept.now.files.items file.old) }
         ensures read { (value : Evaluation) (include : Reader) (path : List ℕ) (s : UnitState) → IsEvaluation value → Holds names.old path self.old s →
-            IsReadPart names.new value include path self.new groups.new.items
-            (tokens_before (put_of names.old self.old) (over_parts value include (parts_of names.old left.now) (groups_seen groups.old.items) s)) result }
-        ensures left { IfOk result (IsKnownRead names.new) }
-        ensures shorter { IfOk result (IsShorter left.now) }
+            IsReadPart names.new value include path self.new kept.now.files.items file.new
+            (tokens_before (put_of names.old self.old) (open_piece value include names.old kept.now.files.items file.old s)) result }
+        ensures place { file.new.place ≡ file.old.place }
+        ensures left { IfOk result (IsShorter (left_of kept.now.files.items file.old) (left_of kept.now.files.items file.new)) }
+        ensures asked { IfOk result (IsKnownRead names.new) }
+        ensures bytes { self.new.bytes ≡ self.old.bytes }
+        ensures paths { self.new.paths ≡ self.old.paths }
         ensures known { IfErr result (IsFaultInText names.new) }
         ensures keeps { Extends names.old names.new }
     {
+        let left = file.left(kept);
         match first_part(left) {
-            FilePart::LastText { text } => self.end_file(alloc, names, groups, text),
+            FilePart::LastText { text } => self.end_file(alloc, names, &file.groups, text),
             FilePart::Directive {
                 text,
                 hash,
                 rest,
                 behind,
-            } => match self.read_text(alloc, names, groups, text) {
-                Ok(()) => match self.turn(alloc, names, groups, &hash, rest) {
-                    Ok(()) => Ok(Read::Part { behind }),
-                    Err(fault) => Err(fault),
-                },
+            } => match self.read_text(alloc, names, &file.groups, text) {
+                Ok(()) => {
+                    file.left = behind.len();
+                    match self.turn(alloc, names, &mut file.groups, &hash, rest) {
+                        Ok(Turned::Done) => Ok(Read::Part),
+                        Ok(Turned::Include(request)) => Ok(Read::Include(request)),
+                        Err(fault) => Err(fault),
+                    }
+                }
                 Err(fault) => Err(fault),
             },
         }
     }
 
     // Reads the last text of a file. No group may be open behind it.
-    fn end_file<'t>(
+    fn end_file(
         &mut self,
         alloc: Global,
         names: &mut Names,
         groups: &Vec<Group>,
         text: &[Token],
-    ) -> Result<Read<'t>, PreFault>
+    ) -> Result<Read, PreFault>
         requires held { IsHeld names.old self.old }
         requires known { AreKnown names.old text.now }
-        ensures read { (value : Evaluation) (include : Reader) (path : List ℕ) (s : UnitState) → Holds names.old path self.old s →
-            IsReadPart names.new value include path self.new groups.now.items
+        ensures read { (path : List ℕ) (s : UnitState) → Holds names.old path self.old s →
+            IsReadEnd names.new path self.new
             (tokens_before (put_of names.old self.old) (and_then (text_piece (groups_seen groups.now.items) (toks_of names.old text.now) s) (λ u. closed_file (groups_seen groups.now.items) u))) result }
-        ensures left { IfOk result (IsKnownRead names.new) }
-        ensures shorter { (tokens : List Token) → IfOk result (IsShorter tokens) }
+        ensures end { IfOk result (λ read. read ≡ Read.End) }
+        ensures bytes { self.new.bytes ≡ self.old.bytes }
+        ensures paths { self.new.paths ≡ self.old.paths }
         ensures known { IfErr result (IsFaultInText names.new) }
         ensures keeps { Extends names.old names.new }
     {
@@ -180,13 +154,16 @@ impl State {
         groups: &mut Vec<Group>,
         hash: &Token,
         rest: &[Token],
-    ) -> Result<(), PreFault>
+    ) -> Result<Turned, PreFault>
         requires held { IsHeld names.old self.old }
         requires known { AreKnown names.old rest.now }
         ensures done { (value : Evaluation) (path : List ℕ) (s : UnitState) → IsEvaluation value → Holds names.old path self.old s →
-            IsDone names.new path self.new groups.new.items result
+            IsTurnDone names.new path self.new (groups_seen groups.old.items) groups.new.items result
             (turn_of value (tok_of names.old hash.now) (toks_of names.old rest.now) (groups_seen groups.old.items) s) }
         ensures put { OnOk result (self.new.tokens ≡ self.old.tokens) }
+        ensures asked { IfOk result (IsKnownTurned names.new) }
+        ensures bytes { self.new.bytes ≡ self.old.bytes }
+        ensures paths { self.new.paths ≡ self.old.paths }
         ensures known { IfErr result (IsFaultInText names.new) }
         ensures keeps { Extends names.old names.new }
     {

@@ -1,25 +1,21 @@
-//! The file that a unit is of: it is loaded, and read behind `<command>`.
-ghost use Rattle.std.specs.Prelude.{◌≡◌, ◌≢◌, ◌<◌, ◌≤◌, ◌+◌, ◌↔◌, List, ℕ, length, Some, None, Err, IfErr, IfSome, IsErrOf, IsTrue, OnOk};
-ghost use Rattle.meaning_outside.specs.Faults.{Told};
-ghost use Rattle.meaning_outside.specs.Files.{FileMap};
-ghost use Rattle.meaning_outside.specs.Loads.{AgreesWith, EachPathIsLoadedOnce, LoadsStay, loads_since};
-ghost use Rattle.meaning_preprocessing.specs.Groups.{Evaluation};
-ghost use Rattle.meaning_preprocessing.specs.State.{Continues, UnitState, only_ending, tokens_before};
-ghost use Rattle.meaning_preprocessing.specs.Unit.{IsEvaluation, Options, main_piece, main_piece_of};
+//! The texts that a unit begins with: `<command>`, which is loaded from nowhere, and behind it the file that it is of.
+ghost use Rattle.std.specs.Prelude.{◌++◌, ◌≡◌, ◌<◌, ◌^◌, List, ℕ, [], drop, length, IfErr, IfSome, IsErrOf, OnOk};
+ghost use Rattle.meaning_outside.specs.Loads.{Loaded, loads_since};
+ghost use Rattle.meaning_preprocessing.specs.State.{UnitState, refused};
+ghost use Rattle.meaning_text.specs.Places.{main_file, start_of};
+ghost use Rattle.vocabulary.specs.declared.error_kind.ErrorKind.TheVariants.{NoSuchFile};
 ghost use Rattle.c_tokens.specs.Seen.{Extends};
-ghost use Rattle.c_preproc.specs.Files.{IsReadFile};
-ghost use Rattle.c_preproc.specs.States.{Holds, IsFaultInText, IsHeld, IsKnownFault, put_of};
-ghost use Rattle.c_preproc.specs.Units.{setting_of};
+ghost use Rattle.c_preproc.specs.Begins.{IsReadCommand, IsReadMain};
+ghost use Rattle.c_preproc.specs.Loads.{HasLoaded, IsFresh, KeepsLoads, paths_seen};
+ghost use Rattle.c_preproc.specs.States.{Holds, IsFaultInText, IsHeld, IsKnownFault, stop_of};
 
+use crate::kept::{Kept, KeptFile};
 use crate::pre_fault::PreFault;
 use crate::state::State;
-use c_tokens::Names;
-use sparse_model::{ErrorKind, LimitKind, Place};
-use sparse_outside::{Files, Load, load_leaves_buffer, told_map_agrees};
+use c_tokens::{Names, lex};
+use sparse_model::{Bytes, ErrorKind, Place};
+use sparse_outside::Files;
 use std::alloc::Global;
-
-/// The number of the file, and where it begins.
-const MAIN_FILE: u32 = 1;
 
 const START: Place = Place {
     file: 1,
@@ -27,85 +23,92 @@ const START: Place = Place {
     column: 1,
 };
 
-/// The most bytes that a file may have, and those of all files together.
-const MOST_BYTES: usize = 8_388_608;
-
-const MOST_BYTES_IN_ALL: usize = 67_108_864;
+/// The number of the file `<command>`.
+const COMMAND: u32 = 0;
 
 impl State {
-    /// Loads the file, and reads it to its end.
+    /// Reads the text of `<command>` to its end, with the files that it includes.
+    pub(crate) fn read_command<F: Files>(
+        &mut self,
+        alloc: Global,
+        names: &mut Names,
+        files: &mut F,
+        directories: &[Bytes],
+        kept: &mut Kept,
+        text: &[u8],
+    ) -> Result<(), PreFault>
+        requires held { IsHeld names.old self.old }
+        requires fresh { IsFresh kept.old }
+        requires paths { drop 1 (paths_seen names.old self.old) ≡ [] }
+        requires few { length text.now < 2 ^ 30 }
+        ensures read { IsReadCommand names.old names.new self.old self.new (loads_since (F.loads files.old) (F.loads files.new)) kept.new directories.now text.now result }
+        ensures held { OnOk result (IsHeld names.new self.new) }
+        ensures loads { HasLoaded (F.loads files.old) (F.loads files.new) (F.holds files.old) (F.holds files.new) (F.faults files.old) (F.faults files.new) (IsErrOf result PreFault.ReadFault) }
+        ensures known { IfErr result (IsKnownFault names.new) }
+        ensures keeps { Extends names.old names.new }
+    {
+        match lex(alloc, names, COMMAND, text) {
+            Ok(tokens) => {
+                names.apart();
+                let bytes = text.len();
+                let place = kept.keep_file(KeptFile { bytes, tokens })?;
+                self.read_files(alloc, names, files, directories, kept, place)
+            }
+            Err(fault) => {
+                names.apart();
+                Err(self.lex_error(names, fault))
+            }
+        }
+    }
+
+    /// Looks for the file at its path, and reads it to its end with those that it includes.
     pub(crate) fn read_main<F: Files>(
         &mut self,
         alloc: Global,
-        files: &mut F,
         names: &mut Names,
+        files: &mut F,
+        directories: &[Bytes],
+        kept: &mut Kept,
         path: &[u8],
     ) -> Result<(), PreFault>
         requires held { IsHeld names.old self.old }
-        ensures read { (value : Evaluation) (options : Options) (map : FileMap) (s : UnitState) → IsEvaluation value →
-            AgreesWith map (loads_since (F.loads files.old) (F.loads files.new)) → Holds names.old path.now self.old s →
-            IsReadFile names.new path.now self.new
-            (tokens_before (put_of names.old self.old) (main_piece (setting_of options map value) path.now s)) (λ u. only_ending (Continues u)) result }
+        requires kept { (earlier : List Loaded) × KeepsLoads names.old (paths_seen names.old self.old) earlier kept.old }
+        ensures read { (earlier : List Loaded) → KeepsLoads names.old (paths_seen names.old self.old) earlier kept.old →
+            IsReadMain names.old names.new self.old self.new (earlier ++ loads_since (F.loads files.old) (F.loads files.new)) directories.now path.now result }
         ensures held { OnOk result (IsHeld names.new self.new) }
+        ensures loads { HasLoaded (F.loads files.old) (F.loads files.new) (F.holds files.old) (F.holds files.new) (F.faults files.old) (F.faults files.new) (IsErrOf result PreFault.ReadFault) }
         ensures known { IfErr result (IsKnownFault names.new) }
-        ensures stay { LoadsStay (F.loads files.old) (F.loads files.new) }
-        ensures once { EachPathIsLoadedOnce (loads_since (F.loads files.old) (F.loads files.new)) }
-        ensures told { IfSome (F.holds files.old) (λ map. AgreesWith map (loads_since (F.loads files.old) (F.loads files.new))) }
-        ensures cause { Told (F.faults files.old) (F.faults files.new) (IsErrOf result PreFault.ReadFault) }
-        ensures holds { F.holds files.new ≡ F.holds files.old }
         ensures keeps { Extends names.old names.new }
     {
-        told_map_agrees();
-        load_leaves_buffer();
-        let mut text = Vec::new(alloc);
-        match files.load(path, MOST_BYTES, &mut text) {
-            Load::Whole => self.read_loaded(alloc, names, text.as_slice()),
-            Load::Missing => self.tell_missing(names, path),
-            Load::TooLong => Err(PreFault::Limit(LimitKind::FileSize)),
-            Load::Failed => Err(PreFault::ReadFault),
-            Load::NoMemory => Err(PreFault::Memory),
+        match kept.look(alloc, files, names, path) {
+            Ok(Some(source)) => {
+                names.apart();
+                match self.open(alloc, names, kept, source, 0) {
+                    Ok(place) => self.read_files(alloc, names, files, directories, kept, place),
+                    Err(fault) => Err(fault),
+                }
+            }
+            Ok(None) => {
+                names.apart();
+                Err(self.missing(names, path))
+            }
+            Err(fault) => Err(fault),
         }
-    }
-
-    // Reads the file that was loaded, unless it and those before it are too large together.
-    fn read_loaded(&mut self, alloc: Global, names: &mut Names, text: &[u8]) -> Result<(), PreFault>
-        requires held { IsHeld names.old self.old }
-        requires small { length text.now ≤ 8388608 }
-        ensures read { (value : Evaluation) (options : Options) (map : FileMap) (path : List ℕ) (s : UnitState) → IsEvaluation value → Holds names.old path self.old s →
-            IsReadFile names.new path self.new
-            (tokens_before (put_of names.old self.old) (main_piece_of (setting_of options map value) path (Some text.now) s)) (λ u. only_ending (Continues u)) result }
-        ensures held { OnOk result (IsHeld names.new self.new) }
-        ensures known { IfErr result (IsFaultInText names.new) }
-        ensures keeps { Extends names.old names.new }
-        ensures only { result ≢ Err PreFault.ReadFault }
-    {
-        if self.is_too_large(text.len()) {
-            return Err(PreFault::Limit(LimitKind::AllFiles));
-        }
-        self.bytes += text.len();
-        self.read_file(alloc, names, MAIN_FILE, text)
-    }
-
-    // With so many further bytes all files are too large.
-    fn is_too_large(&self, count: usize) -> bool
-        ensures { IsTrue result ↔ (67108864 < self.now.bytes + count) }
-    {
-        self.bytes.saturating_add(count) > MOST_BYTES_IN_ALL
     }
 
     // The error of a file that isn't there.
-    fn tell_missing(&mut self, names: &mut Names, path: &[u8]) -> Result<(), PreFault>
-        requires held { IsHeld names.old self.old }
-        ensures read { (value : Evaluation) (options : Options) (map : FileMap) (s : UnitState) → Holds names.old path.now self.old s →
-            IsReadFile names.new path.now self.new
-            (tokens_before (put_of names.old self.old) (main_piece_of (setting_of options map value) path.now None s)) (λ u. only_ending (Continues u)) result }
-        ensures held { OnOk result (IsHeld names.new self.new) }
-        ensures known { IfErr result (IsFaultInText names.new) }
+    fn missing(&self, names: &mut Names, path: &[u8]) -> PreFault
+        requires held { IsHeld names.old self.now }
+        ensures told { (main : List ℕ) (s : UnitState) → Holds names.old main self.now s → IfSome (stop_of names.new result) (λ stop. stop ≡ refused s NoSuchFile (start_of main_file) path.now) }
+        ensures known { IsFaultInText names.new result }
         ensures keeps { Extends names.old names.new }
-        ensures only { result ≢ Err PreFault.ReadFault }
     {
-        let word = names.intern(path)?;
-        names.apart();
-        Err(self.error(names, ErrorKind::NoSuchFile, START, word))
+        match names.intern(path) {
+            Ok(word) => {
+                names.apart();
+                self.error(names, ErrorKind::NoSuchFile, START, word)
+            }
+            Err(_) => PreFault::Memory,
+        }
     }
 }

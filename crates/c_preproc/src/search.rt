@@ -37,7 +37,7 @@ pub(crate) fn paths_for(
     Ok(paths)
 }
 
-fn name_of(names: &Names, header: Header) -> NameId
+pub(crate) fn name_of(names: &Names, header: Header) -> NameId
     requires { IsKnownHeader names.now header }
     ensures name { text_of names.now result ≡ name_seen names.now header }
     ensures known { IsKnown names.now result }

@@ -65,7 +65,7 @@ impl State {
     }
 
     // The path of the file with this number, which is empty where there is none.
-    fn path_of(&self, names: &Names, file: u32) -> NameId
+    pub(crate) fn path_of(&self, names: &Names, file: u32) -> NameId
         ensures path { (path : List ℕ) (s : UnitState) → Holds names.now path self.now s → text_of names.now result ≡ path_of s.paths file }
         ensures known { (path : List ℕ) (s : UnitState) → Holds names.now path self.now s → IsKnown names.now result }
     {

@@ -40,6 +40,8 @@ impl State {
         ensures ends { (path : List ℕ) (s : UnitState) (next : UnitState → Piece) → Holds names.old path self.old s →
             IfErr result (EndsUnit names.new
             (tokens_before (put_of names.old self.old) (and_then (text_piece (groups_seen groups.now.items) (toks_of names.old text.now) s) next))) }
+        ensures bytes { self.new.bytes ≡ self.old.bytes }
+        ensures paths { self.new.paths ≡ self.old.paths }
         ensures known { IfErr result (IsFaultInText names.new) }
         ensures keeps { Extends names.old names.new }
     {
@@ -59,6 +61,8 @@ impl State {
         ensures ends { (path : List ℕ) (s : UnitState) (next : UnitState → Piece) → Holds names.old path self.old s →
             IfErr result (EndsUnit names.new
             (tokens_before (put_of names.old self.old) (and_then (expanded_in s (toks_of names.old text.now)) next))) }
+        ensures bytes { self.new.bytes ≡ self.old.bytes }
+        ensures paths { self.new.paths ≡ self.old.paths }
         ensures known { IfErr result (IsFaultInText names.new) }
         ensures keeps { Extends names.old names.new }
     {
@@ -81,7 +85,7 @@ impl State {
     }
 
     // The tokens with their macros replaced, which takes from the budget.
-    fn expanded(
+    pub(crate) fn expanded(
         &mut self,
         alloc: Global,
         names: &mut Names,
@@ -95,6 +99,8 @@ impl State {
             IfErr result (StopsExpansion s (expanded_in s (toks_of names.old tokens.now))) }
         ensures still { (path : List ℕ) (s : UnitState) → Holds names.old path self.old s → OnErr result (Holds names.new path self.new s) }
         ensures put { self.new.tokens ≡ self.old.tokens }
+        ensures bytes { self.new.bytes ≡ self.old.bytes }
+        ensures paths { self.new.paths ≡ self.old.paths }
         ensures made { IfOk result (λ made. AreKnown names.new made.items) }
         ensures keeps { Extends names.old names.new }
     {
@@ -123,6 +129,8 @@ impl State {
             OnOk result (GoesOn names path self.new (tokens_before (put_of names self.old) (tokens_before (toks_of names made.now.items) (next s))) next) }
         ensures ends { (names : List (List ℕ)) (path : List ℕ) (s : UnitState) (next : UnitState → Piece) → Holds names path self.old s →
             IfErr result (EndsUnit names (tokens_before (put_of names self.old) (tokens_before (toks_of names made.now.items) (next s)))) }
+        ensures bytes { self.new.bytes ≡ self.old.bytes }
+        ensures paths { self.new.paths ≡ self.old.paths }
         ensures known { (names : List (List ℕ)) → IfErr result (IsFaultInText names) }
     {
         if self.is_beyond(made.len()) {
@@ -140,7 +148,7 @@ impl State {
     }
 
     // What the unit ends with where an expansion breaks off.
-    fn fault_of(&self, names: &Names, fault: ExpandFault) -> PreFault
+    pub(crate) fn fault_of(&self, names: &Names, fault: ExpandFault) -> PreFault
         ensures stops { (path : List ℕ) (s : UnitState) (piece : Piece) → Holds names.now path self.now s → StopsExpansion s piece fault →
             IfSome (stop_of names.now result) (StopsBehind piece (before_in fault)) }
         ensures known { (path : List ℕ) (s : UnitState) → Holds names.now path self.now s → IsFaultInText names.now result }
@@ -180,6 +188,8 @@ impl State {
         ensures judged { (value : Evaluation) (path : List ℕ) (s : UnitState) (next : Bool → UnitState → Turn) → IsEvaluation value → Holds names.old path self.old s →
             IsJudgedLine names.new path self.new next result (evaluated_line value (tok_of names.old hash.now) (Some (toks_of names.old line.now)) s next) }
         ensures put { self.new.tokens ≡ self.old.tokens }
+        ensures bytes { self.new.bytes ≡ self.old.bytes }
+        ensures paths { self.new.paths ≡ self.old.paths }
         ensures known { IfErr result (IsFaultInText names.new) }
         ensures keeps { Extends names.old names.new }
     {

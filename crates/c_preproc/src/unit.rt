@@ -8,15 +8,13 @@ ghost use Rattle.c_preproc.specs.States.{IsKnownFault};
 ghost use Rattle.c_preproc.specs.Units.{EndsEarlySo, IsKnownUnit, IsUnit, failures_from, options_seen};
 
 use crate::first_state::first_state;
+use crate::kept::Kept;
 use crate::pre_fault::PreFault;
 use crate::state::State;
 use c_tokens::{Names, Token, TokenList};
 use sparse_model::{Failure, FailureList, FileNames, Options, RuleCode};
 use sparse_outside::Files;
 use std::alloc::{AllocError, Global};
-
-/// The number of the file `<command>`.
-const COMMAND: u32 = 0;
 
 /// The tokens of a file with those that it includes, behind its directives and with its macros replaced.
 #[derive(Drop)]
@@ -31,8 +29,6 @@ pub struct UnitTokens {
 }
 
 /// The preprocessed unit of the file with the path `main` (C11 5.1.1.2 phases 3 and 4), behind the text of the options.
-///
-/// A directive `#include` that is read answers `Memory` so far.
 ///
 /// # Errors
 /// `Error` with the first error, and `Limit` with the first limit that is passed. `ReadFault` where a load failed.
@@ -70,8 +66,11 @@ pub fn preprocess<F: Files>(
     ensures known_fault { IfErr result (IsKnownFault names.new) }
 {
     let mut state = first_state(alloc, names, main)?;
-    match state.read_file(alloc, names, COMMAND, options.commands.as_slice()) {
-        Ok(()) => match state.read_main(alloc, files, names, main) {
+    let mut kept = Kept::new(alloc);
+    let text = options.commands.as_slice();
+    let directories = options.dirs.as_slice();
+    match state.read_command(alloc, names, files, directories, &mut kept, text) {
+        Ok(()) => match state.read_main(alloc, names, files, directories, &mut kept, main) {
             Ok(()) => Ok(state.into_unit(alloc)?),
             Err(fault) => Err(fault),
         },

@@ -21,3 +21,6 @@ returns-in-Ok-Skipped-clause-done c = λ value s has.
     let line = toks_of names c.args.line.now in
     subst (λ part. IsElifBegun names value hash line s c.begin_elif.new.groups.items (Ok part) (elif_turn value hash line (groups_seen c.args.groups.now.items) s))
     c.in-Ok-Skipped.field-0-is (c.in-Ok-Skipped.ensures names value hash line s)
+
+pub returns-in-Ok-Asked-clause-left : goal.returns-in-Ok-Asked-clause-left
+returns-in-Ok-Asked-clause-left c = c.elif_condition.ensures.left (groups_seen c.args.groups.now.items)

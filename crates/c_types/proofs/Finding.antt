@@ -91,7 +91,7 @@ module _ (rows : List Row) (are : AreRows rows) (number : ℕ) (row : Row) (foun
   target-stands = target-inside (types_of rows) row.0.form (are.each number row found).inside
 
 -- two tests that pass for each other are one
-one_test : (s t : Bool) → (s ≡ true → t ≡ true) → (t ≡ true → s ≡ true) → s ≡ t
+pub one_test : (s t : Bool) → (s ≡ true → t ≡ true) → (t ≡ true → s ≡ true) → s ≡ t
 one_test true t to from = sym (to refl)
 one_test false true to from = from refl
 one_test false false to from = refl

@@ -13,3 +13,6 @@ mod Told
 mod Integers
 mod TableLemmas
 mod CompositeLemmas
+mod NodeLemmas
+mod OutlineLemmas
+mod TreeLemmas

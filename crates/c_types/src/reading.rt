@@ -39,8 +39,8 @@ impl Rows {
         self.row(number).0.form.kind()
     }
 
-    // The first parameter of a function type, and the type without it.
-    fn first_parameter(&self, number: u32) -> Option<(u32, u32)>
+    /// The first parameter of a function type, and the type without it.
+    pub fn first_parameter(&self, number: u32) -> Option<(u32, u32)>
         requires rows { AreRows self.now.rows.entries }
         requires known { number < length (types_of self.now.rows.entries) }
         ensures some { IfSome result (λ parts. BeginsWith (types_of self.now.rows.entries) number parts.0 parts.1) }

@@ -1,18 +1,25 @@
 // The table of types as its callers see it.
-ghost use Rattle.std.specs.Prelude.{◌≡◌, ◌<◌, ◌↔◌, IsTrue, is_some, ◌∷◌, ◌++◌, [], None, Some, IfOk, IfSome, IsSome, OnOk, OnErr, option_map, slice_get};
-ghost use Rattle.meaning_types.specs.Equality.{are_same};
+ghost use Rattle.std.specs.Prelude.{◌≡◌, ◌<◌, ◌↔◌, IsTrue, is_some, ◌∷◌, ◌++◌, [], None, Some, IfNone, IfOk, IfSome, IsSome, OnOk, OnErr, option_map, slice_get};
+ghost use Rattle.meaning_types.specs.Types.{NoTypes, flags_of, has_flag, without_flags};
+ghost use Rattle.meaning_types.specs.Equality.{are_equal_flags, are_same};
 ghost use Rattle.meaning_types.specs.Composite.{composite};
+ghost use Rattle.meaning_operands.specs.Operands.{identity_of};
+ghost use Rattle.c_types.specs.Levels.{BeginsWith};
+ghost use Rattle.c_types.specs.Operands.{identity_seen};
+ghost use Rattle.c_types.specs.Outlines.{outline_of};
 ghost use Rattle.c_types.specs.Rows.{flags_in, parameter_types, qualifiers_in, space_seen};
 ghost use Rattle.c_types.specs.Table.{flags_of_shape, qualifiers_of_shape, space_of};
+ghost use Rattle.c_types.specs.Trees.{tree_seen};
 
 use crate::bodies::{AggregateBody, Named};
 use crate::form::{Marks, SpaceKey};
 use crate::kinds::{kind_number, promoted_kind, usual_kind};
 use crate::making::Maker;
+use crate::outline::Outline;
 use crate::rows::Rows;
 use crate::shapes::{OuterShape, TypeShape};
 use indexmap::IndexMap;
-use sparse_model::{IntKind, NameId, Space, TypeId};
+use sparse_model::{CType, IntKind, NameId, Restrict, Space, TypeId};
 use std::alloc::{AllocError, Global};
 use std::marker::Model;
 
@@ -114,12 +121,69 @@ impl Types {
         TypeId(self.maker.rows.parameter(t.0, i))
     }
 
+    /// The first parameter of a function type, and the function without it; none where a function has no
+    /// parameters, and of another type. It takes no memory.
+    pub fn first_parameter(&self, t: TypeId) -> Option<(TypeId, TypeId)>
+        requires { IsTypeId self.now t }
+        ensures some { IfSome result (λ parts. BeginsWith (types_in self.now) t.0 parts.0.0 parts.1.0) }
+        ensures none { IfNone result (parameter_types (type_at self.now t) ≡ NoTypes) }
+    {
+        match self.maker.rows.first_parameter(t.0) {
+            Some((first, rest)) => Some((TypeId(first), TypeId(rest))),
+            None => None,
+        }
+    }
+
     /// Whether a type is one of integers, restricted or not. It takes no memory.
     pub fn is_integer(&self, t: TypeId) -> bool
         requires { IsTypeId self.now t }
         ensures { result ≡ is_some (integer_kind (type_at self.now t)) }
     {
         self.maker.rows.kind(t.0).is_some()
+    }
+
+    /// What a type is, apart from the types in it. It takes no memory, and one step.
+    pub fn outline(&self, t: TypeId) -> Outline
+        requires { IsTypeId self.now t }
+        ensures { result ≡ outline_of (type_at self.now t) }
+    {
+        self.maker.rows.outline(t.0)
+    }
+
+    /// The identity of a restricted integer type. It takes no memory, and one step.
+    #[tactic(auto, using(crate::proofs::OutlineLemmas::identity_told))]
+    pub fn identity(&self, t: TypeId) -> Option<Restrict>
+        requires { IsTypeId self.now t }
+        ensures { identity_seen result ≡ identity_of (type_at self.now t) }
+    {
+        self.outline(t).identity()
+    }
+
+    /// Whether the outermost level of a type has a flag. It takes no memory, and one step.
+    pub fn has_flag(&self, t: TypeId) -> bool
+        requires { IsTypeId self.now t }
+        ensures { result ≡ has_flag (flags_of (type_at self.now t)) }
+    {
+        self.maker.rows.has_flag(t.0)
+    }
+
+    /// Whether the outermost levels of two types have the same flags. It takes no memory, and one step.
+    pub fn same_flags(&self, a: TypeId, b: TypeId) -> bool
+        requires first { IsTypeId self.now a }
+        requires second { IsTypeId self.now b }
+        ensures { result ≡ are_equal_flags (flags_of (type_at self.now a)) (flags_of (type_at self.now b)) }
+    {
+        self.maker.rows.same_flags(a.0, b.0)
+    }
+
+    /// Whether two types are equal but for const, volatile and flags at every level. It takes no memory,
+    /// and one step.
+    pub fn same_without_flags(&self, a: TypeId, b: TypeId) -> bool
+        requires first { IsTypeId self.now a }
+        requires second { IsTypeId self.now b }
+        ensures { result ≡ are_same (without_flags (type_at self.now a)) (without_flags (type_at self.now b)) }
+    {
+        self.maker.rows.same_without_flags(a.0, b.0)
     }
 
     /// What an integer type is promoted to (C11 6.3.1.1 p2); a restricted one counts as its base. It takes
@@ -173,6 +237,16 @@ impl Types {
             Some(number) => Ok(Some(TypeId(number))),
             None => Ok(None),
         }
+    }
+
+    /// The whole type as a tree. It takes a step for each part of the tree, which may have far more of them
+    /// than the table has types. A tree of more than 10,000 levels is want of memory, since whoever drops it
+    /// goes down to its last level.
+    pub fn tree(&self, alloc: Global, t: TypeId) -> Result<CType, AllocError>
+        requires { IsTypeId self.now t }
+        ensures { IfOk result (λ tree. tree_seen tree ≡ type_at self.now t) }
+    {
+        self.maker.rows.tree(alloc, t.0)
     }
 
     /// Tells the members of an aggregate, which weren't told before.

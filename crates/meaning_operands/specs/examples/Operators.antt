@@ -56,6 +56,8 @@ pub record OperatorExamples : Type 0 where
   pub compared : answers comparing (value le32) (value le32) ≡ replicate 2 (passes None)
   pub compared_with_zero : answers comparing zero (value le32) ≡ replicate 2 (passes None)
   pub unlike_compared : answers comparing (value le32) int ≡ replicate 2 (fails B2 None)
+  pub unlike_right_ones : map (λ right. operator_answer BitwiseAnd (value le32) right) (value be32 ∷ int ∷ value (plain Char) ∷ []) ≡ replicate 3 (fails B2 (Some 2))
+  pub compared_with_them : map (λ right. operator_answer Equal (value le32) right) (value be32 ∷ int ∷ value (plain Char) ∷ []) ≡ replicate 3 (fails B2 None)
   -- a place keeps its type
   pub combined_and_stored : answers combining_assignments (value le32) (value le32) ≡ replicate 3 (passes (Some 2))
   pub unlike_stored : answers combining_assignments (value le32) (value be32) ≡ replicate 3 (fails B2 (Some 2))
@@ -63,8 +65,10 @@ pub record OperatorExamples : Type 0 where
   -- a restricted operand counts as its base, whatever the other one is
   pub degrades : answers calculating (value le32) (value le32) ≡ replicate 14 (fails B1 None)
   pub degrades_beside_zero : answers calculating zero (value le32) ≡ replicate 14 (fails B1 None)
+  pub degrades_beside_a_plain_one : answers calculating (value le32) int ≡ replicate 14 (fails B1 None)
   pub calculated : answers calculating int zero ≡ replicate 14 (passes None)
   pub stored : answers calculating_assignments (value le32) zero ≡ replicate 11 (fails B7 (Some 2))
+  pub stored_from_a_restricted_one : answers calculating_assignments int (value be32) ≡ replicate 11 (fails B7 None)
   pub stored_plain : answers calculating_assignments int int ≡ replicate 11 (passes None)
   pub last : answers (Comma ∷ []) (value le32) (value be32) ≡ passes (Some 3) ∷ []
 

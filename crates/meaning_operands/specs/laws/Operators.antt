@@ -3,7 +3,7 @@ use Rattle.std.specs.Prelude.{◌≡◌, Bool, true, false, List, [], ◌∷◌,
 use Rattle.std.specs.List.{filter}
 use Rattle.vocabulary.specs.declared.operator.Operator.{Operator}
 use Rattle.vocabulary.specs.declared.operator.Operator.TheVariants.{Subscript, PostIncrement, PostDecrement, PreIncrement, PreDecrement, UnaryPlus, Negation, Complement, LogicalNot, Multiplication, Division, Remainder, Addition, Subtraction, LeftShift, RightShift, Less, Greater, LessOrEqual, GreaterOrEqual, Equal, NotEqual, BitwiseAnd, BitwiseExclusiveOr, BitwiseOr, LogicalAnd, LogicalOr, Conditional, MultiplicationAssignment, DivisionAssignment, RemainderAssignment, AdditionAssignment, SubtractionAssignment, LeftShiftAssignment, RightShiftAssignment, BitwiseAndAssignment, BitwiseExclusiveOrAssignment, BitwiseOrAssignment, Comma}
-use Rattle.meaning_operands.specs.Operators.{Demand, OneType, PlainOnly, PlainStored, ResultIdentity, NoIdentity, StoredIdentity, FoulMark, NeverFouled, OperatorLaw, law_of}
+use Rattle.meaning_operands.specs.Operators.{Operands, IntegerOperands, Demand, OneType, PlainOnly, PlainStored, ResultIdentity, NoIdentity, StoredIdentity, FoulMark, NeverFouled, OperatorLaw, law_of}
 
 -- all operators, in the order of the standard
 abbrev pub all_operators : List Operator
@@ -18,6 +18,14 @@ all_operators =
 
 abbrev pub tests : Operator → Bool
 tests operator = (law_of operator).tests
+
+-- it takes no pointer
+abbrev pub is_of_integers : Operands → Bool
+is_of_integers IntegerOperands = true
+is_of_integers operands = false
+
+abbrev pub takes_integers : Operator → Bool
+takes_integers operator = is_of_integers (law_of operator).operands
 
 abbrev pub asks_for_one_type : Demand → Bool
 asks_for_one_type OneType = true
@@ -57,4 +65,9 @@ pub record IsSound (law : OperatorLaw) : Type 0 where
 
 pub record OperatorFacts : Type 0 where
   pub testing : filter tests all_operators ≡ LogicalNot ∷ Equal ∷ NotEqual ∷ LogicalAnd ∷ LogicalOr ∷ []
+  pub integers :
+      filter takes_integers all_operators
+      ≡ UnaryPlus ∷ Negation ∷ Complement ∷ Multiplication ∷ Division ∷ Remainder ∷ LeftShift ∷ RightShift
+      ∷ BitwiseAnd ∷ BitwiseExclusiveOr ∷ BitwiseOr ∷ MultiplicationAssignment ∷ DivisionAssignment ∷ RemainderAssignment
+      ∷ LeftShiftAssignment ∷ RightShiftAssignment ∷ BitwiseAndAssignment ∷ BitwiseExclusiveOrAssignment ∷ BitwiseOrAssignment ∷ []
   pub sound : (operator : Operator) → IsSound (law_of operator)

@@ -13,13 +13,17 @@ returns-clause-operators c = record {
   compared = refl;
   compared_with_zero = refl;
   unlike_compared = refl;
+  unlike_right_ones = refl;
+  compared_with_them = refl;
   combined_and_stored = refl;
   unlike_stored = refl;
   stored_in_a_plain_one = refl;
   degrades = refl;
   degrades_beside_zero = refl;
+  degrades_beside_a_plain_one = refl;
   calculated = refl;
   stored = refl;
+  stored_from_a_restricted_one = refl;
   stored_plain = refl;
   last = refl;
 }

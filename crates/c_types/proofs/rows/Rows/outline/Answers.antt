@@ -1,0 +1,11 @@
+-- The form stands in the row.
+use Rattle.std.proofs.Common.{◌∙◌, arith}
+use Rattle.c_types.proofs.RowLemmas.{length-types_of}
+use Rattle.c_types.proofs.OutlineLemmas.{outline-told}
+use Rattle.c_types.proofs.rows.Rows.outline.Goals as goal
+
+pub row-requires : goal.row-requires
+row-requires c = omega (arith, c.requires.known, length-types_of c.args.self.now.rows.entries)
+
+pub returns : goal.returns
+returns c = c.outline.ensures ∙ outline-told c.args.self.now.rows.entries c.requires.rows c.args.number c.row.result c.row.ensures

@@ -1,2 +1,4 @@
 pub mod Numbers
 pub mod Ranges
+pub mod Bits
+pub mod Nodes

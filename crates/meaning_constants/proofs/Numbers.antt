@@ -18,12 +18,12 @@ natural (pos m) h = (m, refl)
 natural (negsuc m) h = absurd h.le
 
 -- a remainder is below the divisor
-remainder-below : (number : ℤ) (count : ℕ) → 0 < count → (rest : ℕ) × (int_rem_euclid number (pos count) ≡ pos rest) × (rest < count)
+pub remainder-below : (number : ℤ) (count : ℕ) → 0 < count → (rest : ℕ) × (int_rem_euclid number (pos count) ≡ pos rest) × (rest < count)
 remainder-below (pos m) count some = (m % count, refl, mod-lt m some)
 remainder-below (negsuc m) count some = (_, refl, omega (arith, mod-lt m some))
 
 -- a number is its quotient's multiple of the divisor, and the remainder
-whole : (number : ℤ) (count : ℕ) → 0 < count → int_div_euclid number (pos count) *ℤ pos count +ℤ int_rem_euclid number (pos count) ≡ number
+pub whole : (number : ℤ) (count : ℕ) → 0 < count → int_div_euclid number (pos count) *ℤ pos count +ℤ int_rem_euclid number (pos count) ≡ number
 whole (pos m) count some = ap pos (omega (arith, mod-eq-sub-div-mul m count, div-mul-le_self m count))
 whole (negsuc m) count some =
     omega (arith, ints, suc-mul (m / count) count, mod-eq-sub-div-mul m count, div-mul-le_self m count, mod-lt m some)
@@ -54,7 +54,7 @@ apart-by : (low number count : ℤ) (n : ℕ) → 0 < n → count ≡ pos n → 
 apart-by low number count n some is_count = rw is_count
     (int_div_euclid (number -ℤ low) (pos n), omega (arith, ints, whole (number -ℤ low) n some))
 
-apart : (low high number : ℤ) → low ≤ℤ high → (times : ℤ) × (number ≡ wrapped_between low high number +ℤ times *ℤ ((high -ℤ low) +ℤ pos 1))
+pub apart : (low high number : ℤ) → low ≤ℤ high → (times : ℤ) × (number ≡ wrapped_between low high number +ℤ times *ℤ ((high -ℤ low) +ℤ pos 1))
 apart low high number order =
     let (count, is_count) = natural ((high -ℤ low) +ℤ pos 1) (omega (arith, ints)) in
     apart-by low number ((high -ℤ low) +ℤ pos 1) count (omega (arith, ints)) is_count

@@ -21,7 +21,7 @@ none fouled constant is = absurd (none-some constant is)
 this : (fouled : Bool) (found : Constant) → IsOfItsKind fouled found → IsOfItsKindIfAny fouled (Some found)
 this fouled found holds constant is = subst (IsOfItsKind fouled) (same_Some found constant is) holds
 
-of_kind : (fouled : Bool) (of : TypeTree) (next : IntKind → Option Constant)
+pub of_kind : (fouled : Bool) (of : TypeTree) (next : IntKind → Option Constant)
     → ((kind : IntKind) → IsOfItsKindIfAny fouled (next kind)) → IsOfItsKindIfAny fouled (with_kind of next)
 of_kind fouled (Typed (IntegerTree kind) qualifiers flags) next each = each kind
 of_kind fouled (Typed (RestrictedTree kind identity) qualifiers flags) next each = each kind
@@ -31,7 +31,7 @@ of_kind fouled (Typed (ArrayTree element length) qualifiers flags) next each = n
 of_kind fouled (Typed (FunctionTree result parameters variadic) qualifiers flags) next each = none fouled
 of_kind fouled (Typed (AggregateTree number is_union) qualifiers flags) next each = none fouled
 
-of_number : (fouled : Bool) (number : Option ℤ) (next : ℤ → Option Constant)
+pub of_number : (fouled : Bool) (number : Option ℤ) (next : ℤ → Option Constant)
     → ((number : ℤ) → IsOfItsKindIfAny fouled (next number)) → IsOfItsKindIfAny fouled (with_number number next)
 of_number fouled None next each = none fouled
 of_number fouled (Some number) next each = each number

@@ -2,5 +2,8 @@ pub mod Numbers
 pub mod Operations
 pub mod Constants
 pub mod Enumerators
+pub mod Sizes
+pub mod Bits
+pub mod Nodes
 pub mod laws
 pub mod examples

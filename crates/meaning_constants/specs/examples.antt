@@ -4,3 +4,4 @@ pub mod Expressions
 pub mod Constants
 pub mod Enumerators
 pub mod Compared
+pub mod Nodes

@@ -1,10 +1,12 @@
 // What is proved of constants, and examples.
 ghost use Rattle.meaning_constants.specs.laws.Numbers.{ConversionsAreInRange, ConversionsKeepNumbers, ConversionsWrap};
 ghost use Rattle.meaning_constants.specs.laws.Constants.{ConstantsAreInRange};
+ghost use Rattle.meaning_constants.specs.laws.Nodes.{BitsTellNumbers, NodeConstantsFit};
 ghost use Rattle.meaning_constants.specs.examples.Numbers.{ConversionExamples};
 ghost use Rattle.meaning_constants.specs.examples.Constants.{OperatorExamples, EvaluationExamples, CastExamples, FoulExamples};
 ghost use Rattle.meaning_constants.specs.examples.Enumerators.{EnumeratorExamples};
 ghost use Rattle.meaning_constants.specs.examples.Compared.{ComparedExamples};
+ghost use Rattle.meaning_constants.specs.examples.Nodes.{KeptExamples, NodeExamples, SizeExamples};
 
 /// A number that is converted to an integer type becomes the one number of it that differs by a multiple
 /// of how many it has, so itself where the type has it; in `_Bool` it becomes 0 or 1 (6.3.1.2, 6.3.1.3).
@@ -19,6 +21,21 @@ pub fn numbers_are_converted()
 #[tactic(auto, using(crate::proofs::Ranges::constants_are_in_range))]
 pub fn constants_are_in_range()
     ensures { ConstantsAreInRange }
+{}
+
+/// The number of a node's constant is one of its promoted kind where those of its parts are, so that its kind and 64 bits
+/// tell it.
+#[tactic(auto, using(crate::proofs::Nodes::node_constants_fit, crate::proofs::Bits::bits_tell_numbers))]
+pub fn node_constants_are_kept()
+    ensures fit { NodeConstantsFit }
+    ensures told { BitsTellNumbers }
+{}
+
+/// Nodes whose constants one can tell by eye, from what is known of their parts.
+pub fn worked_nodes()
+    ensures nodes { NodeExamples }
+    ensures sizes { SizeExamples }
+    ensures kept { KeptExamples }
 {}
 
 /// Numbers, expressions and enumerators whose constants one can tell by eye.

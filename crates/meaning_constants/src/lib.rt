@@ -7,5 +7,6 @@
 mod constants;
 
 pub use constants::{
-    compared_examples, constants_are_in_range, numbers_are_converted, worked_examples,
+    compared_examples, constants_are_in_range, node_constants_are_kept, numbers_are_converted,
+    worked_examples, worked_nodes,
 };

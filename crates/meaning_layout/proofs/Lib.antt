@@ -1,3 +1,4 @@
 pub mod MultipleLemmas
 pub mod LayoutLemmas
 pub mod SizeLemmas
+pub mod RepeatLemmas

@@ -59,7 +59,7 @@ mutual
   whole_base told are (ArrayTree element None) = tt
   whole_base told are (ArrayTree element (Some length)) = whole_array length (extent_of told element) (whole_type told are element)
   whole_base told are (FunctionTree result parameters variadic) = tt
-  whole_base told are (AggregateTree number is_union) = whole_aggregate (told number) (are number)
+  whole_base told are (AggregateTree number is_union) = whole_aggregate (told number is_union) (are number is_union)
 
 pub types_are_whole : TypesAreWhole
 types_are_whole = whole_type

@@ -4,3 +4,4 @@ pub mod Layouts
 pub mod Sizes
 pub mod laws
 pub mod examples
+pub mod Repeats

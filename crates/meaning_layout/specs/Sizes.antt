@@ -1,6 +1,6 @@
 -- The sizes and alignments of types, in bytes (C11 6.5.3.4, 6.2.8). An aggregate has those of its layout, which is made when
 -- its members are told, so that nothing is looked at twice.
-use Rattle.std.specs.Prelude.{ℕ, ◌+◌, ◌*◌, ◌/◌, nat_le, Result, Ok, Err, Option, Some, None, List, slice_get, if◌then◌else◌}
+use Rattle.std.specs.Prelude.{ℕ, ◌+◌, ◌*◌, ◌/◌, nat_le, Bool, Result, Ok, Err, Option, Some, None, List, slice_get, if◌then◌else◌}
 use Rattle.vocabulary.specs.declared.int_kind.IntKind.{IntKind}
 use Rattle.meaning_types.specs.Types.{TypeTree, Typed, BaseTree, VoidTree, IntegerTree, RestrictedTree, PointerTree, ArrayTree, FunctionTree, AggregateTree}
 use Rattle.meaning_types.specs.Ranges.{width}
@@ -12,9 +12,9 @@ pub record Extent : Type 0 where
   pub size : ℕ
   pub align : ℕ
 
--- the layouts of the aggregates that were told, by their numbers
+-- the layouts of the aggregates that were told, by their numbers, each as a structure and as a union
 abbrev pub Told : Type 0
-Told = ℕ → Option (Result Layout LayoutFault)
+Told = ℕ → (is_union : Bool) → Option (Result Layout LayoutFault)
 
 -- so many bytes, which are their own alignment
 abbrev pub scalar : ℕ → Extent
@@ -53,7 +53,7 @@ abbrev mutual
   extent_of_base told (ArrayTree element None) = Err Incomplete
   extent_of_base told (ArrayTree element (Some length)) = array_extent length (extent_of told element)
   extent_of_base told (FunctionTree result parameters variadic) = Err Incomplete
-  extent_of_base told (AggregateTree number is_union) = told_extent (told number)
+  extent_of_base told (AggregateTree number is_union) = told_extent (told number is_union)
 
 -- Members
 

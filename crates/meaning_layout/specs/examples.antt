@@ -1,3 +1,5 @@
 -- Worked examples.
 pub mod Layouts
 pub mod Sizes
+pub mod Asked
+pub mod Compared

@@ -1,3 +1,4 @@
 -- What is proved of the definitions.
 pub mod Layouts
 pub mod Sizes
+pub mod Repeats

@@ -1,8 +1,10 @@
 // What is proved of layouts, and examples.
 ghost use Rattle.meaning_layout.specs.laws.Layouts.{SizesAreMultiples, MembersLieInside, MembersStandApart, FieldsLieInUnits, MembersAreAligned, UnionsBeginAtOnce};
 ghost use Rattle.meaning_layout.specs.laws.Sizes.{TypesAreWhole};
+ghost use Rattle.meaning_layout.specs.laws.Repeats.{ArraysRepeat, OnceIsOne};
 ghost use Rattle.meaning_layout.specs.examples.Layouts.{PlainExamples, FieldExamples, WrittenExamples, SizeExamples};
 ghost use Rattle.meaning_layout.specs.examples.Sizes.{TypeExamples, MemberExamples};
+ghost use Rattle.meaning_layout.specs.examples.Compared.{ComparedExamples};
 
 /// A size is a multiple of the alignment, and members lie inside; in a structure no two of them share a
 /// bit, in a union all begin with the first one; a bit-field lies in one unit of its declared type, and
@@ -22,6 +24,14 @@ pub fn sizes_are_whole()
     ensures { TypesAreWhole }
 {}
 
+/// An array of arrays is as large as so many of its innermost elements, and none is too large where none of its
+/// arrays is.
+#[tactic(auto, using(crate::proofs::RepeatLemmas::arrays_repeat, crate::proofs::RepeatLemmas::once_is_one))]
+pub fn arrays_are_counted()
+    ensures repeat { ArraysRepeat }
+    ensures once { OnceIsOne }
+{}
+
 /// Bodies and types have the sizes, alignments and first bits that one can count.
 pub fn worked_examples()
     ensures plain { PlainExamples }
@@ -30,4 +40,10 @@ pub fn worked_examples()
     ensures sizes { SizeExamples }
     ensures types { TypeExamples }
     ensures members { MemberExamples }
+{}
+
+/// A thousand structures and unions have the sizes, the alignments and the first bits of named members that a compiler gives
+/// them.
+pub fn compared_examples()
+    ensures { ComparedExamples }
 {}

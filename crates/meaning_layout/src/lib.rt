@@ -7,4 +7,6 @@
 
 mod layouts;
 
-pub use layouts::{layouts_are_sound, sizes_are_whole, worked_examples};
+pub use layouts::{
+    arrays_are_counted, compared_examples, layouts_are_sound, sizes_are_whole, worked_examples,
+};

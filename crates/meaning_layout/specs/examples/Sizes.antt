@@ -15,7 +15,7 @@ members = a_char ∷ field an_int 3 ∷ field an_int 30 ∷ a_short ∷ []
 
 -- aggregate 1 is that structure, 2 is one of a long, 3 is empty, 4 is too large; no other was told
 abbrev pub told : Told
-told number =
+told number is_union =
     if number == 1 then Some (layout_of (struct_of members))
     else (if number == 2 then Some (layout_of (struct_of (a_long ∷ [])))
     else (if number == 3 then Some (layout_of (struct_of []))

@@ -1,5 +1,5 @@
 -- What holds of the sizes of types.
-use Rattle.std.specs.Prelude.{◌≡◌, ℕ, ◌<◌, ◌≤◌, ◌%◌, IfOk, IfSome}
+use Rattle.std.specs.Prelude.{◌≡◌, ℕ, ◌<◌, ◌≤◌, ◌%◌, Bool, IfOk, IfSome}
 use Rattle.meaning_types.specs.Types.{TypeTree}
 use Rattle.meaning_layout.specs.Layouts.{most_bytes}
 use Rattle.meaning_layout.specs.Sizes.{Told, extent_of}
@@ -12,7 +12,7 @@ pub record IsWhole (size align : ℕ) : Type 0 where
 
 -- each layout that was told is so
 abbrev pub AreWhole : Told → Type 0
-AreWhole told = (number : ℕ) → IfSome (told number) (λ made. IfOk made (λ layout. IsWhole layout.size layout.align))
+AreWhole told = (number : ℕ) (is_union : Bool) → IfSome (told number is_union) (λ made. IfOk made (λ layout. IsWhole layout.size layout.align))
 
 -- and then each type with a size is
 abbrev pub TypesAreWhole : Type 0

@@ -1,0 +1,5 @@
+pub mod UnitLemmas
+pub mod TextLemmas
+pub mod PieceLemmas
+pub mod LevelLemmas
+pub mod OrderLemmas

@@ -7,7 +7,7 @@ use Rattle.vocabulary.specs.declared.scope.NameSpace.TheVariants.{Ordinary, Tags
 use Rattle.vocabulary.specs.declared.scope.Bound.{Bound}
 use Rattle.vocabulary.specs.declared.scope.Bound.TheVariants.{Enumerator, Unlinked}
 use Rattle.vocabulary.specs.declared.action.Action.{Action}
-use Rattle.vocabulary.specs.declared.action.Action.TheVariants.{Append, AppendAttribute, AppendDeclarator, AppendLeadingAttributes, AwaitBody, BeginAtNext, BeginDeclarators, BeginList, BindDeclarator, BindEnumerator, BindFurtherDeclarator, BindParameter, CloseParameters, CloseScope, CountParameter, DeclareTag, DefineTag, JoinAnyParts, JoinParts, JoinSuffixes, MakeForPart, MakeOptionalDeclarator, MakeParenthesizedAttributes, NoteFunctionDeclarator, OpenBody, OpenScope, RequireType, RequireTypeOrAttributes, UseName, UseTag, UseTypedefName, WithoutTag}
+use Rattle.vocabulary.specs.declared.action.Action.TheVariants.{Append, AppendAttribute, AppendDeclarator, AppendLeadingAttributes, AwaitBody, BeginAtNext, BeginDeclarators, BeginList, BindDeclarator, BindEnumerator, BindFurtherDeclarator, BindParameter, CloseParameters, CloseScope, CountParameter, DeclareTag, DefineTag, JoinAnyParts, JoinParts, JoinSuffixes, MakeFileSpecifiers, MakeForPart, MakeOptionalDeclarator, MakeParenthesizedAttributes, NoteFunctionDeclarator, OpenBody, OpenScope, RequireType, RequireTypeOrAttributes, UseName, UseTag, UseTypedefName, WithoutTag}
 use Rattle.vocabulary.specs.declared.production_item.ProductionItem.{ProductionItem}
 use Rattle.vocabulary.specs.declared.production_item.ProductionItem.TheVariants.{Do}
 use Rattle.meaning_tree.specs.Trees.{Node, Parts, NoParts, Part}
@@ -17,7 +17,7 @@ use Rattle.meaning_grammar.specs.Sorts.{Sort, AWord, ATree, AList, is_same_sort,
 use Rattle.meaning_derivation.specs.Values.{Value, WordValue, TreeValue, ListValue, sort_of, sorts_of, value_at, text_of, parts_of, name_of}
 use Rattle.meaning_derivation.specs.State.{State, Fault, ActionOutcome, Goes, Refuses, made_as, most_nodes, with_limit}
 use Rattle.meaning_derivation.specs.Lists.{has_spelling, name_or, unnamed_declarator, attributes_list, leading_attributes, part_of_for, part_count, most_parameters}
-use Rattle.meaning_derivation.specs.Scoping.{declared, bound, bound_as, last_handle, parameter_bound, tag_at, found_name, found_here, parts_below, ends_with_parameters, name_used, typedef_named}
+use Rattle.meaning_derivation.specs.Scoping.{declared, bound, bound_as, last_handle, parameter_bound, tag_at, found_name, found_here, parts_below, ends_with_parameters, name_used, typedef_named, without_closed}
 use Rattle.meaning_derivation.specs.Actions.{below}
 use Rattle.meaning_derivation.specs.laws.Sorts.{ActionsAreSorted, ActionsLeadOn}
 
@@ -167,7 +167,8 @@ for_part-sorted :
     (s next : State) (parts : Parts (List ℕ)) (word : Value) (after : List Sort) → part_of_for s parts word ≡ Goes next
     → Finds MakeForPart s after → sorts_of next.values ≡ after
 for_part-sorted s next NoParts word after is = made-sorted MakeForPart 2 (TreeValue _) s next after is (λ rest. refl)
-for_part-sorted s next (Part role tree parts) word after is =
+for_part-sorted s next (Part role tree (Part next_role other parts)) word after is = made-sorted MakeForPart 2 (TreeValue _) s next after is (λ rest. refl)
+for_part-sorted s next (Part role tree NoParts) word after is =
     replaced MakeForPart 2 (TreeValue tree ∷ []) s next after (reached _ next is) (λ rest. refl)
 
 -- one of two words
@@ -242,6 +243,8 @@ actions_are_sorted NoteFunctionDeclarator s next sorts is finds =
     kept-sorted NoteFunctionDeclarator s next sorts
     (reached _ next is ∙ noted-values (ends_with_parameters (parts_below (below s 1))) s (record s { function_end = Some s.taken }) refl) (λ rest. refl) finds
 actions_are_sorted AwaitBody s next sorts is finds = kept-sorted AwaitBody s next sorts (reached _ next is) (λ rest. refl) finds
+actions_are_sorted MakeFileSpecifiers s next sorts is finds =
+    made-sorted MakeFileSpecifiers 2 (TreeValue _) (without_closed s) next sorts is (λ rest. refl) finds
 actions_are_sorted RequireType s next sorts is finds = kept-sorted RequireType s next sorts (reached _ next is) (λ rest. refl) finds
 actions_are_sorted RequireTypeOrAttributes s next sorts is finds =
     kept-sorted RequireTypeOrAttributes s next sorts (reached _ next is) (λ rest. refl) finds

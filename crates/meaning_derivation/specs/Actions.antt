@@ -14,7 +14,7 @@ use Rattle.meaning_scopes.specs.Scopes.{Opened, without_scope}
 use Rattle.meaning_derivation.specs.Values.{Value, ListValue, value_at, token_of, text_of, parts_of, before, alone, stands_at, plain_tree, named_tree}
 use Rattle.meaning_derivation.specs.State.{State, ActionOutcome, Goes, pushed, with_value, made}
 use Rattle.meaning_derivation.specs.Lists.{appended, joined, suffixed, name_or, declarator_values, optional_declarator, attributes_list, leading_attributes, with_parameter, part_of_for}
-use Rattle.meaning_derivation.specs.Scoping.{with_scopes, found_name, found_here, bound_as, declared, tag_at, place, with_first_keyword, name_used, typedef_named, parameter_bound, function_noted}
+use Rattle.meaning_derivation.specs.Scoping.{with_scopes, found_name, found_here, bound_as, declared, tag_at, place, with_first_keyword, name_used, typedef_named, parameter_bound, function_noted, parameters_closed, without_closed, body_awaited, body_opened}
 use Rattle.meaning_derivation.specs.Literals.{constant_tree, pieces_length}
 
 -- The value so far below the top of the stack. An action's comment names what it takes, the top on the right.
@@ -54,9 +54,9 @@ act AppendLeadingAttributes s = leading_attributes s (below s 1) (parts_of (belo
 act BindDeclarator s = declared s (below s 0) (bound_as s (below s 1) (below s 0))
 act BindFurtherDeclarator s = declared s (below s 0) (bound_as s (below s 2) (below s 0))
 act NoteFunctionDeclarator s = Goes (function_noted s (below s 1))
-act AwaitBody s = Goes s
+act AwaitBody s = Goes (body_awaited s (below s 1))
 -- Specifiers (6.7.1 to 6.7.4)
-act MakeFileSpecifiers s = made s 2 (plain_tree kinds.Specifiers (token_of (below s 1)) (parts_of (below s 0)))
+act MakeFileSpecifiers s = made (without_closed s) 2 (plain_tree kinds.Specifiers (token_of (below s 1)) (parts_of (below s 0)))
 act MakeBlockSpecifiers s = made s 2 (plain_tree kinds.Specifiers (token_of (below s 1)) (parts_of (below s 0)))
 act MakeMemberSpecifiers s = made s 2 (plain_tree kinds.Specifiers (token_of (below s 1)) (parts_of (below s 0)))
 act MakeParameterSpecifiers s = made s 2 (plain_tree kinds.Specifiers (token_of (below s 1)) (parts_of (below s 0)))
@@ -89,11 +89,11 @@ act MakeTypeName s = made s 2 (plain_tree kinds.TypeName (stands_at (below s 1))
 act CountParameter s = with_parameter s (parts_of (below s 0))
 act BindParameter s = parameter_bound s (below s 1) (parts_of (below s 0))
 act MakeParameter s = made s 2 (plain_tree kinds.Parameter (stands_at (below s 1)) (before TypePart (below s 1) (parts_of (below s 0))))
-act CloseParameters s = Goes (with_scopes s (without_scope s.scopes))
+act CloseParameters s = Goes (parameters_closed s (token_of (below s 1)))
 -- Scopes (6.2.1)
 act OpenScope s = Goes (with_scopes s (Opened ∷ s.scopes))
 act CloseScope s = Goes (with_scopes s (without_scope s.scopes))
-act OpenBody s = Goes (with_scopes s (Opened ∷ s.scopes))
+act OpenBody s = Goes (body_opened s)
 -- Initializers and statements (6.7.9, 6.8)
 act MakeInitializerItem s =
     made s 3 (plain_tree kinds.InitializerItem (token_of (below s 2)) (with_parts (parts_of (below s 1)) (alone Evaluated (below s 0))))

@@ -79,7 +79,7 @@ most_parameters = 255
 abbrev pub with_parameter : State → Parts (List ℕ) → ActionOutcome
 with_parameter s parts = Goes (if nat_lt (part_count parts) most_parameters then s else with_limit Parameters s)
 
--- the only part of a list, or what is left out at this word
+-- the only part of a list, or what is left out at this word; no part is lost
 abbrev pub part_of_for : State → Parts (List ℕ) → (word : Value) → ActionOutcome
-part_of_for s NoParts word = made s 2 (plain_tree kinds.OmittedExpression (token_of word) NoParts)
-part_of_for s (Part role tree parts) word = Goes (with_value s 2 (TreeValue tree))
+part_of_for s (Part role tree NoParts) word = Goes (with_value s 2 (TreeValue tree))
+part_of_for s parts word = made s 2 (plain_tree kinds.OmittedExpression (token_of word) parts)

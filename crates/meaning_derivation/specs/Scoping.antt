@@ -1,5 +1,5 @@
 -- What names are bound to while a unit is read (C11 6.2.1, 6.7 p3).
-use Rattle.std.specs.Prelude.{ℕ, ◌-◌, Bool, true, false, ◌||◌, not, List, [], ◌∷◌, Option, Some, None, if◌then◌else◌}
+use Rattle.std.specs.Prelude.{ℕ, ◌-◌, Bool, true, false, ◌||◌, not, List, [], ◌∷◌, ◌++◌, reverse, nat_eq, Option, Some, None, is_some, if◌then◌else◌}
 use Rattle.std.specs.Str.{bytes_eq}
 use Rattle.vocabulary.specs.declared.error_kind.ErrorKind.TheVariants.{NotDeclared, Redeclared}
 use Rattle.vocabulary.specs.declared.node_kind.NodeKind.{NodeKind}
@@ -8,11 +8,11 @@ use Rattle.vocabulary.specs.declared.scope.NameSpace.{NameSpace}
 use Rattle.vocabulary.specs.declared.scope.NameSpace.TheVariants.{Ordinary, Tags}
 use Rattle.vocabulary.specs.declared.scope.Bound.{Bound}
 use Rattle.vocabulary.specs.declared.scope.Bound.TheVariants.{Typedef, Linked, Unlinked, Tag}
-use Rattle.meaning_tree.specs.Trees.{Node, Parts, NoParts, Part}
-use Rattle.meaning_scopes.specs.Scopes.{ScopeList, Binds, Found, find, is_open}
+use Rattle.meaning_tree.specs.Trees.{SyntaxTree, Node, Parts, NoParts, Part}
+use Rattle.meaning_scopes.specs.Scopes.{Entry, ScopeList, Opened, Binds, Found, find, innermost, is_open, with_entries, without_scope}
 use Rattle.meaning_scopes.specs.Redeclaration.{bound_here, is_redeclared}
 use Rattle.meaning_derivation.specs.Values.{Value, WordValue, TreeValue, token_of, text_of, stands_at, name_of, named_tree}
-use Rattle.meaning_derivation.specs.State.{State, IsError, ActionOutcome, Goes, Refuses, with_values, made}
+use Rattle.meaning_derivation.specs.State.{ClosedList, State, IsError, ActionOutcome, Goes, Refuses, with_values, made}
 
 abbrev pub with_scopes : State → ScopeList (List ℕ) → State
 with_scopes s scopes = record s { scopes = scopes }
@@ -55,12 +55,20 @@ abbrev pub parts_below : Value → Parts (List ℕ)
 parts_below (TreeValue (Node kind token name number parts)) = parts
 parts_below value = NoParts
 
--- the part directly at the name is a parameter list: the declarator is a function's (6.7.6.3)
+-- where a parameter list begins, if the tree is one
+abbrev pub parameters_in : SyntaxTree → Option ℕ
+parameters_in (Node kinds.FunctionDeclarator token name number parts) = Some token
+parameters_in tree = None
+
+-- and the one that is the part directly at the name
+abbrev pub own_parameters : Parts (List ℕ) → Option ℕ
+own_parameters NoParts = None
+own_parameters (Part role tree NoParts) = parameters_in tree
+own_parameters (Part role tree (Part next other parts)) = own_parameters (Part next other parts)
+
+-- there is one: the declarator is a function's (6.7.6.3)
 abbrev pub ends_with_parameters : Parts (List ℕ) → Bool
-ends_with_parameters NoParts = false
-ends_with_parameters (Part role (Node kinds.FunctionDeclarator token name number parts) NoParts) = true
-ends_with_parameters (Part role tree NoParts) = false
-ends_with_parameters (Part role tree (Part next other parts)) = ends_with_parameters (Part next other parts)
+ends_with_parameters parts = is_some (own_parameters parts)
 
 -- a declarator behind these specifiers has linkage: at file scope, with `extern`, or as a function's (6.2.2)
 abbrev pub has_linkage : State → (specifiers declarator : Value) → Bool
@@ -83,6 +91,47 @@ parameter_bound s specifiers (Part role tree others) = declared s (TreeValue tre
 abbrev pub function_noted : State → (declarator : Value) → State
 function_noted s declarator =
     if ends_with_parameters (parts_below declarator) then record s { function_end = Some s.taken } else s
+
+-- Bodies: the parameters of a definition are declared in the outermost block of its body (6.2.1 p4, 6.9.1 p9)
+
+module _ {N : Type 0} where
+  -- one scope is open, and no other
+  abbrev pub has_one_scope : ScopeList N → Bool
+  has_one_scope [] = false
+  has_one_scope (Opened ∷ items) = not (is_open items)
+  has_one_scope (Binds entry ∷ items) = has_one_scope items
+
+  -- what the parameter list bound that begins at this token
+  abbrev pub entries_at : List (ClosedList N) → (token : ℕ) → List (Entry N)
+  entries_at [] token = []
+  entries_at (list ∷ lists) token = if nat_eq list.token token then list.entries else entries_at lists token
+
+  -- what the list bound that is awaited
+  abbrev pub awaited_entries : List (ClosedList N) → Option ℕ → List (Entry N)
+  awaited_entries lists None = []
+  awaited_entries lists (Some token) = entries_at lists token
+
+  -- a parameter list is closed that begins at this token: if it is no part of another one, what it bound is kept
+  abbrev pub closed_behind : List (ClosedList N) → ScopeList N → (token : ℕ) → List (ClosedList N)
+  closed_behind lists scopes token =
+      if has_one_scope scopes then lists ++ record { token = token; entries = reverse (innermost scopes) } ∷ [] else lists
+
+abbrev pub parameters_closed : State → (token : ℕ) → State
+parameters_closed s token =
+    record s { scopes = without_scope s.scopes; closed = closed_behind s.closed s.scopes token }
+
+-- a declaration begins, and no list of an earlier one is its function's
+abbrev pub without_closed : State → State
+without_closed s = record s { closed = [] }
+
+-- the body of this declarator comes next
+abbrev pub body_awaited : State → (declarator : Value) → State
+body_awaited s declarator = record s { awaited = own_parameters (parts_below declarator) }
+
+-- a function's body opens the scope of its parameters again, each other one a scope of its own
+abbrev pub body_opened : State → State
+body_opened s =
+    record s { scopes = with_entries (Opened ∷ s.scopes) (awaited_entries s.closed s.awaited); awaited = None }
 
 -- Tags (6.7.2.3)
 

@@ -5,7 +5,7 @@ use Rattle.vocabulary.specs.declared.limit.LimitKind.{LimitKind}
 use Rattle.vocabulary.specs.declared.limit.LimitKind.TheVariants.{Nodes, ParseStack}
 use Rattle.vocabulary.specs.declared.role.Role.{Role}
 use Rattle.meaning_tree.specs.Trees.{SyntaxTree, NoParts, Part}
-use Rattle.meaning_scopes.specs.Scopes.{ScopeList}
+use Rattle.meaning_scopes.specs.Scopes.{Entry, ScopeList}
 use Rattle.meaning_grammar.specs.Terminals.{Terminal}
 use Rattle.meaning_derivation.specs.Values.{Value, TreeValue, ListValue}
 
@@ -18,6 +18,11 @@ pub record Passed : Type 0 where
 pub record Held : Type 0 where
   pub kind : ErrorKind
   pub token : ℕ
+
+-- a parameter list that was closed: the token at which it begins, and what it bound, in order
+pub record ClosedList (N : Type 0) : Type 0 where
+  pub token : ℕ
+  pub entries : List (Entry N)
 
 pub record State : Type 0 where
   -- how many terminals were taken
@@ -37,6 +42,10 @@ pub record State : Type 0 where
   pub held : Option Held
   -- the terminal behind a function's declarator in a body, where no body may follow
   pub function_end : Option ℕ
+  -- the parameter lists that a declaration at file scope closed, in order
+  pub closed : List (ClosedList (List ℕ))
+  -- where the parameter list of a function begins whose body comes next
+  pub awaited : Option ℕ
 
 -- the token of the first of these terminals, or the last one
 abbrev pub token_before : (last_token : ℕ) → List Terminal → ℕ
@@ -56,6 +65,8 @@ state_at_start last_token terminals =
       passed = None;
       held = None;
       function_end = None;
+      closed = [];
+      awaited = None;
     }
 
 -- Why nothing goes on

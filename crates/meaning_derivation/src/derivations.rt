@@ -2,7 +2,7 @@
 ghost use Rattle.meaning_derivation.specs.laws.Outcomes.{ItemsHaveOneOutcome, UnitsHaveOneOutcome, AnswersAreOutcomes};
 ghost use Rattle.meaning_derivation.specs.laws.Sorts.{ActionsAreSorted, ActionsLeadOn};
 ghost use Rattle.meaning_derivation.specs.laws.Shapes.{ShapesAreMade};
-ghost use Rattle.meaning_derivation.specs.examples.Units.{TreeExamples, ChainExamples, RefusalExamples};
+ghost use Rattle.meaning_derivation.specs.examples.Units.{TreeExamples, BodyExamples, ChainExamples, RefusalExamples};
 
 /// A list of tokens has one outcome at most, a tree or a refusal, whatever the actions do.
 pub fn each_unit_has_one_outcome()
@@ -29,6 +29,7 @@ pub fn shapes_are_made()
 /// Short units derive the trees, or are refused for what, that one can tell by eye.
 pub fn worked_examples()
     ensures trees { TreeExamples }
+    ensures bodies { BodyExamples }
     ensures chains { ChainExamples }
     ensures refusals { RefusalExamples }
 {}

@@ -9,7 +9,7 @@ use Rattle.vocabulary.specs.declared.scope.NameSpace.TheVariants.{Ordinary, Tags
 use Rattle.vocabulary.specs.declared.limit.LimitKind.TheVariants.{Parameters}
 use Rattle.vocabulary.specs.declared.node_kind.NodeKind.TheVariants as kinds
 use Rattle.vocabulary.specs.declared.action.Action.{Action}
-use Rattle.vocabulary.specs.declared.action.Action.TheVariants.{Append, AppendAttribute, AppendDeclarator, AppendLeadingAttributes, AwaitBody, BeginAtNext, BeginDeclarators, BeginList, BindDeclarator, BindEnumerator, BindFurtherDeclarator, BindParameter, CloseParameters, CloseScope, CountParameter, DeclareTag, DefineTag, JoinAnyParts, JoinParts, JoinSuffixes, MakeCharacterConstant, MakeForPart, MakeIntegerConstant, MakeOptionalDeclarator, MakeParenthesizedAttributes, MakeStringLiteral, NoteFunctionDeclarator, OpenBody, OpenScope, RequireType, RequireTypeOrAttributes, UseName, UseTag, UseTypedefName, WithoutTag}
+use Rattle.vocabulary.specs.declared.action.Action.TheVariants.{Append, AppendAttribute, AppendDeclarator, AppendLeadingAttributes, AwaitBody, BeginAtNext, BeginDeclarators, BeginList, BindDeclarator, BindEnumerator, BindFurtherDeclarator, BindParameter, CloseParameters, CloseScope, CountParameter, DeclareTag, DefineTag, JoinAnyParts, JoinParts, JoinSuffixes, MakeCharacterConstant, MakeFileSpecifiers, MakeForPart, MakeIntegerConstant, MakeOptionalDeclarator, MakeParenthesizedAttributes, MakeStringLiteral, NoteFunctionDeclarator, OpenBody, OpenScope, RequireType, RequireTypeOrAttributes, UseName, UseTag, UseTypedefName, WithoutTag}
 use Rattle.meaning_tree.specs.Trees.{SyntaxTree, Node, Parts, NoParts, Part, with_parts}
 use Rattle.meaning_tree.specs.Forms.{PartSort, LeadingLists, ADeclarator, ADeclaratorPart, ASpecifier, AnExpression, AConstant, AString, attribute_lists, expressions, optional_expressions, IsOf, Slot, One, Perhaps, Each, slots_of, Fits, nothing, one, left_out, there, no_more, one_more, IsFormedTree, AreFormedTrees}
 use Rattle.meaning_scopes.specs.Scopes.{Found}
@@ -17,13 +17,13 @@ use Rattle.meaning_scopes.specs.Redeclaration.{bound_here, is_redeclared}
 use Rattle.meaning_derivation.specs.Values.{Value, WordValue, TreeValue, ListValue, value_at, token_of, text_of, parts_of, before, name_of, plain_tree}
 use Rattle.meaning_derivation.specs.State.{State, Goes, made_as, made, with_limit}
 use Rattle.meaning_derivation.specs.Lists.{reversed_before, part_count, most_parameters, appended, joined, suffixed, has_spelling, name_or, unnamed_declarator, attributes_list, leading_attributes, part_of_for, first_tree_token}
-use Rattle.meaning_derivation.specs.Scoping.{declared, bound, bound_as, last_handle, parameter_bound, tag_at, found_name, found_here, parts_below, ends_with_parameters, name_used, typedef_named}
+use Rattle.meaning_derivation.specs.Scoping.{declared, bound, bound_as, last_handle, parameter_bound, tag_at, found_name, found_here, parts_below, ends_with_parameters, name_used, typedef_named, without_closed}
 use Rattle.meaning_derivation.specs.Shapes.{Shape, shape_of, shaped_tree}
 use Rattle.meaning_derivation.specs.Actions.{act, below}
 use Rattle.meaning_derivation.proofs.Shaping.{shapes_are_made}
 use Rattle.meaning_forms.proofs.Slots.{is_within, IsOf-more, within-fits, both}
 use Rattle.meaning_forms.proofs.Knowledge.{Known, AWord, ATree, AList, AreOf, Is, grown, is_list, grown-is, alone-is, are_of-behind, with_parts-none}
-use Rattle.meaning_forms.proofs.Effects.{behind_known, behind_shape, where_, declarator_parts, lists_of_attributes, slots_from}
+use Rattle.meaning_forms.proofs.Effects.{file_specifiers, behind_known, behind_shape, where_, declarator_parts, lists_of_attributes, slots_from}
 use Rattle.meaning_forms.proofs.Fronts.{Stand, beneath, word_first, tree_first, list_first, some_first, stand_more, stand_same}
 use Rattle.meaning_forms.proofs.Making.{reached, reached_unless, made-values, made_stands}
 
@@ -268,9 +268,16 @@ module _ (begun : Parts (List ℕ)) (s next : State) (rest : List Value) where
       → AreOf (Perhaps Evaluated expressions ∷ []) own → ATree optional_expressions ∷ known ≡ after → Stand begun known left rest → Leaves after
   for_part_acts NoParts word known after left values is are same stand =
       replace (ATree optional_expressions) known after _ left (made-values s next 2 _ is ∙ beneath values) ((nothing, tt), refl) same stand
-  for_part_acts (Part role tree others) word known after left values is are same stand =
+  for_part_acts (Part role tree (Part other_role other others)) word known after left values is are same stand = absurd (no_further role tree other_role other others are.0)
+    where
+      no_further :
+          (its_role : Role) (operand : SyntaxTree) (next_role : Role) (further : SyntaxTree) (more : Parts (List ℕ))
+          → Fits (Perhaps Evaluated expressions ∷ []) (Part its_role operand (Part next_role further more)) → ⊥
+      no_further its_role operand next_role further more (there of fits) = elim fits [ ]
+      no_further its_role operand next_role further more (left_out fits) = elim fits [ ]
+  for_part_acts (Part role tree NoParts) word known after left values is are same stand =
       replace (ATree optional_expressions) known after (TreeValue tree) left (reached _ next is ∙ ap (λ all. TreeValue tree ∷ all) values)
-      (are.1.0, an_operand role tree others are.0) same stand
+      (are.1.0, an_operand role tree NoParts are.0) same stand
     where
       an_operand : (its_role : Role) (operand : SyntaxTree) (more : Parts (List ℕ)) → Fits (Perhaps Evaluated expressions ∷ []) (Part its_role operand more)
           → IsOf optional_expressions operand
@@ -383,6 +390,9 @@ module _ (begun : Parts (List ℕ)) (s next : State) (rest : List Value) where
   acts NoteFunctionDeclarator known after is found stand =
       kept known after (reached _ next is ∙ noted_values (ends_with_parameters (parts_below (below s 1))) (record s { function_end = Some s.taken }) refl) found stand
   acts AwaitBody known after is found stand = kept known after (reached _ next is) found stand
+  acts MakeFileSpecifiers known after is found stand =
+      made_stands begun known s.values rest stand file_specifiers (slots_from file_specifiers.sources known) after next.values refl found
+      (made-values (without_closed s) next 2 (TreeValue (shaped_tree file_specifiers s.values)) is)
   acts RequireType known after is found stand = kept known after (reached _ next is) found stand
   acts RequireTypeOrAttributes known after is found stand = kept known after (reached _ next is) found stand
   acts DeclareTag known after is found stand = kept known after (reached _ next is) found stand

@@ -1,5 +1,5 @@
 -- The children that values give make the parts that their sources say.
-use Rattle.std.proofs.Common.{◌≡◌, ℕ, zero, suc, ◌+◌, ◌-◌, true, nat_eq, List, [], ◌∷◌, ◌++◌, map, reverse, take, drop, length, refl, sym, ap, ◌∙◌, arith, append_assoc}
+use Rattle.std.proofs.Common.{◌≡◌, ℕ, zero, suc, ◌-◌, true, nat_eq, List, [], ◌∷◌, ◌++◌, map, reverse, take, drop, length, refl, sym, ap, ◌∙◌, arith, append_assoc}
 use Rattle.std.proofs.lemmas.Bool.{and_parts, eqb-true}
 use Rattle.std.proofs.lemmas.List.{length-map, length-reverse, map-append, reverse-append, reverse-reverse, take-append-drop, take-map}
 use Rattle.vocabulary.specs.declared.role.Role.{Role}

@@ -3,5 +3,9 @@ pub mod Seeing
 pub mod Covering
 pub mod Naming
 pub mod Ending
+pub mod Parts
+pub mod Bodies
+pub mod Fitting
+pub mod OnlyTrees
 pub mod Sound
 pub mod Making

@@ -13,8 +13,9 @@ use Rattle.meaning_scopes.proofs.Finding.{find-renamed}
 use Rattle.sparse_model.specs.declared.ids.NameId.{NameId}
 use Rattle.c_tokens.specs.Seen.{text_of}
 use Rattle.c_tokens.specs.Spellings.{AreApart}
-use Rattle.c_scope.specs.Seen.{same_name}
+use Rattle.c_scope.specs.Seen.{same_name, told_of}
 use Rattle.meaning_derivation.specs.Scoping.{with_scopes}
+use Rattle.parse_state.specs.Looking.{found_told}
 use Rattle.parse_state.specs.Seen.{Read, state_of}
 use Rattle.parse_state.specs.Soundness.{is_known}
 
@@ -60,6 +61,11 @@ module _ (names : List (List ℕ)) where
       → class_of_name bytes_eq (renamed (text_of names) scopes) (text_of names name) ≡ class_of_name same_name scopes name
   class-spelled apart scopes name known this_known =
       ap found_class (find-spelled apart scopes Ordinary name known this_known) ∙ found_class-renamed (find same_name scopes Ordinary name)
+
+  -- what is told of what was found
+  pub found_told-renamed : (found : Option (Found NameId)) → option_map found_told (option_map (renamed_found (text_of names)) found) ≡ option_map told_of found
+  found_told-renamed None = refl
+  found_told-renamed (Some found) = refl
 
   -- scopes are left and open alike
 

@@ -1,5 +1,5 @@
 -- What was read goes on being sound.
-use Rattle.std.proofs.Common.{◌≡◌, ℕ, zero, suc, ◌+◌, ◌-◌, ◌<◌, ◌≤◌, ◌^◌, Bool, true, false, ◌&&◌, List, [], ◌∷◌, ◌++◌, reverse, take, drop, length, slice_get, get_or, Option, None, Some, All, Result, Ok, Err, is_err, OnOk, refl, sym, ap, ap₂, ◌∙◌, arith}
+use Rattle.std.proofs.Common.{◌≡◌, ℕ, zero, suc, ◌+◌, ◌<◌, ◌≤◌, ◌^◌, Bool, true, false, ◌&&◌, List, [], ◌∷◌, ◌++◌, reverse, take, drop, length, slice_get, get_or, Option, None, Some, All, Result, Ok, Err, is_err, OnOk, refl, sym, ap, ap₂, ◌∙◌, arith}
 use Rattle.std.specs.List.{list_all}
 use Rattle.std.proofs.lemmas.Bool.{and_parts, ltb-true, lt-ltb}
 use Rattle.std.proofs.lemmas.List.{drop_more, length-append}
@@ -8,6 +8,8 @@ use Rattle.std.proofs.lemmas.List.Elements.{All-cons, All-nil}
 use Rattle.std.proofs.lemmas.Option.{slice_get_within}
 use Rattle.meaning_tree.specs.Nodes.{TreeNode, NodeList, end_of, with_node}
 use Rattle.meaning_scopes.specs.Scopes.{ScopeList}
+use Rattle.meaning_scopes.specs.laws.Scopes.{all_named}
+use Rattle.meaning_derivation.specs.State.{ClosedList}
 use Rattle.sparse_model.specs.declared.ids.NameId.{NameId}
 use Rattle.parse_state.specs.declared.value.Value.{Value}
 use Rattle.parse_state.specs.declared.value.Value.TheVariants.{Word, Tree}
@@ -15,7 +17,7 @@ use Rattle.parse_state.specs.declared.value.Value.TheVariants as kinds
 use Rattle.parse_state.specs.declared.shape.Source.{Source}
 use Rattle.parse_state.specs.Giving.{is_below, has_handles_below, is_small, given, left_behind, children_in}
 use Rattle.parse_state.specs.Asking.{no_name, name_in, name_in_at}
-use Rattle.parse_state.specs.Soundness.{is_known, has_known_name, IsSound}
+use Rattle.parse_state.specs.Soundness.{is_known, has_known_name, has_known_entries, IsSound}
 use Rattle.parse_state.proofs.Stacks.{all-take, all-drop, all-reverse}
 
 -- one test follows from another
@@ -97,9 +99,9 @@ known_name names empty stack (Some depth) known = known_at names empty stack dep
 
 -- Steps
 
-module _ (names : List (List ℕ)) (list : NodeList NameId) (stack : List Value) (scopes : ScopeList NameId) (sound : IsSound names list stack scopes) where
+module _ (names : List (List ℕ)) (list : NodeList NameId) (stack : List Value) (scopes : ScopeList NameId) (closed : List (ClosedList NameId)) (sound : IsSound names list stack scopes closed) where
   -- a value on top
-  pub sound_pushed : (value : Value) → has_handles_below (length list.nodes) value ≡ true → has_known_name names value ≡ true → IsSound names list (stack ++ value ∷ []) scopes
+  pub sound_pushed : (value : Value) → has_handles_below (length list.nodes) value ≡ true → has_known_name names value ≡ true → IsSound names list (stack ++ value ∷ []) scopes closed
   sound_pushed value below known = record {
     first = sound.first;
     few = sound.few;
@@ -107,11 +109,12 @@ module _ (names : List (List ℕ)) (list : NodeList NameId) (stack : List Value)
     words = all-snoc (has_known_name names) stack value sound.words known;
     node_names = sound.node_names;
     bound_names = sound.bound_names;
+    closed_names = sound.closed_names;
   }
 
   -- a node and its tree in the place of the last values
   pub sound_made : (from : ℕ) (node : TreeNode NameId) → length list.nodes < 16000000 → is_known names node.name ≡ true
-      → IsSound names (with_node list node) (take from stack ++ Tree (end_of list) ∷ []) scopes
+      → IsSound names (with_node list node) (take from stack ++ Tree (end_of list) ∷ []) scopes closed
   sound_made from node room known =
       let one_more : length (list.nodes ++ node ∷ []) ≡ length list.nodes + 1 = length-append list.nodes (node ∷ []) in
       record {
@@ -125,10 +128,11 @@ module _ (names : List (List ℕ)) (list : NodeList NameId) (stack : List Value)
         words = all-snoc (has_known_name names) (take from stack) (Tree (end_of list)) (all-take (has_known_name names) from stack sound.words) refl;
         node_names = all-snoc (λ (one : TreeNode NameId). is_known names one.name) list.nodes node sound.node_names known;
         bound_names = sound.bound_names;
+        closed_names = sound.closed_names;
       }
 
   -- a list in the place of the last values
-  pub sound_collected : (from : ℕ) (sources : List Source) → IsSound names list (take from stack ++ kinds.List (children_in (drop from stack) sources) ∷ []) scopes
+  pub sound_collected : (from : ℕ) (sources : List Source) → IsSound names list (take from stack ++ kinds.List (children_in (drop from stack) sources) ∷ []) scopes closed
   sound_collected from sources = record {
     first = sound.first;
     few = sound.few;
@@ -138,6 +142,32 @@ module _ (names : List (List ℕ)) (list : NodeList NameId) (stack : List Value)
     words = all-snoc (has_known_name names) (take from stack) (kinds.List (children_in (drop from stack) sources)) (all-take (has_known_name names) from stack sound.words) refl;
     node_names = sound.node_names;
     bound_names = sound.bound_names;
+    closed_names = sound.closed_names;
+  }
+
+  -- the first values alone
+  pub sound_taken : (count : ℕ) → IsSound names list (take count stack) scopes closed
+  sound_taken count = record {
+    first = sound.first;
+    few = sound.few;
+    handles = all-take (has_handles_below (length list.nodes)) count stack sound.handles;
+    words = all-take (has_known_name names) count stack sound.words;
+    node_names = sound.node_names;
+    bound_names = sound.bound_names;
+    closed_names = sound.closed_names;
+  }
+
+  -- other names that are known are bound
+  pub sound_bound : (others : ScopeList NameId) (lists : List (ClosedList NameId)) → all_named (is_known names) others ≡ true
+      → list_all (λ (one : ClosedList NameId). has_known_entries names one.entries) lists ≡ true → IsSound names list stack others lists
+  sound_bound others lists bound kept = record {
+    first = sound.first;
+    few = sound.few;
+    handles = sound.handles;
+    words = sound.words;
+    node_names = sound.node_names;
+    bound_names = bound;
+    closed_names = kept;
   }
 
 -- The value that is taken

@@ -5,3 +5,7 @@ pub mod Giving
 pub mod Asking
 pub mod Making
 pub mod Soundness
+pub mod Groups
+pub mod Parameters
+pub mod Looking
+pub mod OnlyTrees

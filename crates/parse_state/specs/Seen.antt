@@ -3,17 +3,19 @@ use Rattle.std.specs.Prelude.{ℕ, List, map, reverse, length, Option, option_ma
 use Rattle.meaning_tree.specs.Trees.{SyntaxTree}
 use Rattle.meaning_tree.specs.Nodes.{NodeList}
 use Rattle.meaning_tree.specs.Listed.{trees_of, tree_at, parts_at, renamed_list}
-use Rattle.meaning_scopes.specs.Scopes.{ScopeList, renamed}
+use Rattle.meaning_scopes.specs.Scopes.{ScopeList, renamed, renamed_entry}
 use Rattle.meaning_derivation.specs.Values.{WordValue, TreeValue, ListValue}
 use Rattle.meaning_derivation.specs.Values as values
-use Rattle.meaning_derivation.specs.State.{State, Passed, Held}
+use Rattle.meaning_derivation.specs.State.{ClosedList, State, Passed, Held}
 use Rattle.meaning_derivation.specs.Shapes as shapes
 use Rattle.sparse_model.specs.declared.ids.NameId.{NameId}
 use Rattle.c_tokens.specs.Seen.{text_of}
+use Rattle.c_scope.specs.Seen.{entry_of}
 use Rattle.parse_state.specs.declared.value.Value.{Value}
 use Rattle.parse_state.specs.declared.value.Value.TheVariants as kinds
 use Rattle.parse_state.specs.declared.marks.PassedLimit.{PassedLimit}
 use Rattle.parse_state.specs.declared.marks.HeldError.{HeldError}
+use Rattle.parse_state.specs.declared.marks.ClosedParameters.{ClosedParameters}
 use Rattle.parse_state.specs.declared.shape.Source.{Source}
 use Rattle.parse_state.specs.declared.shape.Source.TheVariants as sources
 
@@ -41,6 +43,14 @@ passed_of passed = record { limit = passed.limit; terminal = passed.terminal }
 abbrev pub held_of : HeldError → Held
 held_of held = record { kind = held.kind; token = held.token }
 
+-- a parameter list that was closed
+abbrev pub closed_seen : ClosedParameters → ClosedList NameId
+closed_seen closed = record { token = closed.token; entries = map entry_of closed.bindings.items }
+
+-- the same by its spellings
+abbrev pub closed_of : List (List ℕ) → ClosedList NameId → ClosedList (List ℕ)
+closed_of names closed = record { token = closed.token; entries = map (renamed_entry (text_of names)) closed.entries }
+
 -- What was read, by its ids and handles
 pub record Read : Type 0 where
   -- the spellings of the ids
@@ -55,6 +65,8 @@ pub record Read : Type 0 where
   pub passed : Option PassedLimit
   pub held : Option HeldError
   pub function_end : Option ℕ
+  pub closed : List (ClosedList NameId)
+  pub awaited : Option ℕ
 
 -- the state of a derivation that it is
 abbrev pub state_of : Read → State
@@ -69,6 +81,8 @@ state_of read =
       passed = option_map passed_of read.passed;
       held = option_map held_of read.held;
       function_end = read.function_end;
+      closed = map (closed_of read.names) read.closed;
+      awaited = read.awaited;
     }
 
 -- where parts come from

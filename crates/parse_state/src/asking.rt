@@ -1,6 +1,6 @@
 // What is asked of the last values: by how far each stands below the top.
 ghost use Rattle.std.specs.Prelude.{◌≡◌, reverse, slice_get};
-ghost use Rattle.parse_state.specs.Asking.{handle_in, name_in, name_in_at, token_in};
+ghost use Rattle.parse_state.specs.Asking.{count_in, handle_in, name_in, name_in_at, token_in};
 
 use crate::children::value_at;
 use crate::state::ParseState;
@@ -18,8 +18,8 @@ fn token_at(values: &[Value], depth: usize) -> u32
     }
 }
 
-// The spelling of a word, which is empty for a value that is none.
-fn name_at(values: &[Value], depth: usize) -> NameId
+/// The spelling of a word, which is empty for a value that is none.
+pub(crate) fn name_at(values: &[Value], depth: usize) -> NameId
     ensures { result ≡ name_in (slice_get (reverse values.now) depth) }
 {
     match value_at(values, depth) {
@@ -28,13 +28,23 @@ fn name_at(values: &[Value], depth: usize) -> NameId
     }
 }
 
-// The node of a tree.
-fn tree_at(values: &[Value], depth: usize) -> Option<Handle>
+/// The node of a tree.
+pub(crate) fn tree_at(values: &[Value], depth: usize) -> Option<Handle>
     ensures { result ≡ handle_in (slice_get (reverse values.now) depth) }
 {
     match value_at(values, depth) {
         Some(Value::Tree(handle)) => Some(*handle),
         _ => None,
+    }
+}
+
+/// How many trees a list has.
+pub(crate) fn count_at(values: &[Value], depth: usize) -> u32
+    ensures { result ≡ count_in (slice_get (reverse values.now) depth) }
+{
+    match value_at(values, depth) {
+        Some(Value::List(children)) => children.len(),
+        _ => 0,
     }
 }
 

@@ -8,16 +8,21 @@
 mod asking;
 mod children;
 mod fault;
+mod looking;
 mod marks;
 mod nodes;
+mod parameters;
+mod row;
 mod scoping;
 mod shape;
 mod stacking;
 mod state;
+mod unwrapping;
 mod value;
 
 pub use fault::ActionFault;
 pub use marks::{HeldError, PassedLimit};
+pub use row::{Place, Row};
 pub use shape::{Shape, Source};
 pub use state::ParseState;
 pub use value::Value;

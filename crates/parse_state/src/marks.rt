@@ -1,4 +1,5 @@
 // What was noted, and is told later.
+use c_scope::Binding;
 use vocabulary::{ErrorKind, LimitKind};
 
 /// A limit, and the terminal that passed it, counted from 0.
@@ -13,4 +14,11 @@ pub struct PassedLimit {
 pub struct HeldError {
     pub kind: ErrorKind,
     pub token: u32,
+}
+
+/// The parameter list of a declaration at file scope, which was closed: the token at which it begins, and what it bound.
+#[derive(Drop)]
+pub(crate) struct ClosedParameters {
+    pub token: u32,
+    pub bindings: Vec<Binding>,
 }

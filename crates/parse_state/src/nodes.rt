@@ -52,8 +52,8 @@ fn add_node(
     }
 }
 
-// What stands where memory ran out: nothing.
-fn forget(alloc: Global, values: &mut Vec<Value>, unit: &mut Unit)
+/// What stands where memory ran out: nothing.
+pub(crate) fn forget(alloc: Global, values: &mut Vec<Value>, unit: &mut Unit)
     ensures values { values.new.items ≡ [] }
     ensures unit { unit.new ≡ record { first = 0; nodes = [] } }
 {

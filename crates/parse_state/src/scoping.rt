@@ -1,7 +1,9 @@
 // The names that are visible.
+use crate::asking::name_at;
 use crate::marks::{HeldError, PassedLimit};
 use crate::state::ParseState;
-use c_scope::Scopes;
+use c_scope::{Bound, NameSpace, Scopes};
+use c_tree::Handle;
 use sparse_model::NameId;
 use std::alloc::AllocError;
 use vocabulary::TokenClass;
@@ -11,7 +13,8 @@ impl<'t> ParseState<'t> {
     ghost use Rattle.std.specs.Str.{bytes_eq};
     ghost use Rattle.meaning_scopes.specs.Scopes.{Opened, is_open, without_scope};
     ghost use Rattle.meaning_scopes.specs.Classes.{class_of_name};
-    ghost use Rattle.meaning_derivation.specs.Scoping.{with_scopes};
+    ghost use Rattle.meaning_derivation.specs.Values.{text_of as text_below, value_at as value_below};
+    ghost use Rattle.meaning_derivation.specs.Scoping.{bound, with_scopes};
     ghost use Rattle.c_tokens.specs.Seen.{IsKnown, text_of};
     ghost use Rattle.parse_state.specs.Seen.{held_of, passed_of, state_of};
 
@@ -29,6 +32,23 @@ impl<'t> ParseState<'t> {
         ensures { result ≡ is_open (state_of self.now).scopes }
     {
         self.scopes.is_open()
+    }
+
+    /// Binds the spelling of a word in the innermost scope: it stands for what this number says.
+    pub fn bind(
+        &mut self,
+        space: NameSpace,
+        depth: usize,
+        declaration: Handle,
+        kind: Bound,
+    ) -> Result<(), AllocError>
+        ensures ok { OnOk result (state_of self.new ≡ bound (state_of self.old) space (text_below (value_below (state_of self.old).values depth)) declaration kind) }
+        ensures names { self.new.names ≡ self.old.names }
+    {
+        self.names.apart();
+        let name = name_at(&self.values, depth);
+        self.scopes.bind(space, name, declaration, kind)?;
+        Ok(())
     }
 
     /// Opens a scope.

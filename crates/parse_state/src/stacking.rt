@@ -12,10 +12,10 @@ use vocabulary::LimitKind;
 const MOST_PENDING: usize = 65_536;
 
 impl<'t> ParseState<'t> {
-    ghost use Rattle.std.specs.Prelude.{◌≡◌, ◌+◌, ◌<◌, ◌^◌, OnErr, OnOk, Some};
+    ghost use Rattle.std.specs.Prelude.{◌≡◌, ◌+◌, ◌<◌, ◌^◌, OnErr, OnOk, Some, drop};
     ghost use Rattle.meaning_tree.specs.Trees.{NoParts};
     ghost use Rattle.meaning_derivation.specs.Values.{ListValue, WordValue};
-    ghost use Rattle.meaning_derivation.specs.State.{pushed, with_limit, with_waiting};
+    ghost use Rattle.meaning_derivation.specs.State.{pushed, with_limit, with_values, with_waiting};
     ghost use Rattle.meaning_derivation.specs.Scoping.{place};
     ghost use Rattle.c_tokens.specs.Seen.{IsKnown, text_of};
     ghost use Rattle.parse_state.specs.Seen.{state_of};
@@ -51,6 +51,14 @@ impl<'t> ParseState<'t> {
         let list = TagList::new(self.alloc);
         self.values.push(Value::List(list))?;
         Ok(())
+    }
+
+    /// The last value goes.
+    pub fn drop_top(&mut self)
+        ensures state { state_of self.new ≡ with_values (state_of self.old) (drop 1 (state_of self.old).values) }
+        ensures names { self.new.names ≡ self.old.names }
+    {
+        self.values.truncate(self.values.len().saturating_sub(1));
     }
 
     /// The next terminal was taken; behind it comes the token with this index. More than 2^32 of them are want of memory.

@@ -1,5 +1,5 @@
 // What was read so far, and what is asked of it.
-use crate::marks::{HeldError, PassedLimit};
+use crate::marks::{ClosedParameters, HeldError, PassedLimit};
 use crate::value::Value;
 use c_scope::Scopes;
 use c_tokens::Names;
@@ -24,10 +24,13 @@ pub struct ParseState<'t> {
     pub(crate) passed: Option<PassedLimit>,
     pub(crate) held: Option<HeldError>,
     pub(crate) function_end: Option<u32>,
+    pub(crate) closed: Vec<ClosedParameters>,
+    pub(crate) awaited: Option<u32>,
 }
 
 impl<'t> Model for ParseState<'t> {
-    ghost use Rattle.parse_state.specs.Seen.{Read};
+    ghost use Rattle.std.specs.Prelude.{map};
+    ghost use Rattle.parse_state.specs.Seen.{Read, closed_seen};
     ghost use Rattle.parse_state.specs.Soundness.{IsSound};
 
     ghost Value = { Read };
@@ -43,9 +46,11 @@ impl<'t> Model for ParseState<'t> {
       passed = s.passed;
       held = s.held;
       function_end = s.function_end;
+      closed = map closed_seen s.closed.items;
+      awaited = s.awaited;
     } };
 
-    ghost invariant = { λ s. IsSound s.names.now s.unit s.values.items s.scopes };
+    ghost invariant = { λ s. IsSound s.names.now s.unit s.values.items s.scopes (map closed_seen s.closed.items) };
 }
 
 impl<'t> ParseState<'t> {
@@ -55,7 +60,7 @@ impl<'t> ParseState<'t> {
     /// The state before the first terminal, which is the token with this index. It takes no memory.
     pub fn new(alloc: Global, names: &'t Names, next_token: u32, last_token: u32) -> ParseState<'t>
         ensures names { result.names ≡ names.now }
-        ensures state { state_of result ≡ record { taken = 0; next_token = next_token; last_token = last_token; values = []; scopes = []; nodes = 0; passed = None; held = None; function_end = None } }
+        ensures state { state_of result ≡ record { taken = 0; next_token = next_token; last_token = last_token; values = []; scopes = []; nodes = 0; passed = None; held = None; function_end = None; closed = []; awaited = None } }
     {
         names.apart();
         ParseState {
@@ -70,6 +75,8 @@ impl<'t> ParseState<'t> {
             passed: None,
             held: None,
             function_end: None,
+            closed: Vec::new(alloc),
+            awaited: None,
         }
     }
 }

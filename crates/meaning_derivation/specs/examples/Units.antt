@@ -1,5 +1,5 @@
 -- Worked examples: short units, and the trees that they derive or what is told of them.
-use Rattle.std.specs.Prelude.{◌≡◌, ℕ, Option, Some, None, List, [], ◌∷◌, ◌++◌, codes}
+use Rattle.std.specs.Prelude.{◌≡◌, ℕ, Bool, true, false, Option, Some, None, List, [], ◌∷◌, ◌++◌, codes}
 use Rattle.vocabulary.specs.declared.int_kind.IntKind.TheVariants.{Int}
 use Rattle.vocabulary.specs.declared.error_kind.ErrorKind.TheVariants.{SyntaxError, NotDeclared, Redeclared, FloatingType, NestedFunction, ComputedGoto}
 use Rattle.vocabulary.specs.declared.limit.LimitKind.TheVariants.{ParseStack}
@@ -128,6 +128,29 @@ pub record TreeExamples : Type 0 where
       NoParts)))))
       NoParts)))
       NoParts)
+
+-- a unit is read
+abbrev pub is_read : Shown → Bool
+is_read (IsLeft values) = true
+is_read told = false
+
+-- Parameters are in scope in their function's body and nowhere else (6.2.1 p4).
+pub record BodyExamples : Type 0 where
+  -- they are declared there
+  pub parameter : is_read (unit (codes "void f(int a) { a = a; }")) ≡ true
+  -- in the outermost block, where no other declaration has that name
+  pub redeclared : unit (codes "void f(int a) { int a; }") ≡ IsTold (IsError Redeclared) 8 8
+  pub hidden : is_read (unit (codes "void f(int a) { { int a; } }")) ≡ true
+  -- of two lists the one at the name is the function's
+  pub own : is_read (unit (codes "int (*f(int a))(int b) { return a; }")) ≡ true
+  pub other : unit (codes "int (*f(int a))(int b) { return b; }") ≡ IsTold (IsError NotDeclared) 15 15
+  -- a list within another one isn't, and one of an earlier declaration isn't either
+  pub inner : unit (codes "void f(int g(int a)) { a; }") ≡ IsTold (IsError NotDeclared) 11 11
+  pub earlier : unit (codes "void f(int a); void g(void) { a; }") ≡ IsTold (IsError NotDeclared) 13 13
+  -- a name of a type is hidden by a parameter
+  pub hides : is_read (unit (codes "typedef int t; void f(int t) { t = 1; }")) ≡ true
+  -- a body that is no function's opens a scope of its own
+  pub own_scope : unit (codes "void f(int a) { { int b; } b; }") ≡ IsTold (IsError NotDeclared) 12 12
 
 -- Operators of one level, one behind the other (C11 6.5.5 to 6.5.14)
 

@@ -20,6 +20,20 @@ returns-clause-trees c = record {
   declarator = refl;
 }
 
+pub returns-clause-bodies : goal.returns-clause-bodies
+unfolding opened
+returns-clause-bodies c = record {
+  parameter = refl;
+  redeclared = refl;
+  hidden = refl;
+  own = refl;
+  other = refl;
+  inner = refl;
+  earlier = refl;
+  hides = refl;
+  own_scope = refl;
+}
+
 pub returns-clause-chains : goal.returns-clause-chains
 unfolding opened
 returns-clause-chains c = record {

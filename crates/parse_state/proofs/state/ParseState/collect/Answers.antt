@@ -1,10 +1,10 @@
-use Rattle.std.proofs.Common.{◌≡◌, ℕ, ◌-◌, List, ◌∷◌, [], ◌++◌, drop, take, length, reverse, sym, ap, subst, ◌∙◌, arith}
+use Rattle.std.proofs.Common.{◌≡◌, ℕ, ◌-◌, List, ◌∷◌, [], ◌++◌, drop, take, length, reverse, sym, ap, subst, ◌∙◌, arith, map}
 use Rattle.std.proofs.lemmas.Result.{on_ok_weaker}
 use Rattle.meaning_derivation.specs.Values.{ListValue, sorts_of}
 use Rattle.meaning_derivation.specs.State.{with_value}
 use Rattle.parse_state.specs.declared.value.Value.{Value}
 use Rattle.parse_state.specs.declared.value.Value.TheVariants as kinds
-use Rattle.parse_state.specs.Seen.{Read, state_of}
+use Rattle.parse_state.specs.Seen.{Read, closed_seen, state_of}
 use Rattle.parse_state.specs.Sources.{covers, parts_given}
 use Rattle.parse_state.specs.Giving.{children_in}
 use Rattle.parse_state.specs.Soundness.{IsSound}
@@ -19,9 +19,9 @@ put_list-collected-requires-clause-small c =
 
 pub invariant_of-self-else-is_err : goal.invariant_of-self-else-is_err
 invariant_of-self-else-is_err c =
-    subst (λ (items : List Value). IsSound c.self.inside.names.now c.self.inside.unit items c.self.inside.scopes)
+    subst (λ (items : List Value). IsSound c.self.inside.names.now c.self.inside.unit items c.self.inside.scopes (map closed_seen c.self.inside.closed.items))
     (sym (from_ok c.put_list-collected.result (sym c.is_err.ensures.value ∙ c.if-is_err.false) c.put_list-collected.ensures))
-    (sound_collected c.self.inside.names.now c.self.inside.unit c.self.inside.values.items c.self.inside.scopes c.self.invariant c.saturating_sub-from.result c.args.sources.now)
+    (sound_collected c.self.inside.names.now c.self.inside.unit c.self.inside.values.items c.self.inside.scopes (map closed_seen c.self.inside.closed.items) c.self.invariant c.saturating_sub-from.result c.args.sources.now)
 
 pub returns-else-is_err-clause-list : goal.returns-else-is_err-clause-list
 returns-else-is_err-clause-list c =
@@ -37,6 +37,8 @@ returns-else-is_err-clause-list c =
       passed = c.self.inside.passed;
       held = c.self.inside.held;
       function_end = c.self.inside.function_end;
+      closed = map closed_seen c.self.inside.closed.items;
+      awaited = c.self.inside.awaited;
     } in
     let from : c.saturating_sub-from.result ≡ length c.self.inside.values.items - c.args.takes = omega arith in
     on_ok_weaker c.put_list-collected.result

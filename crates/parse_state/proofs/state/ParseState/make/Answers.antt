@@ -1,12 +1,12 @@
 -- The node that was added is that of the shape, and all goes on being sound.
-use Rattle.std.proofs.Common.{◌≡◌, ℕ, ◌<◌, List, [], ◌∷◌, ◌++◌, drop, take, length, reverse, true, false, is_err, sym, ap, ap₂, subst, ◌∙◌, arith}
+use Rattle.std.proofs.Common.{◌≡◌, ℕ, ◌<◌, List, [], ◌∷◌, ◌++◌, drop, take, length, reverse, true, false, is_err, sym, ap, ap₂, subst, ◌∙◌, arith, map}
 use Rattle.meaning_tree.specs.Nodes.{NodeList, end_of, with_node}
 use Rattle.meaning_derivation.specs.Values.{sorts_of}
 use Rattle.meaning_derivation.specs.State.{Goes, made}
 use Rattle.sparse_model.specs.declared.ids.NameId.{NameId}
 use Rattle.parse_state.specs.declared.value.Value.{Value}
 use Rattle.parse_state.specs.declared.value.Value.TheVariants.{Tree}
-use Rattle.parse_state.specs.Seen.{Read, state_of}
+use Rattle.parse_state.specs.Seen.{Read, closed_seen, state_of}
 use Rattle.parse_state.specs.Sources.{covers, made_tree}
 use Rattle.parse_state.specs.Giving.{children_in}
 use Rattle.parse_state.specs.Making.{start_of, node_with}
@@ -32,9 +32,9 @@ invariant_of-self-else-is_err c =
     let children : List (ℕ × ℕ) = children_in (drop (start_of items shape.takes) items) shape.sources.now in
     let known : is_known c.self.inside.names.now c.name_of_word-name.result ≡ true =
     ap (is_known c.self.inside.names.now) here ∙ known_name c.self.inside.names.now c.apart.ensures.empty items shape.name c.self.invariant.words in
-    subst (λ (list : NodeList NameId). IsSound c.self.inside.names.now list c.add_node-added.new.values.items c.self.inside.scopes) (sym unit_is)
-    (subst (λ (stack : List Value). IsSound c.self.inside.names.now (with_node c.self.inside.unit (node_with shape c.name_of_word-name.result children)) stack c.self.inside.scopes) (sym values_are)
-    (sound_made c.self.inside.names.now c.self.inside.unit items c.self.inside.scopes c.self.invariant (start_of items shape.takes) (node_with shape c.name_of_word-name.result children) room known))
+    subst (λ (list : NodeList NameId). IsSound c.self.inside.names.now list c.add_node-added.new.values.items c.self.inside.scopes (map closed_seen c.self.inside.closed.items)) (sym unit_is)
+    (subst (λ (stack : List Value). IsSound c.self.inside.names.now (with_node c.self.inside.unit (node_with shape c.name_of_word-name.result children)) stack c.self.inside.scopes (map closed_seen c.self.inside.closed.items)) (sym values_are)
+    (sound_made c.self.inside.names.now c.self.inside.unit items c.self.inside.scopes (map closed_seen c.self.inside.closed.items) c.self.invariant (start_of items shape.takes) (node_with shape c.name_of_word-name.result children) room known))
 
 pub returns-clause-goes : goal.returns-clause-goes
 returns-clause-goes c =
@@ -50,6 +50,8 @@ returns-clause-goes c =
       passed = c.self.inside.passed;
       held = c.self.inside.held;
       function_end = c.self.inside.function_end;
+      closed = map closed_seen c.self.inside.closed.items;
+      awaited = c.self.inside.awaited;
     } in
     let shape = c.args.shape.now in
     let items = c.self.inside.values.items in

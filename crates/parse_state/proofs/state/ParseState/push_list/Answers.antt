@@ -1,11 +1,11 @@
-use Rattle.std.proofs.Common.{ℕ, List, ap, ◌∙◌}
+use Rattle.std.proofs.Common.{ℕ, List, ap, ◌∙◌, map}
 use Rattle.meaning_tree.specs.Trees.{NoParts}
 use Rattle.meaning_tree.specs.Listed.{parts_at}
 use Rattle.meaning_derivation.specs.Values.{ListValue}
 use Rattle.meaning_derivation.specs.State.{pushed}
 use Rattle.parse_state.specs.declared.value.Value.{Value}
 use Rattle.parse_state.specs.declared.value.Value.TheVariants as kinds
-use Rattle.parse_state.specs.Seen.{Read, state_of, spelled_trees}
+use Rattle.parse_state.specs.Seen.{Read, closed_seen, state_of, spelled_trees}
 use Rattle.parse_state.proofs.Making.{with_stack, pushed_is}
 use Rattle.parse_state.proofs.state.ParseState.push_list.Goals as goal
 
@@ -23,6 +23,8 @@ returns-clause-list c =
       passed = c.self.inside.passed;
       held = c.self.inside.held;
       function_end = c.self.inside.function_end;
+      closed = map closed_seen c.self.inside.closed.items;
+      awaited = c.self.inside.awaited;
     } in
     ap (λ (items : List Value). state_of (with_stack read items)) c.in_ok-push.ensures.items
     ∙ pushed_is read (kinds.List c.new-list.result)

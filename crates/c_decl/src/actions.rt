@@ -1,0 +1,68 @@
+// What comes of each action.
+ghost use Rattle.std.specs.Prelude.{◌≡◌, false, IfErr, IsSome, OnOk};
+ghost use Rattle.vocabulary.specs.declared.production_item.ProductionItem.TheVariants.{Do};
+ghost use Rattle.meaning_grammar.specs.Sorts.{effect};
+ghost use Rattle.meaning_derivation.specs.Values.{sorts_of};
+ghost use Rattle.meaning_derivation.specs.State.{Goes};
+ghost use Rattle.meaning_derivation.specs.Actions.{act as outcome_of};
+ghost use Rattle.parse_state.specs.Groups.{is_expression_action};
+ghost use Rattle.parse_state.specs.Seen.{state_of};
+ghost use Rattle.parse_state.specs.Steps.{IsToldBy};
+
+use crate::attributes::append_attribute;
+use crate::functions::{
+    append_declarator, begin_declarators, close_parameters, make_file_specifiers,
+    note_function_declarator, open_body,
+};
+use crate::names::{put_no_tag, use_typedef_name};
+use crate::nodes::make_node;
+use crate::tags::{define_tag, use_tag};
+use parse_state::{ActionFault, ParseState};
+use vocabulary::Action;
+
+/// Does what an action says, on values of the sorts that it takes. Where memory runs out nothing is said of what is left.
+pub fn act(state: &mut ParseState<'_>, action: Action) -> Result<(), ActionFault>
+    requires finds { IsSome (effect (Do action) (sorts_of (state_of state.old).values)) }
+    requires own { is_expression_action action ≡ false }
+    ensures goes { OnOk result (outcome_of action (state_of state.old) ≡ Goes (state_of state.new)) }
+    ensures told { IfErr result (IsToldBy (outcome_of action (state_of state.old))) }
+    ensures names { state.new.names ≡ state.old.names }
+{
+    match action {
+        Action::BeginDeclarators => begin_declarators(state),
+        Action::AppendDeclarator => append_declarator(state),
+        Action::NoteFunctionDeclarator => {
+            note_function_declarator(state);
+            Ok(())
+        }
+        Action::AwaitBody => {
+            state.await_body(1);
+            Ok(())
+        }
+        Action::MakeFileSpecifiers => make_file_specifiers(state),
+        Action::CloseParameters => close_parameters(state),
+        Action::OpenBody => open_body(state),
+        Action::RequireType => Ok(()),
+        Action::RequireTypeOrAttributes => Ok(()),
+        Action::DeclareTag => Ok(()),
+        Action::UseTypedefName => use_typedef_name(state),
+        Action::WithoutTag => put_no_tag(state),
+        Action::DefineTag => define_tag(state),
+        Action::UseTag => use_tag(state),
+        Action::AppendAttribute => {
+            append_attribute(state);
+            Ok(())
+        }
+        Action::AppendLeadingAttributes
+        | Action::BindDeclarator
+        | Action::BindFurtherDeclarator
+        | Action::BindEnumerator
+        | Action::BindParameter
+        | Action::JoinParts
+        | Action::JoinAnyParts
+        | Action::JoinSuffixes
+        | Action::MakeParenthesizedAttributes
+        | Action::MakeOptionalDeclarator => Err(ActionFault::Memory),
+        _ => make_node(state, action),
+    }
+}

@@ -1,0 +1,94 @@
+// Functions and their bodies (C11 6.9.1), and declarators in a row (6.7).
+ghost use Rattle.std.specs.Prelude.{◌≡◌, IfErr, IsSome, OnOk};
+ghost use Rattle.vocabulary.specs.declared.action.Action.TheVariants.{AppendDeclarator, BeginDeclarators, CloseParameters, MakeFileSpecifiers, NoteFunctionDeclarator, OpenBody};
+ghost use Rattle.vocabulary.specs.declared.production_item.ProductionItem.TheVariants.{Do};
+ghost use Rattle.meaning_grammar.specs.Sorts.{effect};
+ghost use Rattle.meaning_derivation.specs.Values.{sorts_of};
+ghost use Rattle.meaning_derivation.specs.State.{Goes};
+ghost use Rattle.meaning_derivation.specs.Actions.{act};
+ghost use Rattle.parse_state.specs.Seen.{state_of};
+ghost use Rattle.parse_state.specs.Steps.{IsToldBy};
+
+use parse_state::{ActionFault, ParseState, Place, Row, Source};
+use vocabulary::{NodeKind, Role};
+
+/// The list of declarators, with the first one and its attributes in it.
+pub fn begin_declarators(state: &mut ParseState<'_>) -> Result<(), ActionFault>
+    requires finds { IsSome (effect (Do BeginDeclarators) (sorts_of (state_of state.old).values)) }
+    ensures goes { OnOk result (act BeginDeclarators (state_of state.old) ≡ Goes (state_of state.new)) }
+    ensures told { IfErr result (IsToldBy (act BeginDeclarators (state_of state.old))) }
+    ensures names { state.new.names ≡ state.old.names }
+{
+    state.collect(
+        2,
+        &[Source::OneTree(Role::Evaluated, 1), Source::AllTrees(0)],
+    )?;
+    Ok(())
+}
+
+/// A further declarator and its attributes at the end of that list.
+pub fn append_declarator(state: &mut ParseState<'_>) -> Result<(), ActionFault>
+    requires finds { IsSome (effect (Do AppendDeclarator) (sorts_of (state_of state.old).values)) }
+    ensures goes { OnOk result (act AppendDeclarator (state_of state.old) ≡ Goes (state_of state.new)) }
+    ensures told { IfErr result (IsToldBy (act AppendDeclarator (state_of state.old))) }
+    ensures names { state.new.names ≡ state.old.names }
+{
+    state.collect(
+        3,
+        &[
+            Source::AllTrees(2),
+            Source::OneTree(Role::Evaluated, 1),
+            Source::AllTrees(0),
+        ],
+    )?;
+    Ok(())
+}
+
+/// Behind a function's declarator in a body no body follows.
+pub fn note_function_declarator(state: &mut ParseState<'_>)
+    ensures goes { act NoteFunctionDeclarator (state_of state.old) ≡ Goes (state_of state.new) }
+    ensures names { state.new.names ≡ state.old.names }
+{
+    if state.own_parameters(1).is_some() {
+        state.note_function_end();
+    }
+}
+
+/// The specifiers of a declaration at file scope. No list of an earlier declaration is its function's.
+pub fn make_file_specifiers(state: &mut ParseState<'_>) -> Result<(), ActionFault>
+    requires finds { IsSome (effect (Do MakeFileSpecifiers) (sorts_of (state_of state.old).values)) }
+    ensures goes { OnOk result (act MakeFileSpecifiers (state_of state.old) ≡ Goes (state_of state.new)) }
+    ensures told { IfErr result (IsToldBy (act MakeFileSpecifiers (state_of state.old))) }
+    ensures names { state.new.names ≡ state.old.names }
+{
+    state.forget_closed();
+    state.make_row(&Row {
+        takes: 2,
+        kind: NodeKind::Specifiers,
+        place: Place::AtWord(1),
+        name: None,
+        number: None,
+        sources: &[Source::AllTrees(0)],
+    })
+}
+
+/// The end of a parameter list.
+pub fn close_parameters(state: &mut ParseState<'_>) -> Result<(), ActionFault>
+    ensures goes { OnOk result (act CloseParameters (state_of state.old) ≡ Goes (state_of state.new)) }
+    ensures told { IfErr result (IsToldBy (act CloseParameters (state_of state.old))) }
+    ensures names { state.new.names ≡ state.old.names }
+{
+    let token = state.token(1);
+    state.close_parameters(token)?;
+    Ok(())
+}
+
+/// The beginning of a body.
+pub fn open_body(state: &mut ParseState<'_>) -> Result<(), ActionFault>
+    ensures goes { OnOk result (act OpenBody (state_of state.old) ≡ Goes (state_of state.new)) }
+    ensures told { IfErr result (IsToldBy (act OpenBody (state_of state.old))) }
+    ensures names { state.new.names ≡ state.old.names }
+{
+    state.open_body()?;
+    Ok(())
+}

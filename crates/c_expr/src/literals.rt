@@ -1,0 +1,80 @@
+// The nodes of literals, with the kinds and numbers of their values (C11 6.4.4, 6.4.5). What has no value is an int of 0.
+ghost use Rattle.std.specs.Prelude.{◌≡◌, IfErr, IsSome, OnOk};
+ghost use Rattle.vocabulary.specs.declared.action.Action.TheVariants.{MakeCharacterConstant, MakeIntegerConstant};
+ghost use Rattle.vocabulary.specs.declared.production_item.ProductionItem.TheVariants.{Do};
+ghost use Rattle.meaning_literals.specs.Integers.{integer_of};
+ghost use Rattle.meaning_literals.specs.Quoted.{char_of};
+ghost use Rattle.meaning_grammar.specs.Sorts.{effect};
+ghost use Rattle.meaning_derivation.specs.Values.{sorts_of};
+ghost use Rattle.meaning_derivation.specs.State.{Goes};
+ghost use Rattle.meaning_derivation.specs.Literals.{constant_or_zero};
+ghost use Rattle.meaning_derivation.specs.Actions.{act};
+ghost use Rattle.c_literals.specs.Seen.{constant_seen};
+ghost use Rattle.parse_state.specs.Seen.{state_of};
+ghost use Rattle.parse_state.specs.Steps.{IsToldBy};
+
+use c_literals::{read_char, read_integer};
+use parse_state::{ActionFault, ParseState, Shape};
+use sparse_model::{IntConst, IntKind};
+use vocabulary::NodeKind;
+
+/// An integer constant.
+pub fn make_integer(state: &mut ParseState<'_>) -> Result<(), ActionFault>
+    requires finds { IsSome (effect (Do MakeIntegerConstant) (sorts_of (state_of state.old).values)) }
+    ensures goes { OnOk result (act MakeIntegerConstant (state_of state.old) ≡ Goes (state_of state.new)) }
+    ensures told { IfErr result (IsToldBy (act MakeIntegerConstant (state_of state.old))) }
+    ensures names { state.new.names ≡ state.old.names }
+{
+    let constant = integer_or_zero(state.spelling(0));
+    let token = state.token(0);
+    state.make(&Shape {
+        takes: 1,
+        kind: NodeKind::IntegerConstant(constant.kind),
+        token,
+        name: None,
+        number: constant.bits,
+        sources: &[],
+    })
+}
+
+/// A character constant.
+pub fn make_character(state: &mut ParseState<'_>) -> Result<(), ActionFault>
+    requires finds { IsSome (effect (Do MakeCharacterConstant) (sorts_of (state_of state.old).values)) }
+    ensures goes { OnOk result (act MakeCharacterConstant (state_of state.old) ≡ Goes (state_of state.new)) }
+    ensures told { IfErr result (IsToldBy (act MakeCharacterConstant (state_of state.old))) }
+    ensures names { state.new.names ≡ state.old.names }
+{
+    let constant = character_or_zero(state.spelling(0));
+    let token = state.token(0);
+    state.make(&Shape {
+        takes: 1,
+        kind: NodeKind::CharacterConstant(constant.kind),
+        token,
+        name: None,
+        number: constant.bits,
+        sources: &[],
+    })
+}
+
+fn integer_or_zero(text: &[u8]) -> IntConst
+    ensures { constant_seen result ≡ constant_or_zero (integer_of text.now) }
+{
+    match read_integer(text) {
+        Ok(constant) => constant,
+        Err(_) => ZERO,
+    }
+}
+
+fn character_or_zero(text: &[u8]) -> IntConst
+    ensures { constant_seen result ≡ constant_or_zero (char_of text.now) }
+{
+    match read_char(text) {
+        Ok(constant) => constant,
+        Err(_) => ZERO,
+    }
+}
+
+const ZERO: IntConst = IntConst {
+    kind: IntKind::Int,
+    bits: 0,
+};

@@ -1,0 +1,34 @@
+-- What comes of the items comes of the tokens.
+use Rattle.std.proofs.Common.{[]}
+use Rattle.meaning_derivation.specs.State.{Done}
+use Rattle.parse_state.specs.Seen.{state_of}
+use Rattle.c_tokens.specs.Seen.{toks_of}
+use Rattle.c_parse.specs.Answers.{IsFaultOf}
+use Rattle.c_parse.proofs.Told.{passed_on}
+use Rattle.c_parse.proofs.Running.{begins_first, told_on, told_of_unit, only_tree, tree_of_unit}
+use Rattle.c_parse.proofs.parsing.parse.Goals as goal
+
+pub returns-in_err-run-clause-fault : goal.returns-in_err-run-clause-fault
+returns-in_err-run-clause-fault c =
+    let first = begins_first (toks_of c.args.names.now c.args.tokens.now) c.in_ok-parser.parser.pending (state_of c.in_ok-parser.parser.state) c.in_ok-parser.parser.terminals.terminals
+    c.in_ok-parser.ensures.items c.in_ok-parser.ensures.state c.in_ok-parser.ensures.terminals in
+    passed_on (IsFaultOf (toks_of c.args.names.now c.args.tokens.now)) _ c.from_residual-in_err-run.result c.from_residual-in_err-run.ensures.1
+    (told_of_unit (toks_of c.args.names.now c.args.tokens.now) _ _ first c.in_err-run.ensures.told)
+
+pub returns-in_err-end-clause-fault : goal.returns-in_err-end-clause-fault
+returns-in_err-end-clause-fault c =
+    let first = begins_first (toks_of c.args.names.now c.args.tokens.now) c.in_ok-parser.parser.pending (state_of c.in_ok-parser.parser.state) c.in_ok-parser.parser.terminals.terminals
+    c.in_ok-parser.ensures.items c.in_ok-parser.ensures.state c.in_ok-parser.ensures.terminals in
+    passed_on (IsFaultOf (toks_of c.args.names.now c.args.tokens.now)) _ c.from_residual-in_err-end.result c.from_residual-in_err-end.ensures.1
+    (told_of_unit (toks_of c.args.names.now c.args.tokens.now) _ _ first (told_on _ _ _ c.in_ok-run.ensures.leads c.in_err-end.ensures.told))
+
+pub returns-clause-tree : goal.returns-clause-tree
+returns-clause-tree c =
+    let first = begins_first (toks_of c.args.names.now c.args.tokens.now) c.in_ok-parser.parser.pending (state_of c.in_ok-parser.parser.state) c.in_ok-parser.parser.terminals.terminals
+    c.in_ok-parser.ensures.items c.in_ok-parser.ensures.state c.in_ok-parser.ensures.terminals in
+    let found = only_tree (state_of c.end.new.parser.state).values c.in_ok-end.ensures.sorted in (
+      found.0,
+      found.1,
+      tree_of_unit (toks_of c.args.names.now c.args.tokens.now) _ (state_of c.end.new.parser.state) found.0 first
+          (c.in_ok-run.ensures.leads (Done (state_of c.end.new.parser.state) []) c.in_ok-end.ensures.done) found.1,
+    )

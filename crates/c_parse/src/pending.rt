@@ -1,0 +1,119 @@
+// The items that wait.
+ghost use Rattle.std.specs.Prelude.{◌≡◌, ◌<◌, ◌≤◌, ◌^◌, ◌++◌, OnErr, OnOk, length, reverse, true};
+ghost use Rattle.std.specs.List.{list_all};
+ghost use Rattle.c_parse.specs.Rows.{is_short, items_in};
+
+use crate::items::{count_symbols, symbol_count};
+use std::alloc::{AllocError, Global};
+use std::marker::Model;
+use vocabulary::ProductionItem;
+
+// How many rows may wait behind another.
+const MOST_ROWS: usize = 1 << 32;
+
+// The items of a row that are left.
+#[derive(Clone, Copy, Debug, PartialEq, Eq)]
+struct Row {
+    items: &'static [ProductionItem],
+}
+
+// Puts a row before others, unless nothing is left of it.
+fn put_row(rows: &mut Vec<Row>, row: Row) -> Result<(), AllocError>
+    requires few { length rows.old.items < 2 ^ 32 }
+    requires short { is_short row ≡ true }
+    requires all_short { list_all is_short rows.old.items ≡ true }
+    ensures items { OnOk result (items_in (reverse rows.new.items) ≡ row.items.now ++ items_in (reverse rows.old.items)) }
+    ensures err { OnErr result (rows.new.items ≡ rows.old.items) }
+    ensures all_short { list_all is_short rows.new.items ≡ true }
+    ensures few { length rows.new.items ≤ 2 ^ 32 }
+{
+    if row.items.is_empty() {
+        return Ok(());
+    }
+    rows.push(row)?;
+    Ok(())
+}
+
+/// Items that wait. Its value is the list of them, the next one first.
+///
+/// A row that is left behind its last item is none: chains that grow at their end leave nothing but their actions.
+#[derive(Drop)]
+pub(crate) struct Pending {
+    // The row of the next item.
+    front: Row,
+    // The rows behind it, the next one last.
+    rows: Vec<Row>,
+    // How many symbols of the grammar are among the items.
+    count: usize,
+}
+
+impl Model for Pending {
+    ghost use Rattle.std.specs.Prelude.{List};
+    ghost use Rattle.vocabulary.specs.declared.production_item.ProductionItem.{ProductionItem};
+    ghost use Rattle.c_parse.specs.Rows.{waiting, IsPending};
+
+    ghost Value = { List ProductionItem };
+
+    ghost view = { λ p. waiting p.front p.rows.items };
+
+    ghost invariant = { λ p. IsPending p.front p.rows.items p.count };
+}
+
+impl Pending {
+    ghost use Rattle.std.specs.Prelude.{◌≡◌, ◌≤◌, ◌∷◌, ◌++◌, [], IfNone, IfSome, OnOk, length};
+    ghost use Rattle.meaning_derivation.specs.Derivation.{symbols};
+    ghost use Rattle.c_parse.specs.Rows.{most_waiting};
+
+    /// These items.
+    pub(crate) fn new(alloc: Global, items: &'static [ProductionItem]) -> Pending
+        requires { length items.now ≤ 15 }
+        ensures { result ≡ items.now }
+    {
+        Pending {
+            front: Row { items },
+            rows: Vec::new(alloc),
+            count: count_symbols(items),
+        }
+    }
+
+    /// Takes the next item off.
+    pub(crate) fn next(&mut self) -> Option<ProductionItem>
+        ensures none { IfNone result (self.old ≡ []) }
+        ensures some { IfSome result (λ item. self.old ≡ item ∷ self.new) }
+    {
+        'rows: loop {
+            if let Some((item, others)) = self.front.items.split_first() {
+                self.front = Row { items: others };
+                self.count -= symbol_count(*item);
+                return Some(*item);
+            }
+            let Some(row) = self.rows.pop() else {
+                return None;
+            };
+            self.front = row;
+        }
+    }
+
+    /// Puts the items of a row before the others.
+    pub(crate) fn push(&mut self, items: &'static [ProductionItem]) -> Result<(), AllocError>
+        requires { length items.now ≤ 15 }
+        ensures { OnOk result (self.new ≡ items.now ++ self.old) }
+    {
+        if self.rows.len() >= MOST_ROWS {
+            return Err(AllocError);
+        }
+        let count = count_symbols(items);
+        put_row(&mut self.rows, self.front)?;
+        self.front = Row { items };
+        self.count += count;
+        Ok(())
+    }
+
+    /// How many symbols of the grammar wait.
+    pub(crate) fn count(&self) -> usize
+        ensures count { result ≡ symbols self.now }
+        ensures few { length self.now ≤ most_waiting }
+    {
+        self.count
+    }
+}

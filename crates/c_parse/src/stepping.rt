@@ -1,0 +1,104 @@
+// One step: the next item is taken, done, or replaced by a row.
+ghost use Rattle.std.specs.Prelude.{◌≡◌, ◌≤◌, ◌∷◌, IfErr, OnOk, Some, true, length};
+ghost use Rattle.vocabulary.specs.declared.production_item.ProductionItem.TheVariants.{Do, Nonterminal};
+ghost use Rattle.meaning_grammar.specs.Choice.{choice};
+ghost use Rattle.meaning_grammar.specs.Sorts.{KeepsSorts};
+ghost use Rattle.meaning_grammar.specs.Weights.{Falls};
+ghost use Rattle.meaning_derivation.specs.Actions.{act};
+ghost use Rattle.meaning_derivation.specs.Derivation.{is_terminal_item};
+ghost use Rattle.meaning_derivation.specs.Leading.{ComesTo};
+ghost use Rattle.meaning_derivation.specs.Taking.{look_of, second_of};
+ghost use Rattle.parse_state.specs.Seen.{state_of};
+ghost use Rattle.c_parse.specs.Moments.{IsReady, Moves, standing_with};
+ghost use Rattle.c_parse.specs.Telling.{IsTold};
+
+use crate::acting::act;
+use crate::fault::{ParseFault, fault_of_action};
+use crate::looks::known_looks;
+use crate::parser::Parser;
+use crate::refusing::refusal;
+use crate::taking::take;
+use c_grammar::choose;
+use std::alloc::AllocError;
+use vocabulary::{Action, ProductionItem, Symbol};
+
+// The next terminal is taken by an item.
+fn take_item(parser: &mut Parser<'_>, item: ProductionItem) -> Result<(), ParseFault>
+    requires ready { IsReady (item ∷ parser.old.pending) parser.old }
+    requires terminal { is_terminal_item item ≡ true }
+    ensures moves { OnOk result (Moves (item ∷ parser.old.pending) parser.old parser.new) }
+    ensures told { IfErr result (IsTold (ComesTo act (standing_with (item ∷ parser.old.pending) parser.old))) }
+{
+    let looks = known_looks(parser.looks, &parser.state, &parser.terminals);
+    take(&mut parser.state, &mut parser.terminals, item, looks.next)?;
+    parser.looks = None;
+    Ok(())
+}
+
+// An action is done.
+fn do_action(parser: &mut Parser<'_>, action: Action) -> Result<(), ParseFault>
+    requires { IsReady (Do action ∷ parser.old.pending) parser.old }
+    ensures moves { OnOk result (Moves (Do action ∷ parser.old.pending) parser.old parser.new) }
+    ensures told { IfErr result (IsTold (ComesTo act (standing_with (Do action ∷ parser.old.pending) parser.old))) }
+{
+    match act(&mut parser.state, action) {
+        Ok(()) => {
+            parser.looks = None;
+            Ok(())
+        }
+        Err(fault) => Err(fault_of_action(fault)),
+    }
+}
+
+// A row stands in the place of its symbol.
+fn replace(
+    parser: &mut Parser<'_>,
+    symbol: Symbol,
+    row: &'static [ProductionItem],
+) -> Result<(), AllocError>
+    requires ready { IsReady (Nonterminal symbol ∷ parser.old.pending) parser.old }
+    requires chosen { choice symbol (look_of (state_of parser.old.state) parser.old.terminals.terminals) (second_of (state_of parser.old.state) parser.old.terminals.terminals) ≡ Some row.now }
+    requires falls { Falls symbol row.now }
+    requires sorted { KeepsSorts symbol row.now }
+    requires short { length row.now ≤ 15 }
+    ensures { OnOk result (Moves (Nonterminal symbol ∷ parser.old.pending) parser.old parser.new) }
+{
+    parser.pending.push(row)?;
+    let count = parser.pending.count();
+    parser.state.note_waiting(count);
+    Ok(())
+}
+
+// A symbol is replaced by the row that the next two terminals choose.
+fn expand(parser: &mut Parser<'_>, symbol: Symbol) -> Result<(), ParseFault>
+    requires { IsReady (Nonterminal symbol ∷ parser.old.pending) parser.old }
+    ensures moves { OnOk result (Moves (Nonterminal symbol ∷ parser.old.pending) parser.old parser.new) }
+    ensures told { IfErr result (IsTold (ComesTo act (standing_with (Nonterminal symbol ∷ parser.old.pending) parser.old))) }
+{
+    let looks = known_looks(parser.looks, &parser.state, &parser.terminals);
+    parser.looks = Some(looks);
+    match choose(symbol, [looks.next, looks.behind]) {
+        None => Err(refusal(
+            &parser.state,
+            &parser.terminals,
+            ProductionItem::Nonterminal(symbol),
+        )),
+        Some(row) => {
+            replace(parser, symbol, row)?;
+            Ok(())
+        }
+    }
+}
+
+/// One step, by the next item.
+pub(crate) fn step(parser: &mut Parser<'_>, item: ProductionItem) -> Result<(), ParseFault>
+    requires { IsReady (item ∷ parser.old.pending) parser.old }
+    ensures moves { OnOk result (Moves (item ∷ parser.old.pending) parser.old parser.new) }
+    ensures told { IfErr result (IsTold (ComesTo act (standing_with (item ∷ parser.old.pending) parser.old))) }
+{
+    match item {
+        ProductionItem::Do(action) => do_action(parser, action),
+        ProductionItem::Nonterminal(symbol) => expand(parser, symbol),
+        _ => take_item(parser, item),
+    }
+}

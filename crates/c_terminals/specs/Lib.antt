@@ -1,0 +1,4 @@
+pub mod Seen
+pub mod Groups
+pub mod Kinds
+pub mod Left

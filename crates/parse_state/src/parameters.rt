@@ -1,0 +1,127 @@
+// Parameter lists that are closed, and bodies that open their scopes again.
+ghost use Rattle.std.specs.Prelude.{◌≡◌, ◌<◌, ◌≤◌, map};
+ghost use Rattle.meaning_tree.specs.Nodes.{end_of};
+ghost use Rattle.meaning_derivation.specs.Scoping.{awaited_entries, entries_at};
+ghost use Rattle.c_scope.specs.Seen.{entry_of};
+ghost use Rattle.c_tree.specs.Seen.{HasNodeWith};
+ghost use Rattle.parse_state.specs.Parameters.{last_list, list_begins};
+ghost use Rattle.parse_state.specs.Seen.{closed_seen};
+
+use crate::asking::tree_at;
+use crate::marks::ClosedParameters;
+use crate::state::ParseState;
+use c_scope::{Binding, Scopes};
+use c_tree::{Handle, Unit};
+use std::alloc::AllocError;
+use vocabulary::NodeKind;
+
+impl<'t> ParseState<'t> {
+    ghost use Rattle.std.specs.Prelude.{◌≡◌, OnOk};
+    ghost use Rattle.meaning_derivation.specs.Values.{value_at as value_below};
+    ghost use Rattle.meaning_derivation.specs.Scoping.{body_awaited, body_opened, own_parameters, parameters_closed, parts_below, without_closed};
+    ghost use Rattle.parse_state.specs.Seen.{state_of};
+
+    /// Closes the scope of a parameter list that begins at this token. What it bound is kept for a body if no other scope is
+    /// open.
+    pub fn close_parameters(&mut self, token: u32) -> Result<(), AllocError>
+        ensures state { OnOk result (state_of self.new ≡ parameters_closed (state_of self.old) token) }
+        ensures names { self.new.names ≡ self.old.names }
+    {
+        if !self.scopes.is_open() {
+            self.scopes = Scopes::new(self.alloc);
+            return Ok(());
+        }
+        let bindings = self.scopes.keep()?;
+        if self.scopes.is_open() {
+            return Ok(());
+        }
+        self.closed.push(ClosedParameters { token, bindings })?;
+        Ok(())
+    }
+
+    /// No parameter list of an earlier declaration is a body's.
+    pub fn forget_closed(&mut self)
+        ensures state { state_of self.new ≡ without_closed (state_of self.old) }
+        ensures names { self.new.names ≡ self.old.names }
+    {
+        self.closed.clear();
+    }
+
+    /// Where the parameter list begins that is the last part of a tree, if one is.
+    pub fn own_parameters(&self, depth: usize) -> Option<u32>
+        ensures { result ≡ own_parameters (parts_below (value_below (state_of self.now).values depth)) }
+    {
+        self.unit.each_node_stands_for_one_tree();
+        match tree_at(&self.values, depth) {
+            Some(declarator) => last_parameters(&self.unit, declarator),
+            None => None,
+        }
+    }
+
+    /// The body of this declarator comes next.
+    pub fn await_body(&mut self, depth: usize)
+        ensures state { state_of self.new ≡ body_awaited (state_of self.old) (value_below (state_of self.old).values depth) }
+        ensures names { self.new.names ≡ self.old.names }
+    {
+        self.awaited = self.own_parameters(depth);
+    }
+
+    /// Opens the scope of a body: that of the parameters again, if it is awaited.
+    pub fn open_body(&mut self) -> Result<(), AllocError>
+        ensures state { OnOk result (state_of self.new ≡ body_opened (state_of self.old)) }
+        ensures names { self.new.names ≡ self.old.names }
+    {
+        self.scopes
+            .reopen(awaited_bindings(&self.closed, self.awaited))?;
+        self.awaited = None;
+        Ok(())
+    }
+}
+
+// Where the parameter list begins that is the last child of a node, if one is.
+fn last_parameters(unit: &Unit, handle: Handle) -> Option<u32>
+    requires from { unit.now.first ≤ handle }
+    requires below { handle < end_of unit.now }
+    ensures { HasNodeWith unit.now handle (λ node. result ≡ last_list unit.now node.children) }
+{
+    unit.each_node_stands_for_one_tree();
+    match unit.children(handle).iter().next_back() {
+        Some((last, _)) => {
+            let part = unit.node(last);
+            list_token(part.kind, part.token)
+        }
+        None => None,
+    }
+}
+
+// The token of a parameter list.
+fn list_token(kind: NodeKind, token: u32) -> Option<u32>
+    ensures { result ≡ list_begins kind token }
+{
+    match kind {
+        NodeKind::FunctionDeclarator => Some(token),
+        _ => None,
+    }
+}
+
+// What the parameter list bound that is awaited.
+fn awaited_bindings(closed: &[ClosedParameters], awaited: Option<u32>) -> &[Binding]
+    ensures { map entry_of result.now ≡ awaited_entries (map closed_seen closed.now) awaited }
+{
+    match awaited {
+        Some(token) => bindings_at(closed, token),
+        None => &[],
+    }
+}
+
+// What the parameter list bound that begins at this token.
+fn bindings_at(closed: &[ClosedParameters], token: u32) -> &[Binding]
+    ensures { map entry_of result.now ≡ entries_at (map closed_seen closed.now) token }
+{
+    for list in closed {
+        if list.token == token {
+            return &list.bindings;
+        }
+    }
+    &[]
+}

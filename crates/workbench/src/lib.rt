@@ -6,18 +6,22 @@
 #![tactic(auto)]
 
 mod asked;
+mod attributes;
 mod command;
 mod definitions;
 mod expansions;
 mod lines;
 mod scopes;
 mod tool;
+mod types;
 mod units;
 mod values;
 
 pub use asked::Asked;
+pub use attributes::{Between, attribute_lines};
 pub use command::{Stop, workbench};
 pub use expansions::expand_text;
 pub use scopes::scope_answers;
 pub use tool::Tool;
+pub use types::type_answers;
 pub use values::{Shown, answer_line, if_values};

@@ -3,8 +3,10 @@ ghost use Rattle.std.specs.Prelude.{◌^◌, ◌<◌, IfSome, length};
 ghost use Rattle.workbench.specs.Asked.{MayRun};
 
 use crate::asked::Asked;
+use crate::attributes::{Between, attribute_lines};
 use crate::expansions::expand_text;
 use crate::scopes::scope_answers;
+use crate::types::type_answers;
 use crate::values::if_values;
 use sparse_outside::Words;
 use std::alloc::{AllocError, Global};
@@ -16,6 +18,10 @@ pub enum Tool<'w> {
     IfValue,
     /// The answers to commands on scopes.
     Scopes,
+    /// The answers to commands on types.
+    Types,
+    /// What lists of attributes come to, or the changes of context statements.
+    Attributes(Between),
     /// The tokens that a text becomes behind definitions.
     Expand(Asked<'w>),
 }
@@ -43,6 +49,12 @@ impl<'w> Tool<'w> {
             Some(Tool::IfValue)
         } else if name == b"scopes".as_slice() {
             Some(Tool::Scopes)
+        } else if name == b"types".as_slice() {
+            Some(Tool::Types)
+        } else if name == b"attributes".as_slice() {
+            Some(Tool::Attributes(Between::Attributes))
+        } else if name == b"context_changes".as_slice() {
+            Some(Tool::Attributes(Between::Statement))
         } else {
             None
         }
@@ -56,6 +68,8 @@ impl<'w> Tool<'w> {
         match self {
             Tool::IfValue => if_values(alloc, text),
             Tool::Scopes => scope_answers(alloc, text),
+            Tool::Types => type_answers(alloc, text),
+            Tool::Attributes(between) => attribute_lines(alloc, between, text),
             Tool::Expand(asked) => expand_text(alloc, asked, text),
         }
     }

@@ -64,14 +64,15 @@ fuzz: $(PROGRAM) $(WORKBENCH)
 	$(PYTHON) scripts/fuzz.py $(PROGRAM) $(WORKBENCH)
 
 # Worked rows over the checker that fuzz compares the program with.
-PREPROCESSED := checks_through_macros command_lines expansion_arguments expansion_changing_names expansion_hidden_names expansion_limits expansion_of_kernel_macros expansion_pasting expansion_strings include_limits option_words preprocessed_text undefined_names
+PREPROCESSED := an_include_directory checks_through_macros checks_through_macros_of_headers command_lines expansion_arguments expansion_changing_names expansion_hidden_names expansion_limits expansion_of_kernel_macros expansion_pasting expansion_strings header_names include_limits include_limits_of_headers includes kernel_headers option_words preprocessed_text preprocessed_text_of_headers undefined_names undefined_names_of_headers
 
 rows:
-	$(PYTHON) scripts/preprocessing_rows.py $$(grep -l '^[$$] workbench' crates/cases/data/*.txt) $(PREPROCESSED:%=crates/cases/data/%.txt) scripts/reference/rows/*.txt
+	$(PYTHON) scripts/preprocessing_rows.py $$(grep -l '^[$$] workbench' crates/cases/data/*.txt) $(PREPROCESSED:%=crates/cases/data/%.txt)
 
-# Expressions whose types and values gcc says, beside the committed examples.
+# What gcc says of expressions, and of structures and unions, beside the committed examples.
 compare:
 	$(PYTHON) scripts/constants.py
+	$(PYTHON) scripts/layouts.py
 
 # Files of a kernel tree, preprocessed by the program and by the compiler: make headers LINUX=/path/to/a/tree FILES="lib/ctype.c"
 headers: $(PROGRAM)

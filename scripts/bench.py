@@ -38,7 +38,7 @@ MOST_BYTES = 8388608
 MOST_TOKENS = 2000000
 # The size of a file whose instructions are counted.
 COUNTED_BYTES = 262144
-# So many tokens, or names in scopes, have the texts of a call. Up to so many its instructions are counted.
+# So many tokens, names in scopes or words on types, have the texts of a call. Up to so many its instructions are counted.
 CALL_TOKENS = (10000, 100000, 1000000)
 COUNTED_TOKENS = 100000
 MOST_CALL_RATIO = 11
@@ -180,6 +180,52 @@ def one_name_in_each_scope(names):
     return b"{ unlinked n " * names + b"find n " + b"} " * (names // 2) + b"find n\n"
 
 
+def levels(word):
+    """So many levels of one kind, made twice and compared."""
+    return lambda types: (b"int " + (word + b" ") * (types // 2)) * 2 + b"same\n"
+
+
+def counted_levels(word):
+    """The same in two words: a million stars, or levels of an array, where a million is asked."""
+    return lambda types: b"int %b_%d int %b_%d same\n" % (word, types, word, types)
+
+
+def marked_levels(types):
+    """An array of so many levels, and const arrays of it, of which the first one is made level by level."""
+    return b"int " + b"array_1 " * (types // 2) + b"again const array_2 drop " * (types // 6)
+
+
+def functions_of_functions(types):
+    """Functions of two pointers to the one before: trees of 3^(types / 5) parts."""
+    return (b"int int function_1 " + b"pointer again again function_2 " * (types // 8)) * 2 + b"same\n"
+
+
+def long_functions(types):
+    """Functions of 255 parameters each, which differ in the last one."""
+    one = b"int " * 255 + b"struct_%d function_255 drop "
+    return b"".join(one % number for number in range(types // 258))
+
+
+def members_of_one(types):
+    """One aggregate of so many members."""
+    return b"int member char pointer member " * (types // 5) + b"complete_1 body_1\n"
+
+
+def aggregates(types):
+    """So many aggregates of one member each, with names."""
+    return b"".join(b"int member complete_%d tag_%d struct_%d drop " % (n, n, n) for n in range(types // 6))
+
+
+def identities(types):
+    """So many restricted types, and a pointer to each."""
+    return b"".join(b"restricted_%d pointer drop " % number for number in range(types // 3))
+
+
+def repeated_types(types):
+    """Few types, again and again."""
+    return b"const int pointer array_3 int int function_1 pointer drop drop " * (types // 10)
+
+
 def tokens_in(text):
     """How many tokens a file of the first form without comments has."""
     return len(re.findall(rb"[A-Za-z0-9_]+|[^A-Za-z0-9_\s]", text))
@@ -308,6 +354,11 @@ def of_scopes(name, make, most_ratio):
     return Call("scopes: " + name, ["scopes"], [], make, CALL_TOKENS, most_ratio)
 
 
+def of_types(name, make, most_ratio=MOST_NAMES_RATIO):
+    """Commands on types, over so many words."""
+    return Call("types: " + name, ["types"], [], make, CALL_TOKENS, most_ratio)
+
+
 def doubled_name(levels):
     """A name that each level of calls pastes to itself: 2^levels letters."""
     return defined([b"c(a) a ## a", b"d(a) c(a)"], b"d(" * levels + b"x" + b")" * levels)
@@ -360,6 +411,17 @@ CALLS = (
     of_scopes("names of one scope", names_of_one_scope, MOST_NAMES_RATIO),
     of_scopes("nested, of a name each", scopes_of_one_name_each, MOST_NAMES_RATIO),
     of_scopes("nested, of one name", one_name_in_each_scope, MOST_CALL_RATIO),
+    of_types("pointers", levels(b"pointer")),
+    of_types("arrays", levels(b"array_1")),
+    of_types("stars, counted", counted_levels(b"pointers")),
+    of_types("levels, counted", counted_levels(b"arrays")),
+    of_types("marked arrays", marked_levels),
+    of_types("functions", functions_of_functions),
+    of_types("long functions", long_functions),
+    of_types("members", members_of_one),
+    of_types("aggregates", aggregates),
+    of_types("identities", identities),
+    of_types("repeats", repeated_types, MOST_CALL_RATIO),
 )
 
 

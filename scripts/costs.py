@@ -72,9 +72,15 @@ def lines_of(crates):
     return count / 1000
 
 
+def gate_words(rt):
+    """The gate with nothing kept. A kit whose gate keeps nothing has no word for it."""
+    told = subprocess.run([rt, "help"], capture_output=True, text=True, check=False)
+    return [rt, "ci", *["--anew"] * ("--anew" in told.stdout + told.stderr)]
+
+
 def measured(words):
     """The status of the gate, and the processor minutes of each crate and part."""
-    gate = subprocess.Popen([words[0], "ci", "--anew", *words[1:]])
+    gate = subprocess.Popen([*gate_words(words[0]), *words[1:]])
     last = {}
     while gate.poll() is None:
         above = parents()

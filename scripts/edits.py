@@ -15,6 +15,8 @@ import tempfile
 
 TOP = os.path.dirname(os.path.dirname(os.path.abspath(__file__)))
 VERDICTS = ("NOT REFUSED", "BAD EDIT", "NOT TRIED", "refused")
+# What rt says of a refusal that tells little of the contract
+NAMED = "only because a proof file names"
 
 
 def with_edits():
@@ -40,7 +42,8 @@ def try_edits(rt, room, crate):
     for line in ran.stdout:
         match = re.search(rf"([\w.-]+\.edit): ({'|'.join(VERDICTS)})", line)
         if match:
-            print(f"{crate}/{match[1]}: {match[2]}" if match[2] == "refused" else line.rstrip("\n"), flush=True)
+            little = ", but only because a proof names what it took away" if NAMED in line else ""
+            print(f"{crate}/{match[1]}: {match[2]}{little}" if match[2] == "refused" else line.rstrip("\n"), flush=True)
             found[match[2]] += 1
         else:
             others.append(line)

@@ -4,6 +4,7 @@ import shutil
 import subprocess
 
 import workbench_answers
+from made_attributes import attribute_lists, context_statements
 from made_units import Maker
 from reference.commands import answer
 from shrinking import shrunk
@@ -47,10 +48,17 @@ def expansion_command(chance):
     return f"{maker.table()}{maker.text()}\n{maker.text()}\n", words
 
 
+def attribute_command(chance):
+    """Attribute lists in lines of their own, and the words of the tool that reads them; or context statements."""
+    if chance.randrange(4):
+        return attribute_lists(chance), [b"attributes", b"a.txt"]
+    return context_statements(chance), [b"context_changes", b"a.txt"]
+
+
 def check_tools(workbench, folder, chance, count):
     """Compares so many answers of each tool; true where all are alike."""
     for number in range(count):
-        for command in (unit_command, expansion_command):
+        for command in (unit_command, expansion_command, attribute_command):
             text, words = command(chance)
             differs = tool_differs(workbench, folder, words)
             if differs(text.encode()):

@@ -25,7 +25,7 @@ DIRECTORIES = (
 # What a build includes before each file, where the tree has it
 BEFORE = ("linux/compiler-version.h", "linux/kconfig.h", "linux/compiler_types.h")
 ARCHITECTURES = {"x86_64": "x86", "aarch64": "arm64", "ppc64le": "powerpc", "riscv64": "riscv"}
-WORDS = ["-D__KERNEL__", '-DKBUILD_MODNAME="file"', '-DKBUILD_BASENAME="file"', '-DKBUILD_MODFILE="file"']
+WORDS = ["-D__KERNEL__", "-DCC_USING_FENTRY", '-DKBUILD_MODNAME="file"', '-DKBUILD_BASENAME="file"', '-DKBUILD_MODFILE="file"']
 BUILT_IN = ("__has_attribute", "__has_builtin", "__has_feature", "__has_extension")
 
 # Runs a command and prints its seconds, its peak kibibytes and its status behind what it writes to standard error. A

@@ -1,13 +1,16 @@
 """What the tools of the workbench print, worked out over `reference`."""
 import re
 
-from reference import conditions, macros
+from reference import attributes, conditions, macros
 from reference.commands import answer as command_answer
 from reference.preprocessing import MALFORMED, NoSuchFile, Refusal, Unit
 from reference.scanning import Opening, is_identifier, scan
 
 # What an expansion may use up where the words say nothing else
 SMALL = {"replacements": 1000, "tokens": 1000, "counter": 0}
+
+# The tools that show something of the tokens of each line
+TOKEN_TOOLS = {b"attributes": attributes.attributes_shown, b"context_changes": attributes.change_shown}
 
 
 class BadLine(Exception):
@@ -25,6 +28,14 @@ def if_value(line):
     except conditions.ZeroDivisor as bad:
         return b"zero divisor at %d\n" % bad.args[0]
     return b"%d%b\n" % (value.number, b"u" * value.unsigned)
+
+
+def of_tokens(shown, line):
+    """What is shown of the tokens of a line."""
+    try:
+        return shown(list(scan(1, line))) + b"\n"
+    except Opening:
+        return b"no tokens\n"
 
 
 def lines_of(text):
@@ -127,6 +138,8 @@ def answer(words, files):
     tool, path, *others = words
     if tool == b"if_value":
         return b"".join(map(if_value, lines_of(files[path])))
+    if tool in TOKEN_TOOLS:
+        return b"".join(of_tokens(TOKEN_TOOLS[tool], line) for line in lines_of(files[path]))
     if tool == b"preprocess":
         return preprocessed(path, files)
     if tool == b"left_names":

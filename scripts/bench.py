@@ -4,19 +4,19 @@ libraries that no command makes yet.
 
 usage: bench.py PROGRAM WORKBENCH [FAMILY..]
 
-With families, as `macros` or `#if`, only the calls of these are measured.
+With families, as `macros`, `#if`, `headers` or `-E`, only these are measured.
 
 Prints for each file its bytes and tokens, the processor time of a check, also by the token, and the peak
 memory, also by the token where it is large. Where valgrind is installed, a column has the instructions by the
 token, above those of a check of an empty file: they don't depend on what else the machine does. They are
-counted on a smaller file of the same kind. A second table has those of each stage of a check, a third one has the calls,
-which WORKBENCH makes.
+counted on a smaller file of the same kind. A second table has those of each stage of a check, a third one has `-E` of files
+and their headers, and the calls, which WORKBENCH makes.
 
 Exits 1 where a file of the first form takes more than a tenth longer by the token than a smaller one does,
 once the smaller one takes long enough to be measured, or where a largest file takes more than five seconds; where a
-call takes more than eleven times as long with ten times as many tokens, or macros in chains more than sixteen times;
-where 2,097,151 replacements take more than 0.3 seconds; and where one of the deepest and longest texts has another answer
-than it must.
+call or `-E` takes more than eleven times as long with ten times as many tokens, or macros in chains more than sixteen times;
+where a guarded header that is read again and again takes too long, or 2,097,151 replacements more than 0.3 seconds; and
+where one of the deepest and longest texts has another answer than it must.
 """
 import os
 import re
@@ -47,6 +47,10 @@ MOST_CHAIN_RATIO = 16
 # So do the tables of a million different names.
 MOST_NAMES_RATIO = 20
 MOST_DOUBLING_SECONDS = 0.3
+# So often is a guarded header included, 51 MB by the count of the limit, in no more than this.
+MOST_GUARDED_SECONDS = 0.02
+# So many uses or lines have the files of `-E` whose instructions are counted.
+COUNTED_USES = 10000
 # A call that takes less is compared as one that takes this: its start hides what it costs.
 LEAST_CALL_SECONDS = 0.01
 
@@ -227,8 +231,8 @@ def repeated_types(types):
 
 
 def tokens_in(text):
-    """How many tokens a file of the first form without comments has."""
-    return len(re.findall(rb"[A-Za-z0-9_]+|[^A-Za-z0-9_\s]", text))
+    """How many tokens files of the first form without comments have."""
+    return sum(len(re.findall(rb"[A-Za-z0-9_]+|[^A-Za-z0-9_\s]", file)) for file in texts_of(text).values())
 
 
 def defined(lines, text):
@@ -319,6 +323,53 @@ def uses_in_functions(functions):
 def nested_min(depth):
     """Calls of a macro within one another that puts each argument twice: 2^depth copies of the innermost one."""
     return defined([b"min(x, y) (x < y ? x : y)"], b"min(1, " * depth + b"a" + b")" * depth)
+
+
+def tokens_that_vanish(uses):
+    """So many calls, each of which makes 211,110 tokens on its way to nothing."""
+    tens = [b"%b %b" % (made, b" ".join([part] * 10)) for made, part in zip((b"a", b"b", b"c", b"d", b"e"), (b"1", b"a", b"b", b"c", b"d"))]
+    return defined(tens + [b"f(x)", b"g(x) f(x)"], b"g(e)\n" * uses)
+
+
+def including(paths, text=b""):
+    """A file that includes these, and a text behind that."""
+    return b"".join(b'#include "%b"\n' % path for path in paths) + text
+
+
+def headers_in_one_another(depth):
+    """So many headers, each of which includes the next."""
+    paths = [b"h%d.h" % number for number in range(1, depth + 1)]
+    files = {path: including([below]) for path, below in zip(paths, paths[1:])}
+    return {**files, b"t.c": including(paths[:1]), paths[-1]: b"end\n"}
+
+
+def headers_of_spaces(count):
+    """So many headers of 8,000,000 spaces each."""
+    paths = [b"h%d.h" % number for number in range(count)]
+    return {b"t.c": including(paths), **{path: b" " * 8000000 for path in paths}}
+
+
+def guarded_header(times):
+    """A header with a guard and 1,000 declarations, included so many times."""
+    lines = b"".join(b"extern int n%04d;\n" % number for number in range(1000))
+    return {b"t.c": including([b"g.h"] * times), b"g.h": b"#ifndef G\n#define G\n" + lines + b"#endif\n"}
+
+
+def long_header(lines):
+    """A header of so many lines."""
+    return {b"t.c": including([b"h.h"]), b"h.h": b"a\n" * lines}
+
+
+class Expansion(NamedTuple):
+    """What `-E` is measured on: its name, the text of a size, or texts by their paths, the sizes, and the most seconds of the largest,
+    where that is asked, and how many times as long one of ten times the size may take.
+    """
+
+    name: str
+    make: Callable
+    sizes: tuple
+    most_seconds: float = MOST_SECONDS
+    most_ratio: int = MOST_CALL_RATIO
 
 
 class Call(NamedTuple):
@@ -425,6 +476,24 @@ CALLS = (
 )
 
 
+EXPANSIONS = (
+    Expansion("headers: in one another", headers_in_one_another, (20, 200)),
+    Expansion("headers: eight of spaces", headers_of_spaces, (8,), 1),
+    Expansion("headers: one with a guard", guarded_header, (300, 3000), MOST_GUARDED_SECONDS),
+    Expansion("headers: lines of one", long_header, (10000, 100000, 1000000)),
+    Expansion("-E: uses in functions", uses_in_functions, (1900, 19000)),
+    Expansion("-E: nested min", nested_min, (14,)),
+    Expansion("-E: definitions with uses", used_definitions, (1000, 10000, 100000)),
+    Expansion("-E: calls in lines", calls_in_lines, (1000, 10000, 100000)),
+    Expansion("-E: groups", groups, (1000, 10000, 100000)),
+    Expansion("-E: nested groups", nested_groups, (1000, 10000, 100000)),
+    Expansion("-E: lines of #if", conditions, (10000, 100000)),
+    Expansion("-E: nested calls", nested_calls, (1000, 10000, 100000)),
+    Expansion("-E: a chain", chain, (1000, 10000, 100000), most_ratio=MOST_CHAIN_RATIO),
+    Expansion("-E: tokens that vanish", tokens_that_vanish, (75,)),
+)
+
+
 class Checker:
     """A program that checks the file t.c, with words behind it, and the statuses with which it may end."""
 
@@ -472,16 +541,22 @@ class Checker:
         return (instructions - self.instructions_at_start) / tokens_in(text)
 
 
+def texts_of(text):
+    """Texts by their paths: a text alone is the file t.c."""
+    return text if isinstance(text, dict) else {b"t.c": text}
+
+
 class Folder:
-    """A folder of its own, with the file t.c."""
+    """A folder of its own, with the file t.c, and others where they are given."""
 
     def __init__(self, text):
-        self.text = text
+        self.texts = texts_of(text)
 
     def __enter__(self):
         self.folder = tempfile.TemporaryDirectory()
-        with open(os.path.join(self.folder.name, "t.c"), "wb") as file:
-            file.write(self.text)
+        for path, text in self.texts.items():
+            with open(os.path.join(self.folder.name.encode(), path), "wb") as file:
+                file.write(text)
         return self.folder.name
 
     def __exit__(self, *_):
@@ -527,7 +602,7 @@ def print_row(checker, name, text, counted):
             f"{kibibytes * 1024 / tokens:.0f}" if kibibytes >= LEAST_KIBIBYTES else None,
             None if instructions is None else f"{instructions:.0f}",
         ]
-    print_line([name, len(text), tokens, f"{seconds:.3f}", kibibytes] + by_token)
+    print_line([name, sum(map(len, texts_of(text).values())), tokens, f"{seconds:.3f}", kibibytes] + by_token)
     return seconds
 
 
@@ -606,13 +681,32 @@ def has_its_answer(workbench, extreme):
     return False
 
 
-def calls_pass(workbench, families):
-    """Whether the calls of these families, or of all, take no more than they may. Prints their lines."""
+def expansion_grows_in_step(program, expansion):
+    """Whether `-E` takes only so many times as long where its size is ten times as large, and the largest no longer than it may.
+    Prints its lines.
+    """
+    checker = Checker(expansion.name, [program, "-E"], (0,))
+    seconds, passed = {}, True
+    for size in expansion.sizes:
+        text = expansion.make(size)
+        counted = expansion.make(COUNTED_USES) if size > COUNTED_USES else text
+        seconds[size] = print_rows([checker], expansion.name, text, None if isinstance(text, dict) else counted)
+        before = seconds.get(size // 10)
+        if before is not None and seconds[size] > expansion.most_ratio * max(before, LEAST_CALL_SECONDS):
+            passed = False
+    return passed and seconds[expansion.sizes[-1]] <= expansion.most_seconds
+
+
+def calls_pass(program, workbench, families):
+    """Whether `-E` and the calls of these families, or of all, take no more than they may. Prints their lines."""
 
     def is_asked(name):
         return not families or name.split(":")[0] in families
 
     passed = True
+    for expansion in EXPANSIONS:
+        if is_asked(expansion.name) and not expansion_grows_in_step(program, expansion):
+            passed = False
     if is_asked(DOUBLED.name) and not doubles_in_time(workbench):
         passed = False
     for call in CALLS:
@@ -654,7 +748,7 @@ def main():
         print_line(["file", *heads])
         passed = program_passes(checkers_of(program))
     print_line(["call", *heads])
-    return 0 if calls_pass(workbench, families) and passed else 1
+    return 0 if calls_pass(program, workbench, families) and passed else 1
 
 
 if __name__ == "__main__":

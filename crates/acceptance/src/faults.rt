@@ -14,11 +14,39 @@ const WARNING: &str =
 const TOKENS: &str =
     "extern int * p ;\nextern int __attribute__ ( ( noderef , address_space ( __user ) ) ) * u ;\nvoid f ( void ) { p = u ; }\n";
 
-// What a run leaves where the loads with these numbers fail, and standard error has so much room.
-fn run_with(alloc: Global, failing: &[u32], room: usize) -> Result<Ran, AllocError> {
-    let words = list(alloc, &["t.c"])?;
+// A file: its path, and its bytes.
+type File = (&'static str, &'static str);
+
+const ALONE: &[File] = &[("t.c", UNIT)];
+
+// A unit with three headers, which are loaded in the order `t.c`, `a.h`, `c.h`, `b.h`.
+const HEADED: &[File] = &[
+    ("t.c", "#include \"a.h\"\n#include \"b.h\"\nvoid f(void) { p = u; }\n"),
+    ("a.h", "#include \"c.h\"\nextern int *p;\n"),
+    ("b.h", "extern int USER *u;\n"),
+    ("c.h", "#define USER __attribute__((noderef))\n"),
+];
+
+const HEADED_WARNING: &str =
+    "t.c:3:18: warning: incorrect type in assignment (different address spaces)\nt.c:3:18:    expected int *\nt.c:3:18:    got int noderef *\n";
+
+// A header that lies in the second directory alone, or in none.
+const SEARCHED: &[File] = &[("t.c", "#include <a.h>\n"), ("e/a.h", "")];
+
+// What a run of these words leaves over these files where the loads with these numbers fail, and standard error has so
+// much room, and standard output none.
+fn run_with(
+    alloc: Global,
+    words: &[&str],
+    kept: &[File],
+    failing: &[u32],
+    room: usize,
+) -> Result<Ran, AllocError> {
+    let words = list(alloc, words)?;
     let mut files = MemoryFiles::new(alloc);
-    files.add(b"t.c", UNIT.as_bytes())?;
+    for (path, bytes) in kept {
+        files.add(path.as_bytes(), bytes.as_bytes())?;
+    }
     for number in failing {
         files.fail_call(*number)?;
     }
@@ -28,10 +56,12 @@ fn run_with(alloc: Global, failing: &[u32], room: usize) -> Result<Ran, AllocErr
     Ok(Ran { exit, out, err })
 }
 
-// A run in which something fails: what it shows, the numbers of the loads that fail, the room for
+// A run in which something fails: what it shows, its words and files, the numbers of the loads that fail, the room for
 // standard error, what stands there, and the exit.
 struct Faulty {
     case: &'static str,
+    words: &'static [&'static str],
+    files: &'static [File],
     failing: &'static [u32],
     room: usize,
     err: &'static str,
@@ -39,17 +69,33 @@ struct Faulty {
 }
 
 #[rattlefmt::skip]
-const FAULTY: [Faulty; 3] = [
-    Faulty { case: "a failed load is no missing file", failing: &[1], room: ROOM, err: "", exit: Exit::ReadFault },
-    Faulty { case: "a later load isn't made", failing: &[2], room: ROOM, err: WARNING, exit: Exit::Warned },
-    Faulty { case: "room for a place alone", failing: &[], room: 10, err: "t.c:3:18: ", exit: Exit::WriteFault },
+const FAULTY: [Faulty; 7] = [
+    Faulty { case: "a failed load is no missing file", words: &["t.c"], files: ALONE, failing: &[1], room: ROOM, err: "", exit: Exit::ReadFault },
+    Faulty { case: "a later load isn't made", words: &["t.c"], files: ALONE, failing: &[2], room: ROOM, err: WARNING, exit: Exit::Warned },
+    Faulty { case: "room for a place alone", words: &["t.c"], files: ALONE, failing: &[], room: 10, err: "t.c:3:18: ", exit: Exit::WriteFault },
+    Faulty { case: "the load behind those of the headers isn't made", words: &["t.c"], files: HEADED, failing: &[5], room: ROOM, err: HEADED_WARNING, exit: Exit::Warned },
+    Faulty { case: "no directory is searched behind a failed load", words: &["-Id", "-Ie", "t.c"], files: SEARCHED, failing: &[2], room: ROOM, err: "", exit: Exit::ReadFault },
+    Faulty { case: "the load that finds the header", words: &["-Id", "-Ie", "t.c"], files: SEARCHED, failing: &[3], room: ROOM, err: "", exit: Exit::ReadFault },
+    Faulty { case: "a failed load of a header that is missing", words: &["-Id", "t.c"], files: SEARCHED, failing: &[2], room: ROOM, err: "", exit: Exit::ReadFault },
 ];
 
 #[test]
 fn faults_are_told(rt: HostRuntime) -> Result<(), Fail> {
     for faulty in &FAULTY {
-        let ran = run_with(rt.alloc(), faulty.failing, faulty.room)?;
+        let ran = run_with(rt.alloc(), faulty.words, faulty.files, faulty.failing, faulty.room)?;
         assert_ran(&rt, faulty.case, &ran, faulty.exit, faulty.err.as_bytes());
+    }
+    Ok(())
+}
+
+#[test]
+fn each_load_of_a_unit_may_fail(rt: HostRuntime) -> Result<(), Fail> {
+    for words in [["t.c"].as_slice(), ["-E", "t.c"].as_slice()] {
+        for failing in 1..=4 {
+            let case = format!(in rt.alloc(); "load {failing}")?;
+            let ran = run_with(rt.alloc(), words, HEADED, &[failing], ROOM)?;
+            assert_ran(&rt, case.as_str(), &ran, Exit::ReadFault, b"");
+        }
     }
     Ok(())
 }
@@ -64,7 +110,7 @@ fn a_sink_holds_a_front(rt: HostRuntime) -> Result<(), Fail> {
             Exit::Warned
         };
         let case = format!(in rt.alloc(); "room for {room}")?;
-        let ran = run_with(rt.alloc(), &[], room)?;
+        let ran = run_with(rt.alloc(), &["t.c"], ALONE, &[], room)?;
         assert_ran(&rt, case.as_str(), &ran, exit, &warning[..room]);
     }
     Ok(())

@@ -1,1 +1,2 @@
 mod PlacingLemmas
+pub mod NarrowLemmas

@@ -81,7 +81,7 @@ pub largest_bits-more : (members : List PlacedMember) → largest_bits (map memb
 largest_bits-more members = omega arith
 
 -- a member gives no more than it may
-given-narrow : (named packed : Bool) (member : PlacedMember) → IsPlaced member
+pub given-narrow : (named packed : Bool) (member : PlacedMember) → IsPlaced member
     → (if named then max (if packed then 1 else member.align) member.written else 1) ≤ 2 ^ 32
 given-narrow true true member is = omega (arith, is.narrow)
 given-narrow true false member is = omega (arith, is.align, is.narrow)

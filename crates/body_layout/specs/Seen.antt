@@ -2,7 +2,7 @@
 use Rattle.std.specs.Prelude.{◌≡◌, ℕ, ◌<◌, ◌≤◌, ◌^◌, Bool, true, false, Option, Some, None, Result, Ok, Err, List, map}
 use Rattle.meaning_layout.specs.Bodies.{LayoutBody, LayoutMember}
 use Rattle.meaning_layout.specs.Placing.{bit_behind, first_bits, largest_align}
-use Rattle.meaning_layout.specs.Layouts.{Layout, LayoutFault, TooLarge}
+use Rattle.meaning_layout.specs.Layouts.{Layout, LayoutFault, TooLarge, most_bytes}
 use Rattle.body_layout.specs.declared.member.PlacedMember.{PlacedMember}
 use Rattle.body_layout.specs.declared.placing.Placing.{Placing}
 use Rattle.body_layout.specs.declared.structure.BodyLayout.{BodyLayout}
@@ -20,6 +20,12 @@ pub record IsPlaced (member : PlacedMember) : Type 0 where
   pub written : 0 < member.written
   pub narrow : member.written < 2 ^ 32
   pub field : (width : ℕ) → member.width ≡ Some width → 0 < member.size
+
+-- a size and an alignment that an object may have
+pub record IsNarrow (size align : ℕ) : Type 0 where
+  pub few : size ≤ most_bytes
+  pub some : 0 < align
+  pub narrow : align ≤ 2 ^ 32
 
 abbrev pub structure_body : (packed : Bool) → (written : ℕ) → List PlacedMember → LayoutBody
 structure_body packed written members = record { members = map member_seen members; is_union = false; packed = packed; written = written }

@@ -19,7 +19,9 @@ use Rattle.c_types.proofs.Forms.{same_number}
 use Rattle.std.specs.Map.{lookup}
 use Rattle.c_types.specs.declared.form.Shape.{Shape}
 use Rattle.c_types.specs.declared.form.Reduced.{Reduced}
-use Rattle.c_types.specs.Rows.{Row, type_numbered, type_seen, types_of, IsInside, AreRows, Grows, MayJoin, JoinsRight}
+use Rattle.c_types.specs.declared.elements.Elements.{Elements}
+use Rattle.c_types.specs.Elements.{AreElements}
+use Rattle.c_types.specs.Rows.{Row, form_seen, type_numbered, type_seen, types_of, IsInside, AreRows, Grows, MayJoin, JoinsRight}
 use Rattle.c_types.proofs.RowLemmas.{AreRows-push, stands-push, numbered-row, length-types_of}
 
 -- the row at the place of the first shape that passes
@@ -59,16 +61,16 @@ find-stands rows are shape test same index is =
     (are.each index found.0 found.1).stands ∙ ap (λ s. Some (type_seen (types_of rows) s)) (sym (same found.0.0 found.2))
 
 -- a shape that isn't found joins
-pub joined : (rows new : List Row) → AreRows rows → (shape : Shape) (reduced : Reduced) → MayJoin rows shape → JoinsRight rows shape reduced
-    → (test : Shape → Bool) → test shape ≡ true → false ≡ is_some (lookup test rows) → length rows < 2 ^ 30 → new ≡ rows ++ (shape, reduced) ∷ []
+pub joined : (rows new : List Row) → AreRows rows → (shape : Shape) (reduced : Reduced) (elements : Elements) → MayJoin rows shape → JoinsRight rows shape reduced
+    → AreElements (form_seen (types_of rows) shape.form) elements → (test : Shape → Bool) → test shape ≡ true → false ≡ is_some (lookup test rows) → length rows < 2 ^ 30 → new ≡ rows ++ (shape, record { bare = reduced.bare; plain = reduced.plain; elements = elements }) ∷ []
     → AreRows new × Grows rows new × (slice_get (types_of new) (length rows) ≡ Some (type_seen (types_of rows) shape))
-joined rows new are shape reduced may right test passes none room is =
+joined rows new are shape reduced elements may right made test passes none room is =
     let absent : (number : ℕ) (row : Row) → slice_get rows number ≡ Some row → row.0 ≢ shape =
     λ number row found same. true≢false (sym passes ∙ ap test (sym same) ∙ absent_rows test rows none number row found)
     in (
-      subst AreRows (sym is) (AreRows-push rows are shape reduced may right absent room),
-      ((shape, reduced) ∷ [], is),
-      ap (λ all. slice_get (types_of all) (length rows)) is ∙ stands-push rows are shape reduced may right absent,
+      subst AreRows (sym is) (AreRows-push rows are shape reduced elements may right made absent room),
+      ((shape, record { bare = reduced.bare; plain = reduced.plain; elements = elements }) ∷ [], is),
+      ap (λ all. slice_get (types_of all) (length rows)) is ∙ stands-push rows are shape reduced elements may right made absent,
     )
 
 -- a number of a form is told by its type

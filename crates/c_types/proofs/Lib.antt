@@ -3,6 +3,9 @@ mod Forms
 mod RowLemmas
 mod Arrays
 mod Keys
+mod ElementLemmas
+mod LayoutLemmas
+mod MemberLemmas
 mod Finding
 mod Joins
 mod Singles

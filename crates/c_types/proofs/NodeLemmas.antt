@@ -1,5 +1,5 @@
 -- Entries of nodes, where more values join those that they name.
-use Rattle.std.proofs.Common.{◌≡◌, ℕ, zero, suc, ◌<◌, ◌≤◌, List, [], ◌∷◌, ◌++◌, Option, Some, None, length, Result, Ok, Err, OnErr, refl, ap, ◌∙◌, arith, length-append}
+use Rattle.std.proofs.Common.{◌≡◌, ℕ, zero, suc, ◌<◌, ◌≤◌, List, [], ◌∷◌, ◌++◌, Option, None, length, Result, Ok, Err, OnErr, refl, ap, ◌∙◌, arith, length-append}
 use Rattle.std.specs.Prelude.{option_map, slice_set, unwrap_or}
 use Rattle.c_types.specs.declared.nodes.NodeValue.{NodeValue}
 use Rattle.c_types.specs.declared.nodes.NodeType.{NodeType}

@@ -6,7 +6,9 @@ use Rattle.meaning_types.specs.Types.{TypeTree, bare, without_flags}
 use Rattle.meaning_types.specs.Marks.{IsNormal}
 use Rattle.c_types.specs.declared.form.Shape.{Shape}
 use Rattle.c_types.specs.declared.form.Reduced.{Reduced}
-use Rattle.c_types.specs.Rows.{Row, type_numbered, type_seen, IsFunction, IsInside, types_behind, types_of, IsRow, StandOnce, AreRows, Grows, MayJoin, JoinsRight}
+use Rattle.c_types.specs.declared.elements.Elements.{Elements}
+use Rattle.c_types.specs.Elements.{AreElements}
+use Rattle.c_types.specs.Rows.{Row, base_of, form_seen, type_numbered, type_seen, IsFunction, IsInside, types_behind, types_of, IsRow, StandOnce, AreRows, Grows, MayJoin, JoinsRight}
 use Rattle.c_types.proofs.Lists.{slice_get-append, slice_get-last, stands-append, last_place}
 use Rattle.c_types.proofs.Forms.{same_shape, seen-kept, inside-kept, earlier-next, numbered-is, numbered-kept, IsFunction-bare, IsFunction-unflagged}
 
@@ -87,6 +89,7 @@ IsRow-kept types more number row is =
       normal = subst IsNormal (sym same) is.normal;
       bare_stands = stands-append types more row.1.bare _ is.bare_stands ∙ ap (λ t. Some (bare t)) (sym same);
       plain_stands = stands-append types more row.1.plain _ is.plain_stands ∙ ap (λ t. Some (without_flags (bare t))) (sym same);
+      elements = subst (λ t. AreElements (base_of t) row.1.elements) (sym same) is.elements;
     }
 
 -- What a row tells
@@ -119,22 +122,25 @@ module _ (rows : List Row) (are : AreRows rows) (number : ℕ) (row : Row) (foun
 
 -- One row more
 
-module _ (rows : List Row) (are : AreRows rows) (shape : Shape) (reduced : Reduced) (may : MayJoin rows shape) (right : JoinsRight rows shape reduced)
-    (absent : (number : ℕ) (row : Row) → slice_get rows number ≡ Some row → row.0 ≢ shape) where
+module _ (rows : List Row) (are : AreRows rows) (shape : Shape) (reduced : Reduced) (elements : Elements) (may : MayJoin rows shape) (right : JoinsRight rows shape reduced)
+    (made : AreElements (form_seen (types_of rows) shape.form) elements) (absent : (number : ℕ) (row : Row) → slice_get rows number ≡ Some row → row.0 ≢ shape) where
   abbrev types : List TypeTree
   types = types_of rows
 
   abbrev tree : TypeTree
   tree = type_seen types shape
 
+  abbrev new : Row
+  new = (shape, record { bare = reduced.bare; plain = reduced.plain; elements = elements })
+
   abbrev more : List Row
-  more = rows ++ (shape, reduced) ∷ []
+  more = rows ++ new ∷ []
 
   kept : type_seen (types ++ tree ∷ []) shape ≡ tree
   kept = seen-kept types (tree ∷ []) shape may.inside
 
   -- the new row is right
-  new_row : IsRow (types ++ tree ∷ []) (length rows) (shape, reduced)
+  new_row : IsRow (types ++ tree ∷ []) (length rows) new
   new_row =
       record {
         stands = ap (slice_get (types ++ tree ∷ [])) (sym (length-types_of rows)) ∙ slice_get-last types tree ∙ ap Some (sym kept);
@@ -143,14 +149,15 @@ module _ (rows : List Row) (are : AreRows rows) (shape : Shape) (reduced : Reduc
         normal = subst IsNormal (sym kept) may.normal;
         bare_stands = right.bare_stands ∙ ap (λ t. Some (bare t)) (sym kept);
         plain_stands = right.plain_stands ∙ ap (λ t. Some (without_flags (bare t))) (sym kept);
+        elements = subst (λ t. AreElements (base_of t) elements) (sym kept) made;
       }
 
   row_at : (number : ℕ) (row : Row) → slice_get more number ≡ Some row → IsRow (types ++ tree ∷ []) number row
   row_at number row found =
       ⊎_elim
-      (λ old. IsRow-kept types (tree ∷ []) number row (are.each number row (sym (slice_get-append rows ((shape, reduced) ∷ []) number old) ∙ found)))
+      (λ old. IsRow-kept types (tree ∷ []) number row (are.each number row (sym (slice_get-append rows (new ∷ []) number old) ∙ found)))
       (λ past.
-      let last = last_place rows (shape, reduced) number row found past in
+      let last = last_place rows new number row found past in
       subst (λ n. IsRow (types ++ tree ∷ []) n row) (sym last.0) (subst (IsRow (types ++ tree ∷ []) (length rows)) last.1 new_row))
       (cases_lt number (length rows))
 
@@ -165,10 +172,10 @@ module _ (rows : List Row) (are : AreRows rows) (shape : Shape) (reduced : Reduc
       (same_shape types are.apart row.0 shape is.inside may.inside (same_Some _ _ (sym is.stands ∙ found)))
     where
       type_row : (number : ℕ) → number < length rows → Row
-      type_row number below = Rattle.std.specs.Prelude.get_or rows number (shape, reduced)
+      type_row number below = Rattle.std.specs.Prelude.get_or rows number new
 
       row_stands : (number : ℕ) (below : number < length rows) → slice_get rows number ≡ Some (type_row number below)
-      row_stands number below = slice_get-get_or rows number (shape, reduced) below
+      row_stands number below = slice_get-get_or rows number new below
 
   -- each type stands once
   apart_still : StandOnce (types ++ tree ∷ [])
@@ -186,14 +193,14 @@ module _ (rows : List Row) (are : AreRows rows) (shape : Shape) (reduced : Reduc
 
   pub AreRows-push : length rows < 2 ^ 30 → AreRows more
   AreRows-push room =
-      let pushed = types_of-push rows (shape, reduced) in
+      let pushed = types_of-push rows new in
       record {
         each = λ number row found. subst (λ ts. IsRow ts number row) (sym pushed) (row_at number row found);
         apart = subst StandOnce (sym pushed) apart_still;
-        few = omega (arith, room, length-append rows ((shape, reduced) ∷ []));
+        few = omega (arith, room, length-append rows (new ∷ []));
       }
 
   -- the type of the new shape stands at the end
   pub stands-push : slice_get (types_of more) (length rows) ≡ Some tree
   stands-push =
-      ap (λ ts. slice_get ts (length rows)) (types_of-push rows (shape, reduced)) ∙ new_row.stands ∙ ap Some kept
+      ap (λ ts. slice_get ts (length rows)) (types_of-push rows new) ∙ new_row.stands ∙ ap Some kept

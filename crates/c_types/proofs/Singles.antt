@@ -7,6 +7,7 @@ use Rattle.meaning_types.specs.Marks.{IsNormal, marked}
 use Rattle.c_types.specs.declared.form.SpaceKey.TheVariants as keys
 use Rattle.c_types.specs.declared.form.Marks.{Marks}
 use Rattle.c_types.specs.declared.form.Form.{Form}
+use Rattle.c_types.specs.declared.elements.Single.TheVariants as singles
 use Rattle.c_types.specs.declared.form.Form.TheVariants as forms
 use Rattle.c_types.specs.declared.form.Shape.{Shape}
 use Rattle.c_types.specs.Forms.{array_form, may_be_marked}
@@ -25,8 +26,8 @@ module _ (rows : List Row) (are : AreRows rows) where
   -- each type is normal
   pub normal-numbered : (number : ℕ) → number < length (types_of rows) → IsNormal (type_numbered (types_of rows) number)
   normal-numbered number below =
-      let row : Row = get_or rows number (bare_shape forms.Void, record { bare = 0; plain = 0 }) in
-      let found : slice_get rows number ≡ Some row = slice_get-get_or rows number (bare_shape forms.Void, record { bare = 0; plain = 0 }) (omega (arith, below, length-types_of rows)) in
+      let row : Row = get_or rows number (bare_shape forms.Void, record { bare = 0; plain = 0; elements = record { count = 0; most = 0; of = singles.Sizeless } }) in
+      let found : slice_get rows number ≡ Some row = slice_get-get_or rows number (bare_shape forms.Void, record { bare = 0; plain = 0; elements = record { count = 0; most = 0; of = singles.Sizeless } }) (omega (arith, below, length-types_of rows)) in
       subst IsNormal (sym (numbered-row rows are number row found)) (are.each number row found).normal
 
   pub form-normal : (form : Form) (qualifiers : Qualifiers) (flags : Flags) → IsInside (types_of rows) form → may_be_marked form ≡ true → IsNormal (Typed (form_seen (types_of rows) form) qualifiers flags)

@@ -13,7 +13,11 @@ use Rattle.c_types.specs.contracts.bodies.NamedPartialEq.TheImpl as named_keys
 use Rattle.c_types.specs.declared.form.Marking.{Marking}
 use Rattle.c_types.specs.Rows.{Row, types_of, AreRows, Grows}
 use Rattle.c_types.specs.Levels.{AreMarkings}
-use Rattle.c_types.specs.Table.{TypeTable, Extends, IsBodyOver, IsKept, is_named, plain_integers, with_name}
+use Rattle.c_types.specs.declared.layouts.AggregateLayout.{AggregateLayout}
+use Rattle.c_types.specs.Layouts.{AreNarrow, told_kept, told_of}
+use Rattle.c_types.specs.Kept.{IsKept}
+use Rattle.c_types.proofs.LayoutLemmas.{told_of-later}
+use Rattle.c_types.specs.Table.{TypeTable, Extends, IsBodyOver, is_named, plain_integers, with_name}
 use Rattle.c_types.proofs.Integers.{integers-stand}
 use Rattle.c_types.proofs.RowLemmas.{types_of-Grows, stands-Grows}
 
@@ -43,29 +47,42 @@ body-found rows aggregate body (entry ∷ bodies) all found = by (nat_eq aggrega
 
 -- What is kept
 
-pub kept-Grows : (old new : List Row) (markings others : List (Marking × ℕ)) (bodies : List (ℕ × AggregateBody)) → IsKept old markings bodies → Grows old new → AreRows new → AreMarkings new others
-    → IsKept new others bodies
-kept-Grows old new markings others bodies kept grows are marked =
+pub kept-Grows : (old new : List Row) (markings others : List (Marking × ℕ)) (bodies : List (ℕ × AggregateBody)) (layouts : List (ℕ × AggregateLayout)) → IsKept old markings bodies layouts → Grows old new → AreRows new
+    → AreMarkings new others → IsKept new others bodies layouts
+kept-Grows old new markings others bodies layouts kept grows are marked =
     let more = types_of-Grows old new grows in
     record {
       rows_right = are;
       markings_right = marked;
       bodies_known = bodies-later old new (omega (arith, ap length more.1, length-append (types_of old) more.0)) bodies kept.bodies_known;
+      layouts_right = kept.layouts_right ∙ sym (ap (λ types. told_of types bodies) more.1 ∙ told_of-later (types_of old) more.0 bodies kept.bodies_known);
+      layouts_narrow = kept.layouts_narrow;
       integers_stand = λ kind. stands-Grows old new grows _ _ (kept.integers_stand kind);
     }
 
-pub kept-body : (rows : List Row) (markings : List (Marking × ℕ)) (bodies : List (ℕ × AggregateBody)) (aggregate : ℕ) (body : AggregateBody) → IsKept rows markings bodies → IsBodyOver (types_of rows) body
-    → IsKept rows markings (bodies ++ (aggregate, body) ∷ [])
-kept-body rows markings bodies aggregate body kept over =
+pub kept-body : (rows : List Row) (markings : List (Marking × ℕ)) (bodies : List (ℕ × AggregateBody)) (layouts others : List (ℕ × AggregateLayout)) (aggregate : ℕ) (body : AggregateBody)
+    → IsKept rows markings bodies layouts → IsBodyOver (types_of rows) body → told_kept others ≡ told_of (types_of rows) (bodies ++ (aggregate, body) ∷ []) → AreNarrow (told_kept others)
+    → IsKept rows markings (bodies ++ (aggregate, body) ∷ []) others
+kept-body rows markings bodies layouts others aggregate body kept over right narrow =
     record {
       rows_right = kept.rows_right;
       markings_right = kept.markings_right;
       bodies_known = bodies-push rows aggregate body over bodies kept.bodies_known;
+      layouts_right = right;
+      layouts_narrow = narrow;
       integers_stand = kept.integers_stand;
     }
 
-pub kept-integers : (rows : List Row) → AreRows rows → types_of rows ≡ plain_integers → IsKept rows [] []
-kept-integers rows are types = record { rows_right = are; markings_right = tt; bodies_known = tt; integers_stand = integers-stand (types_of rows) types }
+pub kept-integers : (rows : List Row) → AreRows rows → types_of rows ≡ plain_integers → IsKept rows [] [] []
+kept-integers rows are types =
+    record {
+      rows_right = are;
+      markings_right = tt;
+      bodies_known = tt;
+      layouts_right = refl;
+      layouts_narrow = λ number is_union. tt;
+      integers_stand = integers-stand (types_of rows) types;
+    }
 
 -- What is seen
 

@@ -17,6 +17,11 @@ element_in (forms.Array element count) = Some element
 element_in (forms.OpenArray element) = Some element
 element_in form = None
 
+-- the element of an array whose length isn't known
+abbrev pub open_element_in : Form → Option ℕ
+open_element_in (forms.OpenArray element) = Some element
+open_element_in form = None
+
 -- the element of an array, and its length if it is known
 abbrev pub array_in : Form → Option (ℕ × Option ℕ)
 array_in (forms.Array element count) = Some (element, Some count)

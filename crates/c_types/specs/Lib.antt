@@ -1,7 +1,10 @@
 pub mod Forms
+pub mod Elements
 pub mod Rows
 pub mod Levels
 pub mod Table
+pub mod Layouts
+pub mod Kept
 pub mod Nodes
 pub mod Operands
 pub mod Outlines

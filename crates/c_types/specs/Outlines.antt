@@ -1,5 +1,5 @@
 -- What types and forms are, apart from the types in them.
-use Rattle.std.specs.Prelude.{Bool, true, false, Option, Some, None}
+use Rattle.std.specs.Prelude.{ℕ, Bool, true, false, Option, Some, None}
 use Rattle.sparse_model.specs.declared.ids.Restrict.{Restrict}
 use Rattle.meaning_types.specs.Types.{Flags, TypeTree, Typed, VoidTree, IntegerTree, RestrictedTree, PointerTree, ArrayTree, FunctionTree, AggregateTree}
 use Rattle.c_types.specs.declared.form.Form.{Form}
@@ -35,6 +35,11 @@ outline_in (forms.Aggregate token is_union) = outlines.Aggregate token is_union
 abbrev pub restrict_in : Outline → Option Restrict
 restrict_in (outlines.Restricted kind restrict) = Some restrict
 restrict_in outline = None
+
+-- an aggregate, and whether it is a union
+abbrev pub aggregate_in : Outline → Option (ℕ × Bool)
+aggregate_in (outlines.Aggregate number is_union) = Some (number, is_union)
+aggregate_in outline = None
 
 abbrev pub is_void_outline : Outline → Bool
 is_void_outline outlines.Void = true

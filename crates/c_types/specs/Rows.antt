@@ -11,10 +11,12 @@ use Rattle.c_types.specs.declared.form.Form.TheVariants as forms
 use Rattle.c_types.specs.declared.form.Shape.{Shape}
 use Rattle.c_types.specs.declared.form.Marks.{Marks}
 use Rattle.c_types.specs.declared.form.Reduced.{Reduced}
+use Rattle.c_types.specs.declared.form.TypeFacts.{TypeFacts}
+use Rattle.c_types.specs.Elements.{AreElements}
 
--- a row: a shape, and what is left of its type
+-- a row: a shape, and what is kept beside it
 abbrev pub Row : Type 0
-Row = Shape × Reduced
+Row = Shape × TypeFacts
 
 -- void, which stands for a type that isn't there
 abbrev pub no_type : TypeTree
@@ -144,6 +146,7 @@ pub record IsRow (types : List TypeTree) (number : ℕ) (row : Row) : Type 0 whe
   pub normal : IsNormal (type_seen types row.0)
   pub bare_stands : slice_get types row.1.bare ≡ Some (bare (type_seen types row.0))
   pub plain_stands : slice_get types row.1.plain ≡ Some (without_flags (bare (type_seen types row.0)))
+  pub elements : AreElements (form_seen types row.0.form) row.1.elements
 
 -- equal types have one number
 abbrev pub StandOnce : List TypeTree → Type 0

@@ -1,6 +1,5 @@
 -- The table of types as its callers see it: what it holds are rows, and what is read of them are types, as trees.
-use Rattle.std.specs.Prelude.{◌≡◌, ℕ, zero, suc, ◌+◌, ◌<◌, Bool, nat_eq, false, List, [], ◌∷◌, ◌++◌, All, Option, Some, None, option_map, if◌then◌else◌, length, map, slice_get}
-use Rattle.std.specs.List.{AllByRecursion}
+use Rattle.std.specs.Prelude.{◌≡◌, ℕ, zero, suc, ◌+◌, ◌<◌, Bool, nat_eq, false, List, [], ◌∷◌, ◌++◌, All, Option, Some, None, option_map, if◌then◌else◌, length, map}
 use Rattle.std.specs.Map.{lookup}
 use Rattle.vocabulary.specs.declared.int_kind.IntKind.{IntKind}
 use Rattle.sparse_model.specs.declared.ids.NameId.{NameId}
@@ -10,7 +9,7 @@ use Rattle.sparse_model.specs.declared.space.Space.TheVariants as spaces
 use Rattle.meaning_types.specs.Types as meaning
 use Rattle.meaning_types.specs.Types.{Qualifiers, Flags, TypeTree, Typed, BaseTree, VoidTree, IntegerTree, RestrictedTree, PointerTree, ArrayTree, FunctionTree, AggregateTree, TypeTrees, NoTypes, MoreTypes, no_qualifiers, no_flags}
 use Rattle.meaning_types.specs.Conversions.{promoted, usual}
-use Rattle.meaning_types.specs.Equality.{all_kinds, kind_number}
+use Rattle.meaning_types.specs.Equality.{all_kinds}
 use Rattle.meaning_types.specs.Marks.{marked}
 use Rattle.c_types.specs.declared.bodies.AggregateBody.{AggregateBody}
 use Rattle.c_types.specs.declared.bodies.Named.{Named}
@@ -21,9 +20,7 @@ use Rattle.c_types.specs.declared.shapes.TypeShape.{TypeShape}
 use Rattle.c_types.specs.declared.shapes.OuterBase.{OuterBase}
 use Rattle.c_types.specs.declared.shapes.OuterBase.TheVariants as outers
 use Rattle.c_types.specs.declared.shapes.OuterShape.{OuterShape}
-use Rattle.c_types.specs.declared.form.Marking.{Marking}
-use Rattle.c_types.specs.Levels.{AreMarkings}
-use Rattle.c_types.specs.Rows.{Row, AreRows, type_numbered, types_numbered, types_of}
+use Rattle.c_types.specs.Rows.{Row, type_numbered, types_numbered, types_of}
 
 -- what a table holds: a row a type, in the order of their numbers; the bodies of aggregates, and names of tags and
 -- identities, in the order in which they were told
@@ -194,12 +191,3 @@ IsBodyOver types body = All (λ member. member.of.0 < length types) body.members
 abbrev pub with_name : List (Named × NameId) → Named → NameId → List (Named × NameId)
 with_name [] what name = (what, name) ∷ []
 with_name (entry ∷ names) what name = if is_named what entry.0 then entry ∷ names else entry ∷ with_name names what name
-
--- How it is kept
-
--- what is kept of a table: rows that are right, what was marked, bodies over its types, and the plain integers first
-pub record IsKept (rows : List Row) (markings : List (Marking × ℕ)) (bodies : List (ℕ × AggregateBody)) : Type 0 where
-  pub rows_right : AreRows rows
-  pub markings_right : AreMarkings rows markings
-  pub bodies_known : AllByRecursion (λ entry. IsBodyOver (types_of rows) entry.1) bodies
-  pub integers_stand : (kind : IntKind) → slice_get (types_of rows) (kind_number kind) ≡ Some (plain_integer kind)

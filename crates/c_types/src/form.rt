@@ -1,4 +1,5 @@
 // What one entry of the table holds: the outermost level of a type, over the numbers of its parts.
+use crate::elements::Elements;
 use crate::shapes::OuterBase;
 use sparse_model::{Restrict, Space, TypeId};
 use vocabulary::IntKind;
@@ -65,6 +66,14 @@ pub struct Reduced {
     pub plain: u32,
 }
 
+/// What is kept of a type beside its shape: the numbers of what is left of it, and what it is made of.
+#[derive(Clone, Copy)]
+pub struct TypeFacts {
+    pub bare: u32,
+    pub plain: u32,
+    pub elements: Elements,
+}
+
 impl SpaceKey {
     ghost use Rattle.std.specs.Prelude.{◌≡◌};
     ghost use Rattle.meaning_types.specs.Marks.{later_space};
@@ -84,7 +93,7 @@ impl SpaceKey {
 
 impl Form {
     ghost use Rattle.std.specs.Prelude.{◌≡◌};
-    ghost use Rattle.c_types.specs.Forms.{array_form, array_in, element_in, function_in, kind_in, may_be_marked, outer_in, parameter_in, target_in, with_element};
+    ghost use Rattle.c_types.specs.Forms.{array_form, array_in, element_in, function_in, kind_in, may_be_marked, open_element_in, outer_in, parameter_in, target_in, with_element};
     ghost use Rattle.vocabulary.specs.declared.int_kind.IntKind.{IntKind};
 
     /// An array of so many elements, if the length is known.
@@ -125,6 +134,16 @@ impl Form {
         match self {
             Form::Array(element, count) => Some((element, Some(count))),
             Form::OpenArray(element) => Some((element, None)),
+            _ => None,
+        }
+    }
+
+    /// The element of an array whose length isn't known.
+    pub fn open_element(self) -> Option<u32>
+        ensures { result ≡ open_element_in self }
+    {
+        match self {
+            Form::OpenArray(element) => Some(element),
             _ => None,
         }
     }

@@ -7,8 +7,11 @@
 
 mod bodies;
 mod composite;
+mod elements;
 mod form;
 mod kinds;
+mod laying;
+mod layouts;
 mod levels;
 mod making;
 mod nodes;
@@ -21,7 +24,9 @@ mod table;
 mod trees;
 
 pub use bodies::{AggregateBody, Member, MemberList, Named};
+pub use body_layout::Extent;
 pub use kinds::{bits, has_sign, promoted_kind, rank, usual_kind};
+pub use layouts::LayoutFault;
 pub use nodes::{NodeType, NodeTypes, NodeValue};
 pub use operand::{Operand, are_one_identity};
 pub use outline::Outline;

@@ -11,7 +11,7 @@ use std::alloc::{AllocError, Global};
 /// The rows of all types, and what was added to which type before.
 #[derive(Drop)]
 pub struct Maker {
-    alloc: Global,
+    pub alloc: Global,
     pub rows: Rows,
     // A type that is marked again costs a look-up, however many levels it has.
     pub markings: IndexMap<Marking, u32>,

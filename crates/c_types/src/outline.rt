@@ -24,7 +24,7 @@ pub enum Outline {
 }
 
 impl Outline {
-    ghost use Rattle.c_types.specs.Outlines.{is_pointer_outline, is_void_outline, restrict_in};
+    ghost use Rattle.c_types.specs.Outlines.{aggregate_in, is_pointer_outline, is_void_outline, restrict_in};
 
     /// Whether it is void.
     pub fn is_void(self) -> bool
@@ -43,6 +43,16 @@ impl Outline {
         match self {
             Outline::Pointer => true,
             _ => false,
+        }
+    }
+
+    /// The token that names an aggregate first, and whether it is a union.
+    pub fn aggregate(self) -> Option<(u32, bool)>
+        ensures { result ≡ aggregate_in self }
+    {
+        match self {
+            Outline::Aggregate(number, is_union) => Some((number, is_union)),
+            _ => None,
         }
     }
 

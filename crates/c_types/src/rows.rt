@@ -1,5 +1,5 @@
 // The rows of the table: each type once, with what is left of it.
-use crate::form::{Form, Reduced, Shape, SpaceKey};
+use crate::form::{Form, Reduced, Shape, SpaceKey, TypeFacts};
 use indexmap::IndexMap;
 use sparse_model::IntKind;
 use std::alloc::{AllocError, Global};
@@ -26,7 +26,7 @@ const KINDS: [IntKind; 12] = [
 /// Types by their numbers. A shape stands once, so equal types have equal numbers.
 #[derive(Drop)]
 pub struct Rows {
-    pub rows: IndexMap<Shape, Reduced>,
+    pub rows: IndexMap<Shape, TypeFacts>,
 }
 
 impl Rows {
@@ -100,12 +100,12 @@ impl Rows {
     }
 
     /// The row of a type.
-    pub fn row(&self, number: u32) -> (Shape, Reduced)
+    pub fn row(&self, number: u32) -> (Shape, TypeFacts)
         requires { number < length self.now.rows.entries }
         ensures { slice_get self.now.rows.entries number ≡ Some result }
     {
-        let (shape, reduced) = self.rows.get_index(number as usize).unwrap();
-        (*shape, *reduced)
+        let (shape, facts) = self.rows.get_index(number as usize).unwrap();
+        (*shape, *facts)
     }
 
     /// The number of the type of this shape, if it has one.
@@ -135,8 +135,14 @@ impl Rows {
         if let Some(index) = self.rows.get_index_of(&shape) {
             return index as u32;
         }
+        let Reduced { bare, plain } = reduced;
+        let facts = TypeFacts {
+            bare,
+            plain,
+            elements: self.elements_of(shape.form),
+        };
         let index = self.rows.len();
-        self.rows.insert(shape, reduced).unwrap();
+        self.rows.insert(shape, facts).unwrap();
         index as u32
     }
 

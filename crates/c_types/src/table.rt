@@ -1,9 +1,12 @@
 // The table of types as its callers see it.
-ghost use Rattle.std.specs.Prelude.{◌≡◌, ◌<◌, ◌↔◌, IsTrue, is_some, ◌∷◌, ◌++◌, [], None, Some, IfNone, IfOk, IfSome, IsSome, OnOk, OnErr, option_map, slice_get};
+ghost use Rattle.std.specs.Prelude.{◌≡◌, ◌<◌, ◌↔◌, IsTrue, is_some, ◌∷◌, ◌++◌, [], None, Some, IfNone, IfOk, IfSome, IsSome, OnOk, OnErr, length, option_map, slice_get};
 ghost use Rattle.meaning_types.specs.Types.{NoTypes, flags_of, has_flag, without_flags};
 ghost use Rattle.meaning_types.specs.Equality.{are_equal_flags, are_same};
 ghost use Rattle.meaning_types.specs.Composite.{composite};
 ghost use Rattle.meaning_operands.specs.Operands.{identity_of};
+ghost use Rattle.meaning_layout.specs.Sizes.{extent_of};
+ghost use Rattle.meaning_layout.specs.Telling.{or_incomplete};
+ghost use Rattle.c_types.specs.Layouts.{bit_in, bit_seen, extent_seen, told_in};
 ghost use Rattle.c_types.specs.Levels.{BeginsWith};
 ghost use Rattle.c_types.specs.Operands.{identity_seen};
 ghost use Rattle.c_types.specs.Outlines.{outline_of};
@@ -14,10 +17,12 @@ ghost use Rattle.c_types.specs.Trees.{tree_seen};
 use crate::bodies::{AggregateBody, Named};
 use crate::form::{Marks, SpaceKey};
 use crate::kinds::{kind_number, promoted_kind, usual_kind};
+use crate::layouts::{LayoutFault, Layouts};
 use crate::making::Maker;
 use crate::outline::Outline;
 use crate::rows::Rows;
 use crate::shapes::{OuterShape, TypeShape};
+use body_layout::Extent;
 use indexmap::IndexMap;
 use sparse_model::{CType, IntKind, NameId, Restrict, Space, TypeId};
 use std::alloc::{AllocError, Global};
@@ -29,17 +34,19 @@ use std::marker::Model;
 pub struct Types {
     maker: Maker,
     bodies: IndexMap<u32, AggregateBody>,
+    layouts: Layouts,
     names: IndexMap<Named, NameId>,
 }
 
 impl Model for Types {
-    ghost use Rattle.c_types.specs.Table.{IsKept, TypeTable};
+    ghost use Rattle.c_types.specs.Kept.{IsKept};
+    ghost use Rattle.c_types.specs.Table.{TypeTable};
 
     ghost Value = { TypeTable };
 
     ghost view = { λ types. record { rows = types.maker.rows.rows.entries; bodies = types.bodies.entries; names = types.names.entries } };
 
-    ghost invariant = { λ types. IsKept types.maker.rows.rows.entries types.maker.markings.entries types.bodies.entries };
+    ghost invariant = { λ types. IsKept types.maker.rows.rows.entries types.maker.markings.entries types.bodies.entries types.layouts.kept.entries };
 }
 
 impl Types {
@@ -54,6 +61,7 @@ impl Types {
         Ok(Types {
             maker: Maker::new(alloc, Rows::of_integers(alloc)?),
             bodies: IndexMap::new(alloc),
+            layouts: Layouts::new(alloc),
             names: IndexMap::new(alloc),
         })
     }
@@ -249,14 +257,19 @@ impl Types {
         self.maker.rows.tree(alloc, t.0)
     }
 
-    /// Tells the members of an aggregate, which weren't told before.
+    /// Tells the members of an aggregate, which weren't told before, and makes its layout.
     pub fn complete(&mut self, aggregate: u32, body: AggregateBody) -> Result<(), AllocError>
         requires untold { body_in self.old aggregate ≡ None }
         requires known { IsBodyOver (types_in self.old) body }
         ensures told { OnOk result (self.new ≡ record { rows = self.old.rows; bodies = self.old.bodies ++ (aggregate, body) ∷ []; names = self.old.names }) }
         ensures err { OnErr result (self.new ≡ self.old) }
     {
+        let layout = self
+            .layouts
+            .lay_out(self.maker.alloc, &self.maker.rows, &body)?;
+        self.layouts.reserve()?;
         self.bodies.insert(aggregate, body)?;
+        self.layouts.keep(aggregate, layout);
         Ok(())
     }
 
@@ -266,6 +279,23 @@ impl Types {
         ensures known { IfSome result (λ body. IsBodyOver (types_in self.now) body.now) }
     {
         self.bodies.get(&aggregate)
+    }
+
+    /// The size and the alignment of a type, or why it has none. It takes no memory, and one step.
+    pub fn extent(&self, t: TypeId) -> Result<Extent, LayoutFault>
+        requires { IsTypeId self.now t }
+        ensures { extent_seen result ≡ extent_of (told_in self.now) (type_at self.now t) }
+    {
+        self.layouts.extent(self.maker.rows.elements(t.0))
+    }
+
+    /// The first bit of a member of an aggregate, or why the aggregate has no layout. It takes no memory,
+    /// and one step.
+    pub fn first_bit(&self, aggregate: u32, is_union: bool, member: u32) -> Result<u64, LayoutFault>
+        requires { IfSome (body_in self.now aggregate) (λ body. member < length body.members) }
+        ensures { bit_seen result ≡ bit_in member (or_incomplete (told_in self.now aggregate is_union)) }
+    {
+        self.layouts.first_bit(aggregate, is_union, member)
     }
 
     /// Tells the name of a tag or an identity. One that has a name keeps it.

@@ -2,3 +2,4 @@ pub mod MultipleLemmas
 pub mod LayoutLemmas
 pub mod SizeLemmas
 pub mod RepeatLemmas
+pub mod TellingLemmas

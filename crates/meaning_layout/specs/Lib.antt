@@ -5,3 +5,4 @@ pub mod Sizes
 pub mod laws
 pub mod examples
 pub mod Repeats
+pub mod Telling

@@ -11,16 +11,16 @@ returns-in-Some-clause-stands c =
     find-stands c.args.self.now.rows.entries c.requires.rows c.args.shape (shape_eq c.args.shape) (same_key c.args.shape) c.in-Some.index (sym c.in-Some.ensures.index)
 
 -- the shape was not there, so it is the last one now
-grown : (c : goal.After-unwrap) → c.insert.new.self.entries ≡ c.args.self.now.rows.entries ++ (c.args.shape, c.args.reduced) ∷ []
+grown : (c : goal.After-unwrap) → c.insert.new.self.entries ≡ c.args.self.now.rows.entries ++ (c.args.shape, record { bare = c.args.reduced.bare; plain = c.args.reduced.plain; elements = c.elements_of.result }) ∷ []
 grown c =
     let inserted = rw c.unwrap.ensures at c.insert.ensures.entries in
-    inserted ∙ insert_entry-new shape_eq c.args.self.now.rows c.args.shape c.args.reduced (none_from _ c.in_default.ensures.found)
+    inserted ∙ insert_entry-new shape_eq c.args.self.now.rows c.args.shape (record { bare = c.args.reduced.bare; plain = c.args.reduced.plain; elements = c.elements_of.result }) (none_from _ c.in_default.ensures.found)
 
 all : (c : goal.After-unwrap)
     → AreRows c.insert.new.self.entries × Grows c.args.self.now.rows.entries c.insert.new.self.entries
     × (slice_get (types_of c.insert.new.self.entries) (length c.args.self.now.rows.entries) ≡ Some (type_seen (types_of c.args.self.now.rows.entries) c.args.shape))
 all c =
-    joined c.args.self.now.rows.entries c.insert.new.self.entries c.requires.rows c.args.shape c.args.reduced c.requires.may c.requires.right
+    joined c.args.self.now.rows.entries c.insert.new.self.entries c.requires.rows c.args.shape c.args.reduced c.elements_of.result c.requires.may c.requires.right c.elements_of.ensures
     (shape_eq c.args.shape) (key_again c.args.shape) c.in_default.ensures.found c.requires.few (grown c)
 
 pub returns-clause-stands : goal.returns-clause-stands

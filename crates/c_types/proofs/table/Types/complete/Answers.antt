@@ -1,18 +1,34 @@
--- The body joins the others at their end.
+-- The body joins the others at their end, and its layout is kept.
 use Rattle.std.proofs.Common.{◌≡◌, nat_eq, [], ◌∷◌, ◌++◌, None, sym, ap, ◌∙◌, subst}
 use Rattle.std.specs.Map.{lookup}
+use Rattle.indexmap.specs.IndexMap.{insert_entry}
 use Rattle.indexmap.proofs.CallerLemmas.{insert_entry-new}
-use Rattle.c_types.specs.Table.{IsBodyOver, IsKept, types_in}
+use Rattle.c_types.specs.Kept.{IsKept}
+use Rattle.c_types.specs.Rows.{types_of}
+use Rattle.c_types.specs.Table.{IsBodyOver, types_in}
+use Rattle.c_types.proofs.LayoutLemmas.{narrow-push, told_kept-push}
 use Rattle.c_types.proofs.TableLemmas.{kept-body}
 use Rattle.c_types.proofs.table.Types.complete.Goals as goal
 
+pub lay_out-requires-clause-known : goal.lay_out-requires-clause-known
+lay_out-requires-clause-known c = subst (λ table. IsBodyOver (types_in table) c.args.body) (sym c.self.view_is) c.requires.known
+
 pub invariant_of-self-2 : goal.invariant_of-self-2
 invariant_of-self-2 c =
-    let none : lookup (nat_eq c.args.aggregate) c.self.inside.bodies.entries ≡ None = ap (λ table. lookup (nat_eq c.args.aggregate) table.bodies) c.self.view_is ∙ c.requires.untold in
-    subst (IsKept c.self.inside.maker.rows.rows.entries c.self.inside.maker.markings.entries)
-    (sym (c.in_ok-insert.ensures.entries ∙ insert_entry-new nat_eq c.self.inside.bodies c.args.aggregate c.args.body none))
-    (kept-body c.self.inside.maker.rows.rows.entries c.self.inside.maker.markings.entries c.self.inside.bodies.entries c.args.aggregate c.args.body c.self.invariant
-    (subst (λ table. IsBodyOver (types_in table) c.args.body) (sym c.self.view_is) c.requires.known))
+    let rows = c.self.inside.maker.rows.rows.entries in
+    let markings = c.self.inside.maker.markings.entries in
+    let bodies = c.self.inside.bodies.entries in
+    let layouts = c.self.inside.layouts.kept.entries in
+    let none : lookup (nat_eq c.args.aggregate) bodies ≡ None = ap (λ table. lookup (nat_eq c.args.aggregate) table.bodies) c.self.view_is ∙ c.requires.untold in
+    let grown : c.keep.new.self.kept.entries ≡ insert_entry nat_eq layouts c.args.aggregate c.in_ok-layout.layout =
+    c.keep.ensures ∙ ap (λ kept. insert_entry nat_eq kept c.args.aggregate c.in_ok-layout.layout) c.reserve.ensures.same
+    in
+    subst (λ all. IsKept rows markings all c.keep.new.self.kept.entries) (sym (c.in_ok-insert.ensures.entries ∙ insert_entry-new nat_eq c.self.inside.bodies c.args.aggregate c.args.body none))
+    (subst (IsKept rows markings (bodies ++ (c.args.aggregate, c.args.body) ∷ [])) (sym grown)
+    (kept-body rows markings bodies layouts (insert_entry nat_eq layouts c.args.aggregate c.in_ok-layout.layout) c.args.aggregate c.args.body c.self.invariant
+    (subst (λ table. IsBodyOver (types_in table) c.args.body) (sym c.self.view_is) c.requires.known)
+    (told_kept-push (types_of rows) bodies layouts c.args.aggregate c.args.body c.in_ok-layout.layout c.self.invariant.layouts_right none c.in_ok-layout.ensures.structure c.in_ok-layout.ensures.union)
+    (narrow-push (types_of rows) bodies layouts c.args.aggregate c.args.body c.in_ok-layout.layout c.self.invariant.layouts_narrow c.in_ok-layout.ensures.narrow)))
 
 pub returns-clause-told : goal.returns-clause-told
 returns-clause-told c =

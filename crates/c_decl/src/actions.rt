@@ -9,7 +9,10 @@ ghost use Rattle.parse_state.specs.Groups.{is_expression_action};
 ghost use Rattle.parse_state.specs.Seen.{state_of};
 ghost use Rattle.parse_state.specs.Steps.{IsToldBy};
 
-use crate::attributes::append_attribute;
+use crate::attributes::{
+    append_attribute, append_leading_attributes, make_parenthesized_attributes,
+};
+use crate::declarators::{join_any_parts, join_parts, join_suffixes, make_optional_declarator};
 use crate::functions::{
     append_declarator, begin_declarators, close_parameters, make_file_specifiers,
     note_function_declarator, open_body,
@@ -53,16 +56,16 @@ pub fn act(state: &mut ParseState<'_>, action: Action) -> Result<(), ActionFault
             append_attribute(state);
             Ok(())
         }
-        Action::AppendLeadingAttributes
-        | Action::BindDeclarator
+        Action::AppendLeadingAttributes => append_leading_attributes(state),
+        Action::MakeParenthesizedAttributes => make_parenthesized_attributes(state),
+        Action::JoinParts => join_parts(state),
+        Action::JoinAnyParts => join_any_parts(state),
+        Action::JoinSuffixes => join_suffixes(state),
+        Action::MakeOptionalDeclarator => make_optional_declarator(state),
+        Action::BindDeclarator
         | Action::BindFurtherDeclarator
         | Action::BindEnumerator
-        | Action::BindParameter
-        | Action::JoinParts
-        | Action::JoinAnyParts
-        | Action::JoinSuffixes
-        | Action::MakeParenthesizedAttributes
-        | Action::MakeOptionalDeclarator => Err(ActionFault::Memory),
+        | Action::BindParameter => Err(ActionFault::Memory),
         _ => make_node(state, action),
     }
 }

@@ -5,6 +5,7 @@
 
 mod actions;
 mod attributes;
+mod declarators;
 mod functions;
 mod names;
 mod nodes;

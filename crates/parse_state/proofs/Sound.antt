@@ -55,7 +55,7 @@ given-below end (Word token name) sources below = refl
 given-below end (Tree handle) sources below = ap (λ (one : Bool). one && true) below
 given-below end (kinds.List children) sources below = below
 
-children-below : (end : ℕ) (stack : List Value) (sources : List Source) → list_all (has_handles_below end) stack ≡ true → list_all (is_below end) (children_in stack sources) ≡ true
+pub children-below : (end : ℕ) (stack : List Value) (sources : List Source) → list_all (has_handles_below end) stack ≡ true → list_all (is_below end) (children_in stack sources) ≡ true
 children-below end [] sources below = refl
 children-below end (value ∷ stack) sources below =
     let halves = and_parts (has_handles_below end value) (list_all (has_handles_below end) stack) below in

@@ -9,3 +9,4 @@ pub mod Groups
 pub mod Parameters
 pub mod Looking
 pub mod OnlyTrees
+pub mod Joining

@@ -8,8 +8,8 @@ use crate::value::Value;
 use c_tree::Handle;
 use sparse_model::NameId;
 
-// The index of the token of a word.
-fn token_at(values: &[Value], depth: usize) -> u32
+/// The index of the token of a word.
+pub(crate) fn token_at(values: &[Value], depth: usize) -> u32
     ensures { result ≡ token_in (slice_get (reverse values.now) depth) }
 {
     match value_at(values, depth) {

@@ -103,8 +103,8 @@ fn put_child(children: &mut TagList, handle: Handle, role: Role) -> Result<(), A
     children.push(handle, role.tag())
 }
 
-// Puts children behind others.
-fn join(children: &mut TagList, list: TagList) -> Result<(), AllocError>
+/// Puts children behind others.
+pub(crate) fn join(children: &mut TagList, list: TagList) -> Result<(), AllocError>
     ensures { OnOk result (children.new ≡ children.old ++ list) }
 {
     if children.len() == 0 {

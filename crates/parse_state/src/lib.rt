@@ -8,6 +8,8 @@
 mod asking;
 mod children;
 mod fault;
+mod joining;
+mod leading;
 mod looking;
 mod marks;
 mod nodes;

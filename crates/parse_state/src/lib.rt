@@ -17,6 +17,7 @@ mod scoping;
 mod shape;
 mod stacking;
 mod state;
+mod strings;
 mod unwrapping;
 mod value;
 

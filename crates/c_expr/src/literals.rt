@@ -1,6 +1,6 @@
 // The nodes of literals, with the kinds and numbers of their values (C11 6.4.4, 6.4.5). What has no value is an int of 0.
 ghost use Rattle.std.specs.Prelude.{◌≡◌, IfErr, IsSome, OnOk};
-ghost use Rattle.vocabulary.specs.declared.action.Action.TheVariants.{MakeCharacterConstant, MakeIntegerConstant};
+ghost use Rattle.vocabulary.specs.declared.action.Action.TheVariants.{MakeCharacterConstant, MakeIntegerConstant, MakeStringLiteral};
 ghost use Rattle.vocabulary.specs.declared.production_item.ProductionItem.TheVariants.{Do};
 ghost use Rattle.meaning_literals.specs.Integers.{integer_of};
 ghost use Rattle.meaning_literals.specs.Quoted.{char_of};
@@ -14,7 +14,7 @@ ghost use Rattle.parse_state.specs.Seen.{state_of};
 ghost use Rattle.parse_state.specs.Steps.{IsToldBy};
 
 use c_literals::{read_char, read_integer};
-use parse_state::{ActionFault, ParseState, Shape};
+use parse_state::{ActionFault, ParseState, Shape, Source};
 use sparse_model::{IntConst, IntKind};
 use vocabulary::NodeKind;
 
@@ -53,6 +53,28 @@ pub fn make_character(state: &mut ParseState<'_>) -> Result<(), ActionFault>
         name: None,
         number: constant.bits,
         sources: &[],
+    })
+}
+
+/// A string literal of the pieces that stand beside each other, whose number is how many elements its array has: their bytes
+/// and the zero behind them (6.4.5 p6). An array of 2^64 elements is want of memory.
+pub fn make_string(state: &mut ParseState<'_>) -> Result<(), ActionFault>
+    requires finds { IsSome (effect (Do MakeStringLiteral) (sorts_of (state_of state.old).values)) }
+    ensures goes { OnOk result (act MakeStringLiteral (state_of state.old) ≡ Goes (state_of state.new)) }
+    ensures told { IfErr result (IsToldBy (act MakeStringLiteral (state_of state.old))) }
+    ensures names { state.new.names ≡ state.old.names }
+{
+    let Some(number) = state.string_length(0)?.checked_add(1) else {
+        return Err(ActionFault::Memory);
+    };
+    let token = state.token(1);
+    state.make(&Shape {
+        takes: 2,
+        kind: NodeKind::StringLiteral,
+        token,
+        name: None,
+        number,
+        sources: &[Source::AllTrees(0)],
     })
 }
 

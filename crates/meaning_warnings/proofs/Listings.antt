@@ -57,7 +57,7 @@ one_head f g e = ap (λ (o : Option Failure). unwrap_or o f) e
 -- without equal heads the rest have the same firsts
 rest-same : (f g h : Failure) (fs gs : List Failure) → f ≡ g → AreBehind f fs → AreBehind g gs
     → first_like h (f ∷ fs) ≡ first_like h (g ∷ gs) → first_like h fs ≡ first_like h gs
-rest-same f g h fs gs is all other same = go (order_of h f) refl
+rest-same f g h fs gs is all other same = rest_by (order_of h f) refl
   where
     of : order_of h g ≡ order_of h f
     of = ap (order_of h) (sym is)
@@ -67,21 +67,21 @@ rest-same f g h fs gs is all other same = go (order_of h f) refl
         let there : is_eq (order_of h g) ≡ false = ap is_eq of ∙ here in
         ap (λ c. cond c (Some f) (first_like h fs)) (sym here) ∙ same ∙ ap (λ c. cond c (Some g) (first_like h gs)) there
 
-    go : (o : Ordering) → order_of h f ≡ o → first_like h fs ≡ first_like h gs
-    go Less e = apart (ap is_eq e)
-    go Equal e = like-one h f fs e ∙ none-behind f fs all ∙ sym (none-behind g gs other) ∙ sym (like-one h g gs (of ∙ e))
-    go Greater e = apart (ap is_eq e)
+    rest_by : (o : Ordering) → order_of h f ≡ o → first_like h fs ≡ first_like h gs
+    rest_by Less e = apart (ap is_eq e)
+    rest_by Equal e = like-one h f fs e ∙ none-behind f fs all ∙ sym (none-behind g gs other) ∙ sym (like-one h g gs (of ∙ e))
+    rest_by Greater e = apart (ap is_eq e)
 
 pub unique : (fs gs : List Failure) → AreOrdered fs → AreOrdered gs → ((h : Failure) → first_like h fs ≡ first_like h gs) → fs ≡ gs
 unique [] [] up others same = refl
 unique [] (g ∷ gs) up others same = absurd (none-some g (same g ∙ first-self g gs))
 unique (f ∷ fs) [] up others same = absurd (none-some f (sym (same f) ∙ first-self f fs))
-unique (f ∷ fs) (g ∷ gs) up others same = go (order_of f g) refl (unique fs gs up.1 others.1)
+unique (f ∷ fs) (g ∷ gs) up others same = same_by (order_of f g) refl (unique fs gs up.1 others.1)
   where
-    go : (o : Ordering) → order_of f g ≡ o → (((h : Failure) → first_like h fs ≡ first_like h gs) → fs ≡ gs) → f ∷ fs ≡ g ∷ gs
-    go Less e rest = absurd (none-some f (sym (first-before f g gs e others.0) ∙ sym (same f) ∙ first-self f fs))
-    go Greater e rest = absurd (none-some g (sym (first-before g f fs (turned f g Greater e) up.0) ∙ same g ∙ first-self g gs))
-    go Equal e rest =
+    same_by : (o : Ordering) → order_of f g ≡ o → (((h : Failure) → first_like h fs ≡ first_like h gs) → fs ≡ gs) → f ∷ fs ≡ g ∷ gs
+    same_by Less e rest = absurd (none-some f (sym (first-before f g gs e others.0) ∙ sym (same f) ∙ first-self f fs))
+    same_by Greater e rest = absurd (none-some g (sym (first-before g f fs (turned f g Greater e) up.0) ∙ same g ∙ first-self g gs))
+    same_by Equal e rest =
         let found : first_like f (g ∷ gs) ≡ Some g = rw e refl in
         let is = one_head f g (sym (first-self f fs) ∙ same f ∙ found) in
         ap₂ ◌∷◌ is (rest (λ h. rest-same f g h fs gs is up.0 others.0 (same h)))
@@ -106,26 +106,26 @@ in_order (f ∷ fs) = placed f (in_order fs)
 -- it stays behind what all of them are behind
 placed-behind : (e f : Failure) (gs : List Failure) → order_of e f ≡ Less → AreBehind e gs → AreBehind e (placed f gs)
 placed-behind e f [] before all = (before, all)
-placed-behind e f (g ∷ gs) before all = go (order_of f g) (placed-behind e f gs before all.1)
+placed-behind e f (g ∷ gs) before all = behind_by (order_of f g) (placed-behind e f gs before all.1)
   where
-    go : (o : Ordering) → AreBehind e (placed f gs) → AreBehind e (by_order o (f ∷ g ∷ gs) (f ∷ gs) (g ∷ placed f gs))
-    go Less rest = (before, all)
-    go Equal rest = (before, all.1)
-    go Greater rest = (all.0, rest)
+    behind_by : (o : Ordering) → AreBehind e (placed f gs) → AreBehind e (by_order o (f ∷ g ∷ gs) (f ∷ gs) (g ∷ placed f gs))
+    behind_by Less rest = (before, all)
+    behind_by Equal rest = (before, all.1)
+    behind_by Greater rest = (all.0, rest)
 
 placed-ordered : (f : Failure) (gs : List Failure) → AreOrdered gs → AreOrdered (placed f gs)
 placed-ordered f [] up = (tt, tt)
-placed-ordered f (g ∷ gs) up = go (order_of f g) refl (placed-ordered f gs up.1)
+placed-ordered f (g ∷ gs) up = ordered_by (order_of f g) refl (placed-ordered f gs up.1)
   where
-    go : (o : Ordering) → order_of f g ≡ o → AreOrdered (placed f gs) → AreOrdered (by_order o (f ∷ g ∷ gs) (f ∷ gs) (g ∷ placed f gs))
-    go Less e rest = ((e, behind-earlier f g gs e up.0), up)
-    go Equal e rest = (behind-one f g gs e up.0, up.1)
-    go Greater e rest = (placed-behind g f gs (turned f g Greater e) up.0, rest)
+    ordered_by : (o : Ordering) → order_of f g ≡ o → AreOrdered (placed f gs) → AreOrdered (by_order o (f ∷ g ∷ gs) (f ∷ gs) (g ∷ placed f gs))
+    ordered_by Less e rest = ((e, behind-earlier f g gs e up.0), up)
+    ordered_by Equal e rest = (behind-one f g gs e up.0, up.1)
+    ordered_by Greater e rest = (placed-behind g f gs (turned f g Greater e) up.0, rest)
 
 -- the firsts behind it are those behind the failure in front
 placed-same : (h f : Failure) (gs : List Failure) → first_like h (placed f gs) ≡ first_like h (f ∷ gs)
 placed-same h f [] = refl
-placed-same h f (g ∷ gs) = go (order_of f g) refl (placed-same h f gs)
+placed-same h f (g ∷ gs) = first_by (order_of f g) refl (placed-same h f gs)
   where
     equal : (b : Bool) → is_eq (order_of h f) ≡ b → order_of f g ≡ Equal
         → cond b (Some f) (first_like h gs) ≡ cond b (Some f) (cond (is_eq (order_of h g)) (Some g) (first_like h gs))
@@ -141,11 +141,11 @@ placed-same h f (g ∷ gs) = go (order_of f g) refl (placed-same h f gs)
         ap (λ o. cond (is_eq o) (Some g) (first_like h (placed f gs))) (total.congr h f g i ∙ e)
         ∙ rest ∙ ap (λ o. cond (is_eq o) (Some f) (first_like h gs)) i
 
-    go : (o : Ordering) → order_of f g ≡ o → first_like h (placed f gs) ≡ first_like h (f ∷ gs)
+    first_by : (o : Ordering) → order_of f g ≡ o → first_like h (placed f gs) ≡ first_like h (f ∷ gs)
         → first_like h (by_order o (f ∷ g ∷ gs) (f ∷ gs) (g ∷ placed f gs)) ≡ first_like h (f ∷ g ∷ gs)
-    go Less e rest = refl
-    go Equal e rest = equal _ refl e
-    go Greater e rest = greater _ refl e rest
+    first_by Less e rest = refl
+    first_by Equal e rest = equal _ refl e
+    first_by Greater e rest = greater _ refl e rest
 
 in_order-ordered : (fs : List Failure) → AreOrdered (in_order fs)
 in_order-ordered [] = tt

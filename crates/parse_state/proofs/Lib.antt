@@ -10,3 +10,4 @@ pub mod OnlyTrees
 pub mod Sound
 pub mod Making
 pub mod JoinedLists
+pub mod LiteralLengths

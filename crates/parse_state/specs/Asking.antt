@@ -27,3 +27,7 @@ handle_in value = None
 abbrev pub count_in : Option Value → ℕ
 count_in (Some (kinds.List children)) = length children
 count_in value = 0
+
+abbrev pub list_in : Option Value → Option (List (ℕ × ℕ))
+list_in (Some (kinds.List children)) = Some children
+list_in value = None

@@ -1,7 +1,7 @@
 -- What is told of lists and of names that were found.
-use Rattle.std.specs.Prelude.{ℕ, zero, suc, ◌+◌, List, [], Bool, Option, Some, None}
+use Rattle.std.specs.Prelude.{ℕ, ◌+◌, List, Bool, Option, Some, None}
 use Rattle.vocabulary.specs.declared.scope.Bound.{Bound}
-use Rattle.meaning_tree.specs.Trees.{SyntaxTree, Node, Parts, NoParts, Part}
+use Rattle.meaning_tree.specs.Trees.{SyntaxTree, Parts, NoParts, Part}
 use Rattle.meaning_scopes.specs.Scopes.{Found}
 use Rattle.meaning_derivation.specs.Values.{TreeValue}
 use Rattle.meaning_derivation.specs.State.{State, with_value}
@@ -19,9 +19,3 @@ only_tree parts = None
 abbrev pub with_only : State → (depth : ℕ) → Option SyntaxTree → State
 with_only s depth None = s
 with_only s depth (Some tree) = with_value s (depth + 1) (TreeValue tree)
-
--- the name of the part at this place
-abbrev pub part_name : Parts (List ℕ) → (place : ℕ) → List ℕ
-part_name NoParts place = []
-part_name (Part role (Node kind token name number parts) others) zero = name
-part_name (Part role tree others) (suc place) = part_name others place

@@ -19,6 +19,7 @@ mod scoping;
 mod shape;
 mod stacking;
 mod state;
+mod strings;
 mod unwrapping;
 mod value;
 

@@ -114,4 +114,11 @@ returns-clause-units c = record {
   by_default = refl;
   one_class = refl;
   in_a_header = refl;
+  equal_lines = refl;
+  off_between = refl;
+  on_between = refl;
+  switched_on = refl;
+  switched_off = refl;
+  left_on = refl;
+  left_off = refl;
 }

@@ -1,0 +1,37 @@
+-- The pieces are those of the list so far below the top.
+use Rattle.std.proofs.Common.{◌≡◌, ◌+◌, Bool, true, List, length, reverse, slice_get, Some, None, IfOk, sym, ap, subst, ◌∙◌, arith}
+use Rattle.std.specs.List.{list_all}
+use Rattle.meaning_tree.specs.Nodes.{end_of}
+use Rattle.meaning_tree.specs.Listed.{parts_at}
+use Rattle.meaning_derivation.specs.Literals.{pieces_length}
+use Rattle.meaning_derivation.specs.Values.{parts_of, value_at}
+use Rattle.parse_state.specs.Asking.{list_in}
+use Rattle.parse_state.specs.Giving.{is_below}
+use Rattle.parse_state.specs.Seen.{Read, state_of, spelled_trees}
+use Rattle.parse_state.proofs.LiteralLengths.{length-seen, list_known, no_length-seen}
+use Rattle.parse_state.proofs.state.ParseState.string_length.Goals as goal
+
+pub literals_length-requires-clause-below : goal.literals_length-requires-clause-below
+literals_length-requires-clause-below c =
+    let here : list_in (slice_get (reverse c.self.inside.values.items) c.args.depth) ≡ Some c.in-Some.pieces.now =
+    sym (c.in-Some.ensures ∙ ap (λ stack. list_in (slice_get (reverse stack) c.args.depth)) c.deref.ensures.value) in
+    let first = c.self.invariant.first in
+    let end : end_of c.self.inside.unit ≡ length c.self.inside.unit.nodes = omega (arith, first) in
+    ap (λ end. list_all (is_below end) c.in-Some.pieces.now) end
+    ∙ list_known (length c.self.inside.unit.nodes) c.self.inside.values.items c.args.depth c.in-Some.pieces.now c.self.invariant.handles here
+
+pub returns-in-Some : goal.returns-in-Some
+returns-in-Some c =
+    let here : list_in (slice_get (reverse c.self.inside.values.items) c.args.depth) ≡ Some c.in-Some.pieces.now =
+    sym (c.in-Some.ensures ∙ ap (λ stack. list_in (slice_get (reverse stack) c.args.depth)) c.deref.ensures.value) in
+    subst (λ total. IfOk c.literals_length.result (λ length. length ≡ total))
+    (sym (length-seen c.self.inside.names.now (spelled_trees c.self.inside.names.now c.self.inside.unit) (reverse c.self.inside.values.items) c.args.depth c.in-Some.pieces.now here)
+    ∙ ap (λ (seen : Read). pieces_length (parts_of (value_at (state_of seen).values c.args.depth))) c.self.view_is)
+    c.literals_length.ensures
+
+pub returns-in-None : goal.returns-in-None
+returns-in-None c =
+    let none : list_in (slice_get (reverse c.self.inside.values.items) c.args.depth) ≡ None =
+    sym (c.in-None.ensures ∙ ap (λ stack. list_in (slice_get (reverse stack) c.args.depth)) c.deref.ensures.value) in
+    sym (no_length-seen c.self.inside.names.now (spelled_trees c.self.inside.names.now c.self.inside.unit) (reverse c.self.inside.values.items) c.args.depth none)
+    ∙ ap (λ (seen : Read). pieces_length (parts_of (value_at (state_of seen).values c.args.depth))) c.self.view_is

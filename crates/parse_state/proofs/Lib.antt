@@ -9,3 +9,4 @@ pub mod Fitting
 pub mod OnlyTrees
 pub mod Sound
 pub mod Making
+pub mod DeclaredNames

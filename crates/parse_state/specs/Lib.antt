@@ -9,3 +9,5 @@ pub mod Groups
 pub mod Parameters
 pub mod Looking
 pub mod OnlyTrees
+pub mod Storage
+pub mod Declaring

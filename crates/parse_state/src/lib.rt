@@ -7,6 +7,7 @@
 
 mod asking;
 mod children;
+mod declaring;
 mod fault;
 mod looking;
 mod marks;
@@ -17,12 +18,15 @@ mod scoping;
 mod shape;
 mod stacking;
 mod state;
+mod storage;
 mod unwrapping;
 mod value;
 
+pub use declaring::DeclaredName;
 pub use fault::ActionFault;
 pub use marks::{HeldError, PassedLimit};
 pub use row::{Place, Row};
 pub use shape::{Shape, Source};
 pub use state::ParseState;
+pub use storage::StorageClass;
 pub use value::Value;

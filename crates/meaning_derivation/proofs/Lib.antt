@@ -3,3 +3,4 @@ pub mod Deriving
 pub mod Sorting
 pub mod Shaping
 pub mod Stepping
+pub mod Storing

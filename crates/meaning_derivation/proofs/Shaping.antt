@@ -1,6 +1,6 @@
 -- Each action that has a shape makes its node, by computation.
 use Rattle.std.proofs.Common.{refl}
-use Rattle.vocabulary.specs.declared.action.Action.TheVariants.{Append, AppendAttribute, AppendDeclarator, AppendLeadingAttributes, AwaitBody, BeginAtNext, BeginDeclarators, BeginList, BindDeclarator, BindEnumerator, BindFurtherDeclarator, BindParameter, CloseParameters, CloseScope, CountParameter, DeclareTag, DefineTag, JoinAnyParts, JoinParts, JoinSuffixes, MakeCharacterConstant, MakeFileSpecifiers, MakeForPart, MakeIntegerConstant, MakeOptionalDeclarator, MakeParenthesizedAttributes, MakeStringLiteral, NoteFunctionDeclarator, OpenBody, OpenScope, RequireType, RequireTypeOrAttributes, UseName, UseTag, UseTypedefName, WithoutTag}
+use Rattle.vocabulary.specs.declared.action.Action.TheVariants.{Append, AppendAttribute, AppendDeclarator, AppendLeadingAttributes, AwaitBody, BeginAtNext, BeginDeclarators, BeginList, BindDeclarator, BindEnumerator, BindFurtherDeclarator, BindParameter, CloseParameters, CloseScope, CountParameter, DeclareTag, DefineTag, JoinAnyParts, JoinParts, JoinSuffixes, MakeBlockSpecifiers, MakeCharacterConstant, MakeFileSpecifiers, MakeForPart, MakeIntegerConstant, MakeMemberSpecifiers, MakeOptionalDeclarator, MakeParameterSpecifiers, MakeParenthesizedAttributes, MakeStringLiteral, MakeTypeNameSpecifiers, NoteFunctionDeclarator, OpenBody, OpenScope, RequireType, RequireTypeOrAttributes, UseName, UseTag, UseTypedefName, WithoutTag}
 use Rattle.meaning_derivation.specs.laws.Shapes.{ShapesAreMade}
 
 pub shapes_are_made : ShapesAreMade
@@ -15,6 +15,10 @@ shapes_are_made BindFurtherDeclarator s = tt
 shapes_are_made NoteFunctionDeclarator s = tt
 shapes_are_made AwaitBody s = tt
 shapes_are_made MakeFileSpecifiers s = tt
+shapes_are_made MakeBlockSpecifiers s = tt
+shapes_are_made MakeMemberSpecifiers s = tt
+shapes_are_made MakeParameterSpecifiers s = tt
+shapes_are_made MakeTypeNameSpecifiers s = tt
 shapes_are_made RequireType s = tt
 shapes_are_made RequireTypeOrAttributes s = tt
 shapes_are_made DeclareTag s = tt

@@ -13,6 +13,7 @@ use Rattle.meaning_tree.specs.Trees.{Node, NoParts, with_parts}
 use Rattle.meaning_scopes.specs.Scopes.{Opened, without_scope}
 use Rattle.meaning_derivation.specs.Values.{Value, ListValue, value_at, token_of, text_of, parts_of, before, alone, stands_at, plain_tree, named_tree}
 use Rattle.meaning_derivation.specs.State.{State, ActionOutcome, Goes, pushed, with_value, made}
+use Rattle.meaning_derivation.specs.Storage.{specifiers_tree}
 use Rattle.meaning_derivation.specs.Lists.{appended, joined, suffixed, name_or, declarator_values, optional_declarator, attributes_list, leading_attributes, with_parameter, part_of_for}
 use Rattle.meaning_derivation.specs.Scoping.{with_scopes, found_name, found_here, bound_as, declared, tag_at, place, with_first_keyword, name_used, typedef_named, parameter_bound, function_noted, parameters_closed, without_closed, body_awaited, body_opened}
 use Rattle.meaning_derivation.specs.Literals.{constant_tree, pieces_length}
@@ -56,11 +57,11 @@ act BindFurtherDeclarator s = declared s (below s 0) (bound_as s (below s 2) (be
 act NoteFunctionDeclarator s = Goes (function_noted s (below s 1))
 act AwaitBody s = Goes (body_awaited s (below s 1))
 -- Specifiers (6.7.1 to 6.7.4)
-act MakeFileSpecifiers s = made (without_closed s) 2 (plain_tree kinds.Specifiers (token_of (below s 1)) (parts_of (below s 0)))
-act MakeBlockSpecifiers s = made s 2 (plain_tree kinds.Specifiers (token_of (below s 1)) (parts_of (below s 0)))
-act MakeMemberSpecifiers s = made s 2 (plain_tree kinds.Specifiers (token_of (below s 1)) (parts_of (below s 0)))
-act MakeParameterSpecifiers s = made s 2 (plain_tree kinds.Specifiers (token_of (below s 1)) (parts_of (below s 0)))
-act MakeTypeNameSpecifiers s = made s 2 (plain_tree kinds.Specifiers (token_of (below s 1)) (parts_of (below s 0)))
+act MakeFileSpecifiers s = made (without_closed s) 2 (specifiers_tree (below s 1) (below s 0))
+act MakeBlockSpecifiers s = made s 2 (specifiers_tree (below s 1) (below s 0))
+act MakeMemberSpecifiers s = made s 2 (specifiers_tree (below s 1) (below s 0))
+act MakeParameterSpecifiers s = made s 2 (specifiers_tree (below s 1) (below s 0))
+act MakeTypeNameSpecifiers s = made s 2 (specifiers_tree (below s 1) (below s 0))
 act RequireType s = Goes s
 act RequireTypeOrAttributes s = Goes s
 act DeclareTag s = Goes s

@@ -4,6 +4,7 @@ pub mod Taking
 pub mod Derivation
 pub mod Leading
 pub mod Units
+pub mod Storage
 pub mod Lists
 pub mod Scoping
 pub mod Literals

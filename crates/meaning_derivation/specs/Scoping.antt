@@ -1,8 +1,7 @@
 -- What names are bound to while a unit is read (C11 6.2.1, 6.7 p3).
-use Rattle.std.specs.Prelude.{ℕ, ◌-◌, Bool, true, false, ◌||◌, not, List, [], ◌∷◌, ◌++◌, reverse, nat_eq, Option, Some, None, is_some, if◌then◌else◌}
+use Rattle.std.specs.Prelude.{ℕ, ◌-◌, Bool, false, ◌||◌, not, List, [], ◌∷◌, ◌++◌, reverse, nat_eq, Option, Some, None, is_some, if◌then◌else◌}
 use Rattle.std.specs.Str.{bytes_eq}
 use Rattle.vocabulary.specs.declared.error_kind.ErrorKind.TheVariants.{NotDeclared, Redeclared}
-use Rattle.vocabulary.specs.declared.node_kind.NodeKind.{NodeKind}
 use Rattle.vocabulary.specs.declared.node_kind.NodeKind.TheVariants as kinds
 use Rattle.vocabulary.specs.declared.scope.NameSpace.{NameSpace}
 use Rattle.vocabulary.specs.declared.scope.NameSpace.TheVariants.{Ordinary, Tags}
@@ -12,6 +11,7 @@ use Rattle.meaning_tree.specs.Trees.{SyntaxTree, Node, Parts, NoParts, Part}
 use Rattle.meaning_scopes.specs.Scopes.{Entry, ScopeList, Opened, Binds, Found, find, innermost, is_open, with_entries, without_scope}
 use Rattle.meaning_scopes.specs.Redeclaration.{bound_here, is_redeclared}
 use Rattle.meaning_derivation.specs.Values.{Value, WordValue, TreeValue, token_of, text_of, stands_at, name_of, named_tree}
+use Rattle.meaning_derivation.specs.Storage.{StorageClass, TypedefClass, ExternClass, OtherClass, noted_class}
 use Rattle.meaning_derivation.specs.State.{ClosedList, State, IsError, ActionOutcome, Goes, Refuses, with_values, made}
 
 abbrev pub with_scopes : State → ScopeList (List ℕ) → State
@@ -31,24 +31,15 @@ bound s space name declaration kind =
 abbrev pub last_handle : State → ℕ
 last_handle s = s.nodes - 1
 
--- the name of a tree that was made last is bound as this, unless its scope has declared it otherwise
+-- a name stands for the node that was made last, unless its scope has declared it otherwise, which is told at this token
+abbrev pub declared_at : State → (name : List ℕ) → (token : ℕ) → Bound → ActionOutcome
+declared_at s name token new =
+    if is_redeclared (bound_here (found_name s Ordinary name)) new then Refuses (IsError Redeclared) token
+    else Goes (bound s Ordinary name (last_handle s) new)
+
+-- the name of a tree that was made last is bound as this
 abbrev pub declared : State → (tree : Value) → Bound → ActionOutcome
-declared s tree new =
-    if is_redeclared (bound_here (found_name s Ordinary (name_of tree))) new then Refuses (IsError Redeclared) (stands_at tree)
-    else Goes (bound s Ordinary (name_of tree) (last_handle s) new)
-
--- some part is of this kind
-abbrev pub has_kind : (NodeKind → Bool) → Parts (List ℕ) → Bool
-has_kind is_kind NoParts = false
-has_kind is_kind (Part role (Node kind token name number parts) others) = is_kind kind || has_kind is_kind others
-
-abbrev pub is_typedef : NodeKind → Bool
-is_typedef kinds.TypedefSpecifier = true
-is_typedef kind = false
-
-abbrev pub is_extern : NodeKind → Bool
-is_extern kinds.ExternSpecifier = true
-is_extern kind = false
+declared s tree new = declared_at s (name_of tree) (stands_at tree) new
 
 -- the parts of a tree
 abbrev pub parts_below : Value → Parts (List ℕ)
@@ -70,16 +61,15 @@ own_parameters (Part role tree (Part next other parts)) = own_parameters (Part n
 abbrev pub ends_with_parameters : Parts (List ℕ) → Bool
 ends_with_parameters parts = is_some (own_parameters parts)
 
--- a declarator behind these specifiers has linkage: at file scope, with `extern`, or as a function's (6.2.2)
-abbrev pub has_linkage : State → (specifiers declarator : Value) → Bool
-has_linkage s specifiers declarator =
-    not (is_open s.scopes) || has_kind is_extern (parts_below specifiers) || ends_with_parameters (parts_below declarator)
+-- a declarator behind specifiers of this storage class: with linkage at file scope, with `extern`, or as a function's (6.2.2)
+abbrev pub bound_behind : State → StorageClass → (declarator : Value) → Bound
+bound_behind s TypedefClass declarator = Typedef
+bound_behind s ExternClass declarator = Linked
+bound_behind s OtherClass declarator =
+    if not (is_open s.scopes) || ends_with_parameters (parts_below declarator) then Linked else Unlinked
 
 abbrev pub bound_as : State → (specifiers declarator : Value) → Bound
-bound_as s specifiers declarator =
-    if has_kind is_typedef (parts_below specifiers) then Typedef
-    else (if has_linkage s specifiers declarator then Linked
-    else Unlinked)
+bound_as s specifiers declarator = bound_behind s (noted_class specifiers) declarator
 
 -- a parameter is bound where it has a declarator with a name
 abbrev pub parameter_bound : State → (specifiers : Value) → Parts (List ℕ) → ActionOutcome

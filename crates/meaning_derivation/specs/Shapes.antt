@@ -6,7 +6,7 @@ use Rattle.vocabulary.specs.declared.role.Role.TheVariants.{Evaluated, Condition
 use Rattle.vocabulary.specs.declared.node_kind.NodeKind.{NodeKind}
 use Rattle.vocabulary.specs.declared.node_kind.NodeKind.TheVariants as kinds
 use Rattle.vocabulary.specs.declared.action.Action.{Action}
-use Rattle.vocabulary.specs.declared.action.Action.TheVariants.{MakeAttributeList, MakeBinary, MakeBlockSpecifiers, MakeBuiltinOffsetof, MakeCall, MakeCompoundStatement, MakeConditional, MakeContextStatement, MakeDeclaration, MakeDeclarator, MakeDoStatement, MakeEnumerator, MakeForStatement, MakeFunctionDefinition, MakeIfStatement, MakeInitializerItem, MakeLabelStatement, MakeLeaf, MakeLoneDeclaration, MakeMember, MakeMemberDeclaration, MakeMemberSpecifiers, MakeNamed, MakeOver, MakeOverList, MakeOverTwo, MakeParameter, MakeParameterSpecifiers, MakePostfix, MakeSizeofType, MakeStringPiece, MakeTagged, MakeTranslationUnit, MakeTypeName, MakeTypeNameSpecifiers}
+use Rattle.vocabulary.specs.declared.action.Action.TheVariants.{MakeAttributeList, MakeBinary, MakeBuiltinOffsetof, MakeCall, MakeCompoundStatement, MakeConditional, MakeContextStatement, MakeDeclaration, MakeDeclarator, MakeDoStatement, MakeEnumerator, MakeForStatement, MakeFunctionDefinition, MakeIfStatement, MakeInitializerItem, MakeLabelStatement, MakeLeaf, MakeLoneDeclaration, MakeMember, MakeMemberDeclaration, MakeNamed, MakeOver, MakeOverList, MakeOverTwo, MakeParameter, MakePostfix, MakeSizeofType, MakeStringPiece, MakeTagged, MakeTranslationUnit, MakeTypeName}
 use Rattle.meaning_tree.specs.Trees.{SyntaxTree, Node, Parts, NoParts, with_parts}
 use Rattle.meaning_derivation.specs.Values.{Value, value_at, token_of, text_of, parts_of, before, alone, stands_at}
 
@@ -97,10 +97,6 @@ shape_of MakeLoneDeclaration = plain_shape 1 kinds.Declaration (AtTree 0) (OneTr
 shape_of MakeDeclaration = plain_shape 2 kinds.Declaration (AtTree 1) (OneTree TypePart 1 ∷ AllTrees 0 ∷ [])
 shape_of MakeFunctionDefinition =
     plain_shape 4 kinds.FunctionDefinition (AtTree 3) (OneTree TypePart 3 ∷ OneTree TypePart 2 ∷ AllTrees 1 ∷ OneTree Evaluated 0 ∷ [])
-shape_of MakeBlockSpecifiers = plain_shape 2 kinds.Specifiers (AtWord 1) (AllTrees 0 ∷ [])
-shape_of MakeMemberSpecifiers = plain_shape 2 kinds.Specifiers (AtWord 1) (AllTrees 0 ∷ [])
-shape_of MakeParameterSpecifiers = plain_shape 2 kinds.Specifiers (AtWord 1) (AllTrees 0 ∷ [])
-shape_of MakeTypeNameSpecifiers = plain_shape 2 kinds.Specifiers (AtWord 1) (AllTrees 0 ∷ [])
 shape_of (MakeTagged kind) =
     Some (record {
       takes = 5;

@@ -62,6 +62,11 @@ abbrev pub name_of : Value → List ℕ
 name_of (TreeValue (Node kind token name number parts)) = name
 name_of value = []
 
+-- the number of a tree
+abbrev pub tree_number : Value → ℕ
+tree_number (TreeValue (Node kind token name number parts)) = number
+tree_number value = 0
+
 -- a tree with neither name nor number, at this token
 abbrev pub plain_tree : NodeKind → ℕ → Parts (List ℕ) → SyntaxTree
 plain_tree kind token parts = Node kind token [] 0 parts

@@ -2,3 +2,4 @@
 pub mod Outcomes
 pub mod Sorts
 pub mod Shapes
+pub mod Storage

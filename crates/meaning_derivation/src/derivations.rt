@@ -2,7 +2,8 @@
 ghost use Rattle.meaning_derivation.specs.laws.Outcomes.{ItemsHaveOneOutcome, UnitsHaveOneOutcome, AnswersAreOutcomes};
 ghost use Rattle.meaning_derivation.specs.laws.Sorts.{ActionsAreSorted, ActionsLeadOn};
 ghost use Rattle.meaning_derivation.specs.laws.Shapes.{ShapesAreMade};
-ghost use Rattle.meaning_derivation.specs.examples.Units.{TreeExamples, BodyExamples, ChainExamples, RefusalExamples};
+ghost use Rattle.meaning_derivation.specs.laws.Storage.{ClassesHaveNumbers, SpecifiersHaveTheirClass};
+ghost use Rattle.meaning_derivation.specs.examples.Units.{TreeExamples, BodyExamples, BindExamples, ChainExamples, RefusalExamples};
 
 /// A list of tokens has one outcome at most, a tree or a refusal, whatever the actions do.
 pub fn each_unit_has_one_outcome()
@@ -26,10 +27,17 @@ pub fn shapes_are_made()
     ensures { ShapesAreMade }
 {}
 
+/// A node of specifiers has the storage class of its parts.
+pub fn specifiers_have_their_class()
+    ensures numbers { ClassesHaveNumbers }
+    ensures nodes { SpecifiersHaveTheirClass }
+{}
+
 /// Short units derive the trees, or are refused for what, that one can tell by eye.
 pub fn worked_examples()
     ensures trees { TreeExamples }
     ensures bodies { BodyExamples }
+    ensures binds { BindExamples }
     ensures chains { ChainExamples }
     ensures refusals { RefusalExamples }
 {}

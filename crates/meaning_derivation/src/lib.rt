@@ -8,5 +8,5 @@ mod derivations;
 
 pub use derivations::{
     actions_leave_their_sorts, answers_are_outcomes, each_unit_has_one_outcome, shapes_are_made,
-    worked_examples,
+    specifiers_have_their_class, worked_examples,
 };

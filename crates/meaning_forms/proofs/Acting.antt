@@ -9,21 +9,22 @@ use Rattle.vocabulary.specs.declared.scope.NameSpace.TheVariants.{Ordinary, Tags
 use Rattle.vocabulary.specs.declared.limit.LimitKind.TheVariants.{Parameters}
 use Rattle.vocabulary.specs.declared.node_kind.NodeKind.TheVariants as kinds
 use Rattle.vocabulary.specs.declared.action.Action.{Action}
-use Rattle.vocabulary.specs.declared.action.Action.TheVariants.{Append, AppendAttribute, AppendDeclarator, AppendLeadingAttributes, AwaitBody, BeginAtNext, BeginDeclarators, BeginList, BindDeclarator, BindEnumerator, BindFurtherDeclarator, BindParameter, CloseParameters, CloseScope, CountParameter, DeclareTag, DefineTag, JoinAnyParts, JoinParts, JoinSuffixes, MakeCharacterConstant, MakeFileSpecifiers, MakeForPart, MakeIntegerConstant, MakeOptionalDeclarator, MakeParenthesizedAttributes, MakeStringLiteral, NoteFunctionDeclarator, OpenBody, OpenScope, RequireType, RequireTypeOrAttributes, UseName, UseTag, UseTypedefName, WithoutTag}
+use Rattle.vocabulary.specs.declared.action.Action.TheVariants.{Append, AppendAttribute, AppendDeclarator, AppendLeadingAttributes, AwaitBody, BeginAtNext, BeginDeclarators, BeginList, BindDeclarator, BindEnumerator, BindFurtherDeclarator, BindParameter, CloseParameters, CloseScope, CountParameter, DeclareTag, DefineTag, JoinAnyParts, JoinParts, JoinSuffixes, MakeBlockSpecifiers, MakeCharacterConstant, MakeFileSpecifiers, MakeForPart, MakeIntegerConstant, MakeMemberSpecifiers, MakeOptionalDeclarator, MakeParameterSpecifiers, MakeParenthesizedAttributes, MakeStringLiteral, MakeTypeNameSpecifiers, NoteFunctionDeclarator, OpenBody, OpenScope, RequireType, RequireTypeOrAttributes, UseName, UseTag, UseTypedefName, WithoutTag}
 use Rattle.meaning_tree.specs.Trees.{SyntaxTree, Node, Parts, NoParts, Part, with_parts}
-use Rattle.meaning_tree.specs.Forms.{PartSort, LeadingLists, ADeclarator, ADeclaratorPart, ASpecifier, AnExpression, AConstant, AString, attribute_lists, expressions, optional_expressions, IsOf, Slot, One, Perhaps, Each, slots_of, Fits, nothing, one, left_out, there, no_more, one_more, IsFormedTree, AreFormedTrees}
+use Rattle.meaning_tree.specs.Forms.{PartSort, LeadingLists, SpecifierList, ADeclarator, ADeclaratorPart, ASpecifier, AnExpression, AConstant, AString, attribute_lists, expressions, optional_expressions, IsOf, Slot, One, Perhaps, Each, slots_of, Fits, nothing, one, left_out, there, no_more, one_more, IsFormedTree, AreFormedTrees}
 use Rattle.meaning_scopes.specs.Scopes.{Found}
 use Rattle.meaning_scopes.specs.Redeclaration.{bound_here, is_redeclared}
 use Rattle.meaning_derivation.specs.Values.{Value, WordValue, TreeValue, ListValue, value_at, token_of, text_of, parts_of, before, name_of, plain_tree}
 use Rattle.meaning_derivation.specs.State.{State, Goes, made_as, made, with_limit}
 use Rattle.meaning_derivation.specs.Lists.{reversed_before, part_count, most_parameters, appended, joined, suffixed, has_spelling, name_or, unnamed_declarator, attributes_list, leading_attributes, part_of_for, first_tree_token}
+use Rattle.meaning_derivation.specs.Storage.{specifiers_tree}
 use Rattle.meaning_derivation.specs.Scoping.{declared, bound, bound_as, last_handle, parameter_bound, tag_at, found_name, found_here, parts_below, ends_with_parameters, name_used, typedef_named, without_closed}
 use Rattle.meaning_derivation.specs.Shapes.{Shape, shape_of, shaped_tree}
 use Rattle.meaning_derivation.specs.Actions.{act, below}
 use Rattle.meaning_derivation.proofs.Shaping.{shapes_are_made}
 use Rattle.meaning_forms.proofs.Slots.{is_within, IsOf-more, within-fits, both}
 use Rattle.meaning_forms.proofs.Knowledge.{Known, AWord, ATree, AList, AreOf, Is, grown, is_list, grown-is, alone-is, are_of-behind, with_parts-none}
-use Rattle.meaning_forms.proofs.Effects.{file_specifiers, behind_known, behind_shape, where_, declarator_parts, lists_of_attributes, slots_from}
+use Rattle.meaning_forms.proofs.Effects.{behind_known, behind_shape, specifiers_known, where_, declarator_parts, lists_of_attributes, slots_from}
 use Rattle.meaning_forms.proofs.Fronts.{Stand, beneath, word_first, tree_first, list_first, some_first, stand_more, stand_same}
 use Rattle.meaning_forms.proofs.Making.{reached, reached_unless, made-values, made_stands}
 
@@ -318,6 +319,21 @@ module _ (begun : Parts (List ℕ)) (s next : State) (rest : List Value) where
         refl,
       ) tests.1 below_it
 
+  specifiers_act :
+      (known after : List Known) → next.values ≡ TreeValue (specifiers_tree (below s 1) (below s 0)) ∷ drop 2 s.values
+      → specifiers_known known ≡ Some after → Stands known → Leaves after
+  specifiers_act (AList slots ∷ AWord ∷ known) after is found stand =
+      let tests = where_holds (is_within slots (slots_of kinds.Specifiers)) (ATree (SpecifierList ∷ []) ∷ known) after found in
+      let (own, others, top, are, second) = list_first begun (AList slots) (AWord ∷ known) s.values rest refl stand in
+      let (token, text, left, under, below_it) = word_first begun known others rest second in
+      let values = top ∙ ap (λ all. ListValue own ∷ all) under in
+      replace (ATree (SpecifierList ∷ [])) known after _ left (is ∙ beneath (ap (drop 2) values)) (
+        subst (λ value. AreOf (slots_of kinds.Specifiers) (parts_of value)) (sym (ap (λ all. value_at all 0) values))
+            (within-fits slots (slots_of kinds.Specifiers) tests.0 own are.0, are.1),
+        refl,
+      ) tests.1 below_it
+  specifiers_act known after is found stand = absurd (cc found)
+
   -- Names
 
   declared_values : (tree : Value) (new : Bound) → declared s tree new ≡ Goes next → next.values ≡ s.values
@@ -391,8 +407,15 @@ module _ (begun : Parts (List ℕ)) (s next : State) (rest : List Value) where
       kept known after (reached _ next is ∙ noted_values (ends_with_parameters (parts_below (below s 1))) (record s { function_end = Some s.taken }) refl) found stand
   acts AwaitBody known after is found stand = kept known after (reached _ next is) found stand
   acts MakeFileSpecifiers known after is found stand =
-      made_stands begun known s.values rest stand file_specifiers (slots_from file_specifiers.sources known) after next.values refl found
-      (made-values (without_closed s) next 2 (TreeValue (shaped_tree file_specifiers s.values)) is)
+      specifiers_act known after (made-values (without_closed s) next 2 (TreeValue (specifiers_tree (below s 1) (below s 0))) is) found stand
+  acts MakeBlockSpecifiers known after is found stand =
+      specifiers_act known after (made-values s next 2 (TreeValue (specifiers_tree (below s 1) (below s 0))) is) found stand
+  acts MakeMemberSpecifiers known after is found stand =
+      specifiers_act known after (made-values s next 2 (TreeValue (specifiers_tree (below s 1) (below s 0))) is) found stand
+  acts MakeParameterSpecifiers known after is found stand =
+      specifiers_act known after (made-values s next 2 (TreeValue (specifiers_tree (below s 1) (below s 0))) is) found stand
+  acts MakeTypeNameSpecifiers known after is found stand =
+      specifiers_act known after (made-values s next 2 (TreeValue (specifiers_tree (below s 1) (below s 0))) is) found stand
   acts RequireType known after is found stand = kept known after (reached _ next is) found stand
   acts RequireTypeOrAttributes known after is found stand = kept known after (reached _ next is) found stand
   acts DeclareTag known after is found stand = kept known after (reached _ next is) found stand

@@ -7,13 +7,13 @@ use Rattle.vocabulary.specs.declared.token_class.TokenClass.TheVariants.{End}
 use Rattle.vocabulary.specs.declared.symbol.Symbol.{Symbol}
 use Rattle.vocabulary.specs.declared.symbol.Symbol.TheVariants.{AdditiveTail, AndTail, AnyDeclarator, AnyDirectDeclarator, Arguments, ArraySize, AssignmentTail, Attribute, AttributeArguments, AttributeList, AttributeLists, BalancedTokens, BlockItem, BlockItems, BodyOrDeclarators, BracedInitializer, CastOperand, CommaTail, CompoundStatement, ConditionalTail, Declaration, Declarator, DeclaratorSuffixes, Declarators, Designator, DirectDeclarator, EnumSpecifier, Enumerator, EnumeratorsBehindComma, EnumeratorsBehindTag, EqualityTail, ExclusiveOrTail, ExternalDeclaration, ExternalDeclarations, ExternalDeclarators, ForInitialization, FurtherArguments, FurtherAttributes, FurtherDeclarators, FurtherDesignators, FurtherEnumerators, FurtherInitializerItems, FurtherMemberDeclarators, FurtherParameters, FurtherStringLiterals, InclusiveOrTail, Initializer, InitializerItem, InitializerItems, LogicalAndTail, LogicalOrTail, MemberDeclaration, MemberDeclarations, MemberDeclarator, MemberDeclarators, MembersBehindTag, MiddleOperand, MultiplicativeTail, OffsetofDesignators, OptionalElse, OptionalEnumeratorValue, OptionalExpression, OptionalInitializer, OptionalWidth, Parameter, ParameterOrEllipsis, Parameters, ParenthesizedExpression, PointerQualifiers, Pointers, PostfixTail, RelationalTail, ShiftTail, SizeofOperand, SizeofTypeEnd, Specifiers, SpecifiersBehindType, Statement, StaticAssertion, StorageClassSpecifier, StringLiterals, StructOrUnionSpecifier, TagOrEnumerators, TagOrMembers, TypeName, TypeQualifier, TypeWord, TypeofOperand, TypeofSpecifier}
 use Rattle.vocabulary.specs.declared.action.Action.{Action}
-use Rattle.vocabulary.specs.declared.action.Action.TheVariants.{Append, AppendAttribute, AppendDeclarator, AppendLeadingAttributes, AwaitBody, BeginAtNext, BeginDeclarators, BeginList, BindDeclarator, BindEnumerator, BindFurtherDeclarator, BindParameter, CloseParameters, CloseScope, CountParameter, DeclareTag, DefineTag, JoinAnyParts, JoinParts, JoinSuffixes, MakeCharacterConstant, MakeFileSpecifiers, MakeForPart, MakeIntegerConstant, MakeOptionalDeclarator, MakeParenthesizedAttributes, MakeStringLiteral, NoteFunctionDeclarator, OpenBody, OpenScope, RequireType, RequireTypeOrAttributes, UseName, UseTag, UseTypedefName, WithoutTag}
+use Rattle.vocabulary.specs.declared.action.Action.TheVariants.{Append, AppendAttribute, AppendDeclarator, AppendLeadingAttributes, AwaitBody, BeginAtNext, BeginDeclarators, BeginList, BindDeclarator, BindEnumerator, BindFurtherDeclarator, BindParameter, CloseParameters, CloseScope, CountParameter, DeclareTag, DefineTag, JoinAnyParts, JoinParts, JoinSuffixes, MakeBlockSpecifiers, MakeCharacterConstant, MakeFileSpecifiers, MakeForPart, MakeIntegerConstant, MakeMemberSpecifiers, MakeOptionalDeclarator, MakeParameterSpecifiers, MakeParenthesizedAttributes, MakeStringLiteral, MakeTypeNameSpecifiers, NoteFunctionDeclarator, OpenBody, OpenScope, RequireType, RequireTypeOrAttributes, UseName, UseTag, UseTypedefName, WithoutTag}
 use Rattle.vocabulary.specs.declared.production_item.ProductionItem.{ProductionItem}
 use Rattle.vocabulary.specs.declared.production_item.ProductionItem.TheVariants.{Token, Passed, PassedAny, Name, LabelName, AttributeWord, CaseColon, DesignatorEnd, Nonterminal, Do}
 use Rattle.vocabulary.specs.declared.node_kind.NodeKind.TheVariants as kinds
 use Rattle.meaning_tree.specs.Forms.{ADeclaration, LeadingLists, SpecifierList, ASpecifier, AQualifier, AMemberList, AWidth, AnEnumerator, ADeclarator, ADeclaratorPart, AParameter, AnEllipsis, ATypeName, AnAttribute, AnInitializer, Braces, AnItem, ADesignator, ACompoundStatement, AStringPiece, AString, AConstant, AnExpression, AnAssertion, sort_of_kind, expressions, statements, block_items, external_declarations, members, qualifiers, specifiers, initial_values, optional_expressions, attribute_lists, Slot, One, Perhaps, Each, DeclaratorSlots, MemberSlots, slots_of}
 use Rattle.meaning_grammar.specs.Classes.{is_same}
-use Rattle.meaning_derivation.specs.Shapes.{AtWord, Source, OneTree, AllTrees, Shape, shape_of}
+use Rattle.meaning_derivation.specs.Shapes.{Source, OneTree, AllTrees, Shape, shape_of}
 use Rattle.meaning_forms.proofs.Slots.{is_within}
 use Rattle.meaning_forms.proofs.Knowledge.{Known, AWord, ATree, AList, Grown, grown, is_list, serves, all_serve}
 
@@ -231,9 +231,10 @@ declarator_parts = Each TypePart (ADeclaratorPart ∷ []) ∷ []
 abbrev pub lists_of_attributes : List Slot
 lists_of_attributes = Each TypePart attribute_lists ∷ []
 
--- the node of the specifiers of a declaration at file scope
-abbrev pub file_specifiers : Shape
-file_specifiers = record { takes = 2; kind = kinds.Specifiers; place = AtWord 1; name = None; number = None; sources = AllTrees 0 ∷ [] }
+-- a node of specifiers in the place of their list and its word
+abbrev pub specifiers_known : List Known → Option (List Known)
+specifiers_known (AList slots ∷ AWord ∷ known) = where_ (is_within slots (slots_of kinds.Specifiers)) (ATree (SpecifierList ∷ []) ∷ known)
+specifiers_known known = None
 
 -- what is known behind an action, where it finds what it needs
 abbrev pub behind_known : Action → List Known → Option (List Known)
@@ -252,7 +253,11 @@ behind_known BindDeclarator known = Some known
 behind_known BindFurtherDeclarator known = Some known
 behind_known NoteFunctionDeclarator known = Some known
 behind_known AwaitBody known = Some known
-behind_known MakeFileSpecifiers known = made_known file_specifiers known (slots_from file_specifiers.sources known)
+behind_known MakeFileSpecifiers known = specifiers_known known
+behind_known MakeBlockSpecifiers known = specifiers_known known
+behind_known MakeMemberSpecifiers known = specifiers_known known
+behind_known MakeParameterSpecifiers known = specifiers_known known
+behind_known MakeTypeNameSpecifiers known = specifiers_known known
 behind_known RequireType known = Some known
 behind_known RequireTypeOrAttributes known = Some known
 behind_known DeclareTag known = Some known

@@ -11,3 +11,4 @@ pub mod Sound
 pub mod Making
 pub mod JoinedLists
 pub mod LiteralLengths
+pub mod DeclaredNames

@@ -81,7 +81,7 @@ module _ (names : List (List ℕ)) (trees : List SyntaxTree) where
     no_tree_seen stack depth is = ap f (value_at-seen (value_of names trees) stack depth) ∙ none_found (slice_get stack depth) is
 
 -- a known handle has a node
-node_there : (list : NodeList NameId) (handle : ℕ) → list.first ≤ handle → handle - list.first < length list.nodes → (node : TreeNode NameId) × (node_at list handle ≡ Some node)
+pub node_there : (list : NodeList NameId) (handle : ℕ) → list.first ≤ handle → handle - list.first < length list.nodes → (node : TreeNode NameId) × (node_at list handle ≡ Some node)
 node_there list handle from within =
     ⊎_elim
     (λ found. (found.0, (node_at-exact list handle found.0).1 (from, found.2)))

@@ -10,3 +10,5 @@ pub mod Parameters
 pub mod Looking
 pub mod OnlyTrees
 pub mod Joining
+pub mod Storage
+pub mod Declaring

@@ -7,6 +7,7 @@
 
 mod asking;
 mod children;
+mod declaring;
 mod fault;
 mod joining;
 mod leading;
@@ -20,12 +21,15 @@ mod shape;
 mod stacking;
 mod state;
 mod strings;
+mod storage;
 mod unwrapping;
 mod value;
 
+pub use declaring::DeclaredName;
 pub use fault::ActionFault;
 pub use marks::{HeldError, PassedLimit};
 pub use row::{Place, Row};
 pub use shape::{Shape, Source};
 pub use state::ParseState;
+pub use storage::StorageClass;
 pub use value::Value;

@@ -84,13 +84,24 @@ pub record TreeExamples : Type 0 where
       (evaluated
       (plain_tree kinds.Declaration 0
       (typed
-      (plain_tree kinds.Specifiers 0
+      (Node kinds.Specifiers 0 [] 1
       (typed (plain_tree kinds.TypedefSpecifier 0 NoParts) (typed (plain_tree kinds.IntSpecifier 1 NoParts) NoParts)))
       (evaluated (named_tree kinds.Declarator 2 (codes "x") NoParts) NoParts)))
       (evaluated
       (plain_tree kinds.Declaration 4
       (typed (plain_tree kinds.Specifiers 4 (typed (Node kinds.TypedefName 4 (codes "x") 3 NoParts) NoParts)) NoParts))
       NoParts))
+  -- specifiers have the number of their storage class
+  pub external :
+      unit (codes "extern int x;")
+      ≡ tree
+      (evaluated
+      (plain_tree kinds.Declaration 0
+      (typed
+      (Node kinds.Specifiers 0 [] 2
+      (typed (plain_tree kinds.ExternSpecifier 0 NoParts) (typed (plain_tree kinds.IntSpecifier 1 NoParts) NoParts)))
+      (evaluated (named_tree kinds.Declarator 2 (codes "x") NoParts) NoParts)))
+      NoParts)
   pub function :
       unit (codes "int y; int f(void) { return y + 1; }")
       ≡ tree
@@ -151,6 +162,27 @@ pub record BodyExamples : Type 0 where
   pub hides : is_read (unit (codes "typedef int t; void f(int t) { t = 1; }")) ≡ true
   -- a body that is no function's opens a scope of its own
   pub own_scope : unit (codes "void f(int a) { { int b; } b; }") ≡ IsTold (IsError NotDeclared) 12 12
+
+-- What a name is bound as, as its redeclaration shows (6.2.2, 6.7 p3)
+pub record BindExamples : Type 0 where
+  -- at file scope an object may be declared twice, in a block it may not
+  pub file : is_read (unit (codes "int x; int x;")) ≡ true
+  pub block : unit (codes "void f(void) { int x; int x; }") ≡ IsTold (IsError Redeclared) 10 10
+  -- but where both say `extern`, or declare a function
+  pub external : is_read (unit (codes "void f(void) { extern int x; extern int x; }")) ≡ true
+  pub functions : is_read (unit (codes "void f(void) { int g(void); int g(void); }")) ≡ true
+  pub one_external : unit (codes "void f(void) { int x; extern int x; }") ≡ IsTold (IsError Redeclared) 11 11
+  -- each declarator behind the specifiers is bound as they say
+  pub further : is_read (unit (codes "typedef int t, u; u x;")) ≡ true
+  pub further_block : unit (codes "void f(void) { int x, x; }") ≡ IsTold (IsError Redeclared) 9 9
+  -- `typedef` tells where both words stand
+  pub both : is_read (unit (codes "extern typedef int t; t x;")) ≡ true
+  -- an enumerator is no object, and a parameter has no linkage
+  pub enumerator : unit (codes "enum { A }; int A;") ≡ IsTold (IsError Redeclared) 6 6
+  pub enumerators : unit (codes "enum { A, A };") ≡ IsTold (IsError Redeclared) 4 4
+  pub parameters : unit (codes "int f(int a, int a);") ≡ IsTold (IsError Redeclared) 7 7
+  -- parameters without a name bind nothing
+  pub nameless : is_read (unit (codes "int f(int *, int *);")) ≡ true
 
 -- Operators of one level, one behind the other (C11 6.5.5 to 6.5.14)
 

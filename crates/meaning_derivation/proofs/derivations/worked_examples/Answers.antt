@@ -16,6 +16,7 @@ returns-clause-trees c = record {
   empty = refl;
   declaration = refl;
   typedef_name = refl;
+  external = refl;
   function = refl;
   declarator = refl;
 }
@@ -32,6 +33,23 @@ returns-clause-bodies c = record {
   earlier = refl;
   hides = refl;
   own_scope = refl;
+}
+
+pub returns-clause-binds : goal.returns-clause-binds
+unfolding opened
+returns-clause-binds c = record {
+  file = refl;
+  block = refl;
+  external = refl;
+  functions = refl;
+  one_external = refl;
+  further = refl;
+  further_block = refl;
+  both = refl;
+  enumerator = refl;
+  enumerators = refl;
+  parameters = refl;
+  nameless = refl;
 }
 
 pub returns-clause-chains : goal.returns-clause-chains

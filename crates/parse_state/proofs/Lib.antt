@@ -7,5 +7,7 @@ pub mod Parts
 pub mod Bodies
 pub mod Fitting
 pub mod OnlyTrees
+pub mod Lying
 pub mod Sound
 pub mod Making
+pub mod Finished

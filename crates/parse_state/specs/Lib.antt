@@ -4,8 +4,10 @@ pub mod Sources
 pub mod Giving
 pub mod Asking
 pub mod Making
+pub mod Lying
 pub mod Soundness
 pub mod Groups
 pub mod Parameters
 pub mod Looking
 pub mod OnlyTrees
+pub mod Finished

@@ -8,6 +8,7 @@
 mod asking;
 mod children;
 mod fault;
+mod finishing;
 mod looking;
 mod marks;
 mod nodes;

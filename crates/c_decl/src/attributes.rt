@@ -14,7 +14,7 @@ use parse_state::{ActionFault, ParseState, Place, Row, Shape, Source};
 use vocabulary::{NodeKind, Role};
 
 /// The word of an attribute, which leaves the list as it is.
-#[tactic(auto, using(crate::proofs::Dropping::list_left))]
+#[tactic(auto, using(crate::proofs::Dropping::list_left, crate::proofs::Dropping::word_left))]
 pub fn append_attribute(state: &mut ParseState<'_>)
     requires finds { IsSome (effect (Do AppendAttribute) (sorts_of (state_of state.old).values)) }
     ensures goes { act AppendAttribute (state_of state.old) ≡ Goes (state_of state.new) }

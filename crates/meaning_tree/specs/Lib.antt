@@ -2,6 +2,8 @@ pub mod Trees
 pub mod Nodes
 pub mod Listed
 pub mod LookUps
+pub mod Laid
+pub mod Runs
 pub mod Forms
 pub mod laws
 pub mod examples

@@ -1,3 +1,4 @@
 -- Worked examples.
 pub mod Trees
 pub mod Forms
+pub mod Laid

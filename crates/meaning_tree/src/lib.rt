@@ -9,5 +9,5 @@ mod nodes;
 
 pub use nodes::{
     added_nodes_stand, each_node_stands_for_one_tree, lists_grow, look_ups_are_exact,
-    order_is_kept, trees_stay, trees_stay_in_joined_lists, worked_examples,
+    order_is_kept, runs_are_laid, trees_stay, trees_stay_in_joined_lists, worked_examples,
 };

@@ -1,6 +1,8 @@
 // What is proved of trees that stand in lists of nodes, while the lists grow.
 ghost use Rattle.meaning_tree.specs.examples.Trees.{NodeExamples, PartExamples};
 ghost use Rattle.meaning_tree.specs.examples.Forms.{FormExamples};
+ghost use Rattle.meaning_tree.specs.examples.Laid.{LaidExamples};
+ghost use Rattle.meaning_tree.specs.laws.Laid.{RunsAreLaid};
 ghost use Rattle.meaning_tree.specs.laws.Trees.{AddedNodeGrows, AddedNodeStands, AddedNodeStandsBehind, FurtherChildStands, GrowthIsReflexive, GrowthIsTransitive, JoinedPartGrows, JoinedStandBefore, LookUpsAreExact, NoTreesCome, NothingStandsBefore, PartsAreUnique, PartsStay, TreesAreUnique, TreesExist, TreesStay, TreesStayBehind, TreesStayInFront};
 
 /// A node stands for at most one tree, and for one where children stand before their parents.
@@ -49,9 +51,15 @@ pub fn look_ups_are_exact<Spelling>()
     ensures { LookUpsAreExact Spelling }
 {}
 
+/// A list whose nodes were added tree by tree, each behind its parts, is laid.
+pub fn runs_are_laid<Spelling>()
+    ensures { RunsAreLaid Spelling }
+{}
+
 /// A short list of nodes stands for the tree that one can tell by eye, and parts keep their order.
 pub fn worked_examples()
     ensures nodes { NodeExamples }
     ensures parts { PartExamples }
     ensures forms { FormExamples }
+    ensures laid { LaidExamples }
 {}

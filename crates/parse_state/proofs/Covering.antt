@@ -102,7 +102,7 @@ module _ (names : List (List ℕ)) (trees : List SyntaxTree) where
       ∙ ap (λ (stacked : List values.Value). gathered stacked (AllTrees depth ∷ sources)) (sym (deeper (kinds.List children) stack rest))
 
 -- the sorts of the last so many, the deepest first
-last_sorts : (names : List (List ℕ)) (trees : List SyntaxTree) (stack : List Value) (takes : ℕ)
+pub last_sorts : (names : List (List ℕ)) (trees : List SyntaxTree) (stack : List Value) (takes : ℕ)
     → reverse (take takes (sorts_of (map (value_of names trees) (reverse stack))))
     ≡ map (λ (value : Value). sort_of (value_of names trees value)) (drop (length stack - takes) stack)
 last_sorts names trees stack takes =

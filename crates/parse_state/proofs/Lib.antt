@@ -7,8 +7,10 @@ pub mod Parts
 pub mod Bodies
 pub mod Fitting
 pub mod OnlyTrees
+pub mod Lying
 pub mod Sound
 pub mod Making
 pub mod JoinedLists
 pub mod LiteralLengths
 pub mod DeclaredNames
+pub mod Finished

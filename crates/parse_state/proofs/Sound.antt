@@ -1,5 +1,5 @@
 -- What was read goes on being sound.
-use Rattle.std.proofs.Common.{◌≡◌, ℕ, zero, suc, ◌+◌, ◌<◌, ◌≤◌, ◌^◌, Bool, true, false, ◌&&◌, List, [], ◌∷◌, ◌++◌, reverse, take, drop, length, slice_get, get_or, Option, None, Some, All, Result, Ok, Err, is_err, OnOk, refl, sym, ap, ap₂, ◌∙◌, arith}
+use Rattle.std.proofs.Common.{◌≡◌, ℕ, zero, suc, ◌+◌, ◌-◌, ◌<◌, ◌≤◌, ◌^◌, Bool, true, false, ◌&&◌, List, [], ◌∷◌, ◌++◌, reverse, take, drop, length, slice_get, get_or, Option, None, Some, All, Result, Ok, Err, is_err, OnOk, refl, sym, ap, ap₂, ◌∙◌, arith}
 use Rattle.std.specs.List.{list_all}
 use Rattle.std.proofs.lemmas.Bool.{and_parts, ltb-true, lt-ltb}
 use Rattle.std.proofs.lemmas.List.{drop_more, length-append}
@@ -17,7 +17,12 @@ use Rattle.parse_state.specs.declared.value.Value.TheVariants as kinds
 use Rattle.parse_state.specs.declared.shape.Source.{Source}
 use Rattle.parse_state.specs.Giving.{is_below, has_handles_below, is_small, given, left_behind, children_in}
 use Rattle.parse_state.specs.Asking.{no_name, name_in, name_in_at}
+use Rattle.parse_state.specs.Lying.{AreStacked, AreWords}
+use Rattle.parse_state.specs.OnlyTrees.{only_in}
+use Rattle.parse_state.specs.Seen.{values_of}
 use Rattle.parse_state.specs.Soundness.{is_known, has_known_name, has_known_entries, IsSound}
+use Rattle.parse_state.proofs.Lying.{stacked-append, stacked-below, stacked-collected, stacked-made, stacked-unwrapped}
+use Rattle.parse_state.proofs.OnlyTrees.{only-below}
 use Rattle.parse_state.proofs.Stacks.{all-take, all-drop, all-reverse}
 
 -- one test follows from another
@@ -100,12 +105,14 @@ known_name names empty stack (Some depth) known = known_at names empty stack dep
 -- Steps
 
 module _ (names : List (List ℕ)) (list : NodeList NameId) (stack : List Value) (scopes : ScopeList NameId) (closed : List (ClosedList NameId)) (sound : IsSound names list stack scopes closed) where
-  -- a value on top
-  pub sound_pushed : (value : Value) → has_handles_below (length list.nodes) value ≡ true → has_known_name names value ≡ true → IsSound names list (stack ++ value ∷ []) scopes closed
-  sound_pushed value below known = record {
+  -- a value without nodes on top
+  pub sound_pushed : (value : Value) → has_handles_below (length list.nodes) value ≡ true → has_known_name names value ≡ true
+      → AreStacked list (value ∷ []) (end_of list) (end_of list) → IsSound names list (stack ++ value ∷ []) scopes closed
+  sound_pushed value below known lies = record {
     first = sound.first;
     few = sound.few;
     handles = all-snoc (has_handles_below (length list.nodes)) stack value sound.handles below;
+    laid = stacked-append list stack (value ∷ []) list.first (end_of list) (end_of list) sound.laid lies;
     words = all-snoc (has_known_name names) stack value sound.words known;
     node_names = sound.node_names;
     bound_names = sound.bound_names;
@@ -113,9 +120,9 @@ module _ (names : List (List ℕ)) (list : NodeList NameId) (stack : List Value)
   }
 
   -- a node and its tree in the place of the last values
-  pub sound_made : (from : ℕ) (node : TreeNode NameId) → length list.nodes < 16000000 → is_known names node.name ≡ true
-      → IsSound names (with_node list node) (take from stack ++ Tree (end_of list) ∷ []) scopes closed
-  sound_made from node room known =
+  pub sound_made : (from : ℕ) (sources : List Source) (node : TreeNode NameId) → length list.nodes < 16000000 → is_known names node.name ≡ true
+      → children_in (drop from stack) sources ≡ node.children → IsSound names (with_node list node) (take from stack ++ Tree (end_of list) ∷ []) scopes closed
+  sound_made from sources node room known given =
       let one_more : length (list.nodes ++ node ∷ []) ≡ length list.nodes + 1 = length-append list.nodes (node ∷ []) in
       record {
         first = sound.first;
@@ -125,6 +132,7 @@ module _ (names : List (List ℕ)) (list : NodeList NameId) (stack : List Value)
             (handles-later (length list.nodes) (length (list.nodes ++ node ∷ [])) (omega (arith, one_more))) (take from stack)
             (all-take (has_handles_below (length list.nodes)) from stack sound.handles))
             (lt-ltb (end_of list) (length (list.nodes ++ node ∷ [])) (let first = sound.first in omega (arith, one_more, first)));
+        laid = stacked-made list stack from sources node given sound.laid;
         words = all-snoc (has_known_name names) (take from stack) (Tree (end_of list)) (all-take (has_known_name names) from stack sound.words) refl;
         node_names = all-snoc (λ (one : TreeNode NameId). is_known names one.name) list.nodes node sound.node_names known;
         bound_names = sound.bound_names;
@@ -139,23 +147,42 @@ module _ (names : List (List ℕ)) (list : NodeList NameId) (stack : List Value)
     handles = all-snoc (has_handles_below (length list.nodes)) (take from stack) (kinds.List (children_in (drop from stack) sources))
         (all-take (has_handles_below (length list.nodes)) from stack sound.handles)
         (children-below (length list.nodes) (drop from stack) sources (all-drop (has_handles_below (length list.nodes)) from stack sound.handles));
+    laid = stacked-collected list stack from sources list.first (end_of list) sound.laid;
     words = all-snoc (has_known_name names) (take from stack) (kinds.List (children_in (drop from stack) sources)) (all-take (has_known_name names) from stack sound.words) refl;
     node_names = sound.node_names;
     bound_names = sound.bound_names;
     closed_names = sound.closed_names;
   }
 
-  -- the first values alone
-  pub sound_taken : (count : ℕ) → IsSound names list (take count stack) scopes closed
-  sound_taken count = record {
+  -- words go from the top
+  pub sound_dropped : (count : ℕ) → AreWords (values_of names list stack) count → IsSound names list (take (length stack - count) stack) scopes closed
+  sound_dropped count gone = record {
     first = sound.first;
     few = sound.few;
-    handles = all-take (has_handles_below (length list.nodes)) count stack sound.handles;
-    words = all-take (has_known_name names) count stack sound.words;
+    handles = all-take (has_handles_below (length list.nodes)) (length stack - count) stack sound.handles;
+    laid = stacked-below list names stack count list.first (end_of list) gone sound.laid;
+    words = all-take (has_known_name names) (length stack - count) stack sound.words;
     node_names = sound.node_names;
     bound_names = sound.bound_names;
     closed_names = sound.closed_names;
   }
+
+  -- the tree of a list below words, in the place of the list and the words
+  pub sound_unwrapped : (depth handle : ℕ) → AreWords (values_of names list stack) depth → only_in (slice_get (reverse stack) depth) ≡ Some handle
+      → IsSound names list (take (length stack - (depth + 1)) stack ++ Tree handle ∷ []) scopes closed
+  sound_unwrapped depth handle gone is =
+      let from = length stack - (depth + 1) in
+      record {
+        first = sound.first;
+        few = sound.few;
+        handles = all-snoc (has_handles_below (length list.nodes)) (take from stack) (Tree handle)
+            (all-take (has_handles_below (length list.nodes)) from stack sound.handles) (only-below (length list.nodes) stack depth handle sound.handles is);
+        laid = stacked-unwrapped list names stack depth handle list.first (end_of list) gone is sound.laid;
+        words = all-snoc (has_known_name names) (take from stack) (Tree handle) (all-take (has_known_name names) from stack sound.words) refl;
+        node_names = sound.node_names;
+        bound_names = sound.bound_names;
+        closed_names = sound.closed_names;
+      }
 
   -- other names that are known are bound
   pub sound_bound : (others : ScopeList NameId) (lists : List (ClosedList NameId)) → all_named (is_known names) others ≡ true
@@ -164,6 +191,7 @@ module _ (names : List (List ℕ)) (list : NodeList NameId) (stack : List Value)
     first = sound.first;
     few = sound.few;
     handles = sound.handles;
+    laid = sound.laid;
     words = sound.words;
     node_names = sound.node_names;
     bound_names = bound;

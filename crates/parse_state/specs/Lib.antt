@@ -4,6 +4,7 @@ pub mod Sources
 pub mod Giving
 pub mod Asking
 pub mod Making
+pub mod Lying
 pub mod Soundness
 pub mod Groups
 pub mod Parameters
@@ -12,3 +13,4 @@ pub mod OnlyTrees
 pub mod Joining
 pub mod Storage
 pub mod Declaring
+pub mod Finished

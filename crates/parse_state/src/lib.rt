@@ -9,6 +9,7 @@ mod asking;
 mod children;
 mod declaring;
 mod fault;
+mod finishing;
 mod joining;
 mod leading;
 mod looking;
@@ -20,8 +21,8 @@ mod scoping;
 mod shape;
 mod stacking;
 mod state;
-mod strings;
 mod storage;
+mod strings;
 mod unwrapping;
 mod value;
 

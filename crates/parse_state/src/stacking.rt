@@ -18,6 +18,7 @@ impl<'t> ParseState<'t> {
     ghost use Rattle.meaning_derivation.specs.State.{pushed, with_limit, with_values, with_waiting};
     ghost use Rattle.meaning_derivation.specs.Scoping.{place};
     ghost use Rattle.c_tokens.specs.Seen.{IsKnown, text_of};
+    ghost use Rattle.parse_state.specs.Lying.{AreWords};
     ghost use Rattle.parse_state.specs.Seen.{state_of};
 
     /// A word on top of the stack.
@@ -53,8 +54,9 @@ impl<'t> ParseState<'t> {
         Ok(())
     }
 
-    /// The last value goes.
+    /// The last value, which is a word, goes.
     pub fn drop_top(&mut self)
+        requires { AreWords (state_of self.old).values 1 }
         ensures state { state_of self.new ≡ with_values (state_of self.old) (drop 1 (state_of self.old).values) }
         ensures names { self.new.names ≡ self.old.names }
     {

@@ -48,13 +48,15 @@ impl<'t> ParseState<'t> {
     ghost use Rattle.std.specs.Prelude.{◌≡◌, IfOk, OnOk, is_some};
     ghost use Rattle.meaning_derivation.specs.Values.{parts_of, value_at as value_below};
     ghost use Rattle.parse_state.specs.Looking.{only_tree, with_only};
+    ghost use Rattle.parse_state.specs.Lying.{AreWords};
     ghost use Rattle.parse_state.specs.Seen.{state_of};
 
-    /// Puts the tree of a list that has no other one in the place of the last values, of which the list is the deepest, and
-    /// answers whether there is one.
+    /// Puts the tree of a list that has no other one in the place of the last values, of which the list is the deepest and
+    /// each other one a word, and answers whether there is one.
     ///
     /// Where memory runs out no value is left.
     pub fn keep_only_tree(&mut self, depth: usize) -> Result<bool, AllocError>
+        requires { AreWords (state_of self.old).values depth }
         ensures found { IfOk result (λ found. found ≡ is_some (only_tree (parts_of (value_below (state_of self.old).values depth)))) }
         ensures state { OnOk result (state_of self.new ≡ with_only (state_of self.old) depth (only_tree (parts_of (value_below (state_of self.old).values depth)))) }
         ensures names { self.new.names ≡ self.old.names }

@@ -9,6 +9,7 @@ use Rattle.meaning_tree.specs.Forms.{expressions, One, Fits, nothing, one, left_
 use Rattle.meaning_tree.specs.examples.Trees.{node_at, assignment_nodes}
 use Rattle.meaning_tree.specs.examples.Forms.{leaf, operand}
 use Rattle.meaning_tree.proofs.Finding.{stand_before-nil, stand_before-added}
+use Rattle.meaning_tree.proofs.LaidExamples.{assignment_is_laid, turned_is_laid, shared_is_not_laid, left_out_is_not_laid, scattered_is_not_laid}
 use Rattle.meaning_tree.proofs.nodes.worked_examples.Goals as goal
 
 -- each node of the assignment is added behind its children
@@ -78,4 +79,13 @@ returns-clause-forms c = record {
   wrong_role = λ formed. no_evaluated_operand formed.0;
   wrong_kind = λ formed. no_statement formed.0;
   missing_part = λ formed. no_missing_operand formed.0;
+}
+
+pub returns-clause-laid : goal.returns-clause-laid
+returns-clause-laid c = record {
+  assignment = assignment_is_laid;
+  turned = turned_is_laid;
+  shared = shared_is_not_laid;
+  left_out = left_out_is_not_laid;
+  scattered = scattered_is_not_laid;
 }

@@ -3,17 +3,20 @@ use Rattle.meaning_derivation.specs.Values as values
 use Rattle.meaning_derivation.specs.State.{with_values}
 use Rattle.parse_state.specs.declared.value.Value.{Value}
 use Rattle.parse_state.specs.Seen.{Read, closed_seen, state_of}
+use Rattle.parse_state.specs.Lying.{AreWords}
 use Rattle.parse_state.specs.Soundness.{IsSound}
 use Rattle.parse_state.proofs.Making.{with_stack}
 use Rattle.parse_state.proofs.Seeing.{values_of-below}
-use Rattle.parse_state.proofs.Sound.{sound_taken}
+use Rattle.parse_state.proofs.Sound.{sound_dropped}
 use Rattle.parse_state.proofs.state.ParseState.drop_top.Goals as goal
 
 pub invariant_of-self : goal.invariant_of-self
 invariant_of-self c =
-    subst (λ (items : List Value). IsSound c.self.inside.names.now c.self.inside.unit items c.self.inside.scopes (map closed_seen c.self.inside.closed.items)) (sym c.truncate.ensures.items)
-    (sound_taken c.self.inside.names.now c.self.inside.unit c.self.inside.values.items c.self.inside.scopes (map closed_seen c.self.inside.closed.items) c.self.invariant
-    c.saturating_sub.result)
+    let from : c.saturating_sub.result ≡ length c.self.inside.values.items - 1 = omega arith in
+    subst (λ (items : List Value). IsSound c.self.inside.names.now c.self.inside.unit items c.self.inside.scopes (map closed_seen c.self.inside.closed.items))
+    (sym (c.truncate.ensures.items ∙ ap (λ (count : ℕ). take count c.self.inside.values.items) from))
+    (sound_dropped c.self.inside.names.now c.self.inside.unit c.self.inside.values.items c.self.inside.scopes (map closed_seen c.self.inside.closed.items) c.self.invariant 1
+    (subst (λ (seen : Read). AreWords (state_of seen).values 1) (sym c.self.view_is) c.requires))
 
 pub returns-clause-state : goal.returns-clause-state
 returns-clause-state c =

@@ -7,10 +7,11 @@ use Rattle.parse_state.specs.Looking.{only_tree, with_only}
 use Rattle.parse_state.specs.OnlyTrees.{only_in}
 use Rattle.parse_state.specs.Making.{start_of}
 use Rattle.parse_state.specs.Seen.{Read, closed_seen, state_of}
+use Rattle.parse_state.specs.Lying.{AreWords}
 use Rattle.parse_state.specs.Soundness.{IsSound}
 use Rattle.parse_state.proofs.Making.{with_stack}
-use Rattle.parse_state.proofs.OnlyTrees.{only-below, unwrapped_is, nothing_unwrapped, unwraps}
-use Rattle.parse_state.proofs.Sound.{from_ok, sound_pushed, sound_taken}
+use Rattle.parse_state.proofs.OnlyTrees.{unwrapped_is, nothing_unwrapped, unwraps}
+use Rattle.parse_state.proofs.Sound.{from_ok, sound_unwrapped}
 use Rattle.parse_state.proofs.state.ParseState.keep_only_tree.Goals as goal
 
 pub invariant_of-self-else-is_err : goal.invariant_of-self-else-is_err
@@ -18,12 +19,10 @@ invariant_of-self-else-is_err c =
     let here : only_in (slice_get (reverse c.self.inside.values.items) c.args.depth) ≡ Some c.in-Some.tree =
     sym (c.in-Some.ensures ∙ ap (λ stack. only_in (slice_get (reverse stack) c.args.depth)) c.deref.ensures.value) in
     let items_are = from_ok c.put_tree-put.result (sym c.is_err.ensures.value ∙ c.if-is_err.false) c.put_tree-put.ensures in
-    let items = c.self.inside.values.items in
     let closed = map closed_seen c.self.inside.closed.items in
     subst (λ (stack : List Value). IsSound c.self.inside.names.now c.self.inside.unit stack c.self.inside.scopes closed) (sym items_are)
-    (sound_pushed c.self.inside.names.now c.self.inside.unit (take (start_of items (c.args.depth + 1)) items) c.self.inside.scopes closed
-    (sound_taken c.self.inside.names.now c.self.inside.unit items c.self.inside.scopes closed c.self.invariant (start_of items (c.args.depth + 1))) (Tree c.in-Some.tree)
-    (only-below (length c.self.inside.unit.nodes) items c.args.depth c.in-Some.tree c.self.invariant.handles here) refl)
+    (sound_unwrapped c.self.inside.names.now c.self.inside.unit c.self.inside.values.items c.self.inside.scopes closed c.self.invariant c.args.depth c.in-Some.tree
+    (subst (λ (seen : Read). AreWords (state_of seen).values c.args.depth) (sym c.self.view_is) c.requires) here)
 
 pub returns-in-None-clause-found : goal.returns-in-None-clause-found
 returns-in-None-clause-found c =

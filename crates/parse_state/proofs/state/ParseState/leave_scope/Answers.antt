@@ -13,6 +13,7 @@ invariant_of-self c = record {
   first = c.self.invariant.first;
   few = c.self.invariant.few;
   handles = c.self.invariant.handles;
+  laid = c.self.invariant.laid;
   words = c.self.invariant.words;
   node_names = c.self.invariant.node_names;
   bound_names = ap (all_named (is_known c.self.inside.names.now)) c.leave.ensures ∙ all_named-without c.self.inside.names.now c.self.inside.scopes c.self.invariant.bound_names;

@@ -1,5 +1,5 @@
 -- The node that was added is that of the shape, and all goes on being sound.
-use Rattle.std.proofs.Common.{◌≡◌, ℕ, ◌<◌, List, [], ◌∷◌, ◌++◌, drop, take, length, reverse, true, false, is_err, sym, ap, ap₂, subst, ◌∙◌, arith, map}
+use Rattle.std.proofs.Common.{◌≡◌, ℕ, ◌<◌, List, [], ◌∷◌, ◌++◌, drop, take, length, reverse, true, false, is_err, refl, sym, ap, ap₂, subst, ◌∙◌, arith, map}
 use Rattle.meaning_tree.specs.Nodes.{NodeList, end_of, with_node}
 use Rattle.meaning_derivation.specs.Values.{sorts_of}
 use Rattle.meaning_derivation.specs.State.{Goes, made}
@@ -34,7 +34,7 @@ invariant_of-self-else-is_err c =
     ap (is_known c.self.inside.names.now) here ∙ known_name c.self.inside.names.now c.apart.ensures.empty items shape.name c.self.invariant.words in
     subst (λ (list : NodeList NameId). IsSound c.self.inside.names.now list c.add_node-added.new.values.items c.self.inside.scopes (map closed_seen c.self.inside.closed.items)) (sym unit_is)
     (subst (λ (stack : List Value). IsSound c.self.inside.names.now (with_node c.self.inside.unit (node_with shape c.name_of_word-name.result children)) stack c.self.inside.scopes (map closed_seen c.self.inside.closed.items)) (sym values_are)
-    (sound_made c.self.inside.names.now c.self.inside.unit items c.self.inside.scopes (map closed_seen c.self.inside.closed.items) c.self.invariant (start_of items shape.takes) (node_with shape c.name_of_word-name.result children) room known))
+    (sound_made c.self.inside.names.now c.self.inside.unit items c.self.inside.scopes (map closed_seen c.self.inside.closed.items) c.self.invariant (start_of items shape.takes) shape.sources.now (node_with shape c.name_of_word-name.result children) room known refl))
 
 pub returns-clause-goes : goal.returns-clause-goes
 returns-clause-goes c =

@@ -1,10 +1,10 @@
 -- Lists of a declarator's parts and of attributes, and the nodes that stand alone in a list.
-use Rattle.std.proofs.Common.{◌≡◌, ℕ, zero, suc, ◌+◌, Bool, true, false, ◌||◌, List, [], ◌∷◌, IsSome, Some, Result, IfErr, IsErrAnd, nat_lt, if◌then◌else◌, take, drop, length, slice_get, refl, sym, ap, subst, ◌∙◌, arith}
+use Rattle.std.proofs.Common.{◌≡◌, ℕ, zero, suc, ◌+◌, Bool, true, false, ◌||◌, List, [], ◌∷◌, IsSome, Some, Result, IfErr, IsErrAnd, nat_lt, if◌then◌else◌, take, drop, length, slice_get, refl, sym, ap, ap₂, subst, ◌∙◌, arith}
 use Rattle.std.proofs.lemmas.Bool.{lt-ltb}
 use Rattle.std.proofs.lemmas.Option.{same_Some}
 use Rattle.std.proofs.lemmas.Result.{err_from_is_err_and}
 use Rattle.vocabulary.specs.declared.action.Action.{Action}
-use Rattle.vocabulary.specs.declared.action.Action.TheVariants.{AppendLeadingAttributes, JoinAnyParts, JoinParts}
+use Rattle.vocabulary.specs.declared.action.Action.TheVariants.{AppendLeadingAttributes, JoinAnyParts, JoinParts, JoinSuffixes}
 use Rattle.vocabulary.specs.declared.production_item.ProductionItem.TheVariants.{Do}
 use Rattle.vocabulary.specs.declared.role.Role.TheVariants.{TypePart}
 use Rattle.vocabulary.specs.declared.limit.LimitKind.TheVariants.{Nodes}
@@ -18,7 +18,7 @@ use Rattle.meaning_derivation.specs.Actions.{act, below}
 use Rattle.parse_state.specs.declared.shape.Source.TheVariants.{OneTree, AllTrees}
 use Rattle.parse_state.specs.declared.fault.ActionFault.{ActionFault}
 use Rattle.parse_state.specs.declared.fault.ActionFault.TheVariants.{Refused, Limit, Memory}
-use Rattle.parse_state.specs.Joining.{word_at}
+use Rattle.parse_state.specs.Joining.{EndsInLists, word_at}
 use Rattle.parse_state.specs.Sources.{IsCovered, parts_given}
 use Rattle.parse_state.specs.Steps.{IsToldBy}
 use Rattle.parse_state.proofs.Fitting.{fit}
@@ -66,6 +66,16 @@ pub any_parts_joined : (s : State) → IsSome (effect (Do JoinAnyParts) (sorts_o
 any_parts_joined s finds =
     ap (λ (word : Value). Goes (with_values s (ListValue (with_parts (parts_of (below s 2)) (parts_of (below s 0))) ∷ word ∷ drop 4 s.values)))
     (sym (either_word (has_spelling (below s 1)) s.values (word_stands JoinAnyParts s.values 1 finds refl) (word_stands JoinAnyParts s.values 3 finds refl)))
+
+two_of_three : (sorts : List Sort) → take 3 sorts ≡ AList ∷ AList ∷ AWord ∷ [] → take 2 sorts ≡ AList ∷ AList ∷ []
+two_of_three [] is = absurd (cc is)
+two_of_three (first ∷ []) is = absurd (cc is)
+two_of_three (first ∷ second ∷ sorts) is =
+    ap₂ (λ (one other : Sort). one ∷ other ∷ []) (ap (first_or AWord) is) (ap (λ (some : List Sort). first_or AWord (drop 1 some)) is)
+
+-- what stands behind a name is on top of what stands before it
+pub suffixes_end : (values : List Value) → IsSome (effect (Do JoinSuffixes) (sorts_of values)) → EndsInLists values
+suffixes_end values finds = two_of_three (sorts_of values) (fit JoinSuffixes values finds)
 
 -- A node that is made
 

@@ -48,6 +48,7 @@ fn name_depth(state: &ParseState<'_>) -> usize
 
 /// Array sizes and parameter lists, the last one first, before the parts of what they are behind.
 pub fn join_suffixes(state: &mut ParseState<'_>) -> Result<(), ActionFault>
+    requires finds { IsSome (effect (Do JoinSuffixes) (sorts_of (state_of state.old).values)) }
     ensures goes { OnOk result (act JoinSuffixes (state_of state.old) ≡ Goes (state_of state.new)) }
     ensures told { IfErr result (IsToldBy (act JoinSuffixes (state_of state.old))) }
     ensures names { state.new.names ≡ state.old.names }

@@ -7,10 +7,11 @@ use Rattle.std.proofs.lemmas.List.Folds.{list_all-append}
 use Rattle.std.proofs.lemmas.Option.{same_Some}
 use Rattle.vocabulary.specs.Roles.{role_of}
 use Rattle.meaning_tree.specs.Trees.{SyntaxTree, Node, Parts, Part}
-use Rattle.meaning_tree.specs.Nodes.{NodeList}
+use Rattle.meaning_tree.specs.Nodes.{NodeList, end_of}
 use Rattle.meaning_tree.specs.Listed.{tree_at, parts_at}
 use Rattle.meaning_scopes.specs.Scopes.{ScopeList}
-use Rattle.meaning_derivation.specs.Values.{WordValue, ListValue, parts_of, stands_at, value_at}
+use Rattle.meaning_grammar.specs.Sorts.{AList}
+use Rattle.meaning_derivation.specs.Values.{WordValue, ListValue, parts_of, sort_of, stands_at, value_at}
 use Rattle.meaning_derivation.specs.Values as values
 use Rattle.meaning_derivation.specs.State.{ClosedList, with_value, with_values}
 use Rattle.meaning_derivation.specs.Lists.{reversed_before, suffixed, first_tree_token}
@@ -20,18 +21,20 @@ use Rattle.parse_state.specs.declared.value.Value.{Value}
 use Rattle.parse_state.specs.declared.value.Value.TheVariants.{Word, Tree}
 use Rattle.parse_state.specs.declared.value.Value.TheVariants as kinds
 use Rattle.parse_state.specs.declared.shape.Source.{Source}
-use Rattle.parse_state.specs.Seen.{Read, state_of, value_of, spelled_trees}
+use Rattle.parse_state.specs.Lying.{AreStacked}
+use Rattle.parse_state.specs.Seen.{Read, state_of, value_of, values_of, spelled_trees}
 use Rattle.parse_state.specs.Sources.{IsCovered, parts_given}
 use Rattle.parse_state.specs.Giving.{is_below, has_handles_below, children_in}
 use Rattle.parse_state.specs.Making.{start_of}
 use Rattle.parse_state.specs.Asking.{token_in, name_in}
-use Rattle.parse_state.specs.Joining.{children_of, suffixes_before, word_at, first_child}
-use Rattle.parse_state.specs.Soundness.{is_known, IsSound}
-use Rattle.parse_state.proofs.Stacks.{reverse-cons, reverse-snoc, all-reverse, all-drop, first_ones}
+use Rattle.parse_state.specs.Joining.{EndsInLists, children_of, suffixes_before, word_at, first_child}
+use Rattle.parse_state.specs.Soundness.{is_known, has_known_name, IsSound}
+use Rattle.parse_state.proofs.Stacks.{reverse-cons, reverse-snoc, all-reverse, all-drop, all-take, first_ones, last_ones}
 use Rattle.parse_state.proofs.Seeing.{seen, value_at-seen, token_at, text_at, values_of-pushed, values_of-below, values_of-collected}
-use Rattle.parse_state.proofs.Covering.{children-given}
+use Rattle.parse_state.proofs.Covering.{children-given, last_sorts}
 use Rattle.parse_state.proofs.Making.{with_stack}
-use Rattle.parse_state.proofs.Sound.{children-below, sound_pushed, sound_taken}
+use Rattle.parse_state.proofs.Lying.{stacked-append, stacked-halves, stacked-turned, children-stacked}
+use Rattle.parse_state.proofs.Sound.{all-snoc, children-below}
 
 -- The last values
 
@@ -137,19 +140,76 @@ suffixes-below end stack below =
     list_all-append (is_below end) (reverse suffixes) (children_of (slice_get (reverse stack) 1))
     ∙ ap₂ (λ (front back : Bool). front && back) (all-reverse (is_below end) suffixes (children_of-below end stack 0 below)) (children_of-below end stack 1 below)
 
+-- The two lists on top
+
+two_lists : (names : List (List ℕ)) (trees : List SyntaxTree) (found : List Value) → map (λ (value : Value). sort_of (value_of names trees value)) found ≡ AList ∷ AList ∷ []
+    → (inner : List (ℕ × ℕ)) × (suffixes : List (ℕ × ℕ)) × (found ≡ kinds.List inner ∷ kinds.List suffixes ∷ [])
+two_lists names trees [] is = absurd (cc is)
+two_lists names trees (one ∷ []) is = absurd (cc is)
+two_lists names trees (Word token name ∷ other ∷ found) is = absurd (cc is)
+two_lists names trees (Tree handle ∷ other ∷ found) is = absurd (cc is)
+two_lists names trees (kinds.List inner ∷ Word token name ∷ found) is = absurd (cc is)
+two_lists names trees (kinds.List inner ∷ Tree handle ∷ found) is = absurd (cc is)
+two_lists names trees (kinds.List inner ∷ kinds.List suffixes ∷ []) is = (inner, suffixes, refl)
+two_lists names trees (kinds.List inner ∷ kinds.List suffixes ∷ another ∷ found) is = absurd (cc is)
+
+lists_end : (names : List (List ℕ)) (list : NodeList NameId) (stack : List Value) → EndsInLists (values_of names list stack)
+    → (inner : List (ℕ × ℕ)) × (suffixes : List (ℕ × ℕ)) × (drop (start_of stack 2) stack ≡ kinds.List inner ∷ kinds.List suffixes ∷ [])
+lists_end names list stack lists =
+    two_lists names (spelled_trees names list) (drop (start_of stack 2) stack) (sym (last_sorts names (spelled_trees names list) stack 2) ∙ ap reverse lists)
+
+first_two : {X : Type 0} (xs : List X) (first second : X) → take 2 xs ≡ first ∷ second ∷ [] → (slice_get xs 0 ≡ Some first) × (slice_get xs 1 ≡ Some second)
+first_two [] first second is = absurd (cc is)
+first_two (x ∷ []) first second is = absurd (cc is)
+first_two (x ∷ other ∷ xs) first second is = (ap Some (cc is), ap Some (cc is))
+
+suffixes_are : (stack : List Value) (inner suffixes : List (ℕ × ℕ)) → drop (start_of stack 2) stack ≡ kinds.List inner ∷ kinds.List suffixes ∷ []
+    → suffixes_before stack ≡ reverse suffixes ++ inner
+suffixes_are stack inner suffixes is =
+    let top = first_two (reverse stack) (kinds.List suffixes) (kinds.List inner) (last_ones stack 2 ∙ ap reverse is) in
+    ap₂ (λ (last below : Option Value). reverse (children_of last) ++ children_of below) top.0 top.1
+
+-- All goes on being sound
+
 module _ (names : List (List ℕ)) (list : NodeList NameId) (stack : List Value) (scopes : ScopeList NameId) (closed : List (ClosedList NameId)) (sound : IsSound names list stack scopes closed) where
-  pub sound_turned : IsSound names list (take (start_of stack 2) stack ++ kinds.List (suffixes_before stack) ∷ []) scopes closed
-  sound_turned =
-      sound_pushed names list (take (start_of stack 2) stack) scopes closed (sound_taken names list stack scopes closed sound (start_of stack 2))
-      (kinds.List (suffixes_before stack)) (suffixes-below (length list.nodes) stack sound.handles) refl
+  pub sound_turned : EndsInLists (values_of names list stack) → IsSound names list (take (start_of stack 2) stack ++ kinds.List (suffixes_before stack) ∷ []) scopes closed
+  sound_turned lists =
+      let from = start_of stack 2 in
+      let found = lists_end names list stack lists in
+      record {
+        first = sound.first;
+        few = sound.few;
+        handles = all-snoc (has_handles_below (length list.nodes)) (take from stack) (kinds.List (suffixes_before stack))
+            (all-take (has_handles_below (length list.nodes)) from stack sound.handles) (suffixes-below (length list.nodes) stack sound.handles);
+        laid = subst (λ (children : List (ℕ × ℕ)). AreStacked list (take from stack ++ kinds.List children ∷ []) list.first (end_of list))
+            (sym (suffixes_are stack found.0 found.1 found.2)) (stacked-turned list stack from found.0 found.1 list.first (end_of list) found.2 sound.laid);
+        words = all-snoc (has_known_name names) (take from stack) (kinds.List (suffixes_before stack)) (all-take (has_known_name names) from stack sound.words) refl;
+        node_names = sound.node_names;
+        bound_names = sound.bound_names;
+        closed_names = sound.closed_names;
+      }
 
   pub sound_behind : (from token : ℕ) (name : NameId) (sources : List Source) → is_known names name ≡ true
       → IsSound names list ((take from stack ++ Word token name ∷ []) ++ kinds.List (children_in (drop from stack) sources) ∷ []) scopes closed
   sound_behind from token name sources known =
-      sound_pushed names list (take from stack ++ Word token name ∷ []) scopes closed
-      (sound_pushed names list (take from stack) scopes closed (sound_taken names list stack scopes closed sound from) (Word token name) refl known)
-      (kinds.List (children_in (drop from stack) sources))
-      (children-below (length list.nodes) (drop from stack) sources (all-drop (has_handles_below (length list.nodes)) from stack sound.handles)) refl
+      let front = take from stack ++ Word token name ∷ [] in
+      let children = kinds.List (children_in (drop from stack) sources) in
+      let halves = stacked-halves list stack from list.first (end_of list) sound.laid in
+      record {
+        first = sound.first;
+        few = sound.few;
+        handles = all-snoc (has_handles_below (length list.nodes)) front children
+            (all-snoc (has_handles_below (length list.nodes)) (take from stack) (Word token name) (all-take (has_handles_below (length list.nodes)) from stack sound.handles) refl)
+            (children-below (length list.nodes) (drop from stack) sources (all-drop (has_handles_below (length list.nodes)) from stack sound.handles));
+        laid = stacked-append list front (children ∷ []) list.first halves.0 (end_of list)
+            (stacked-append list (take from stack) (Word token name ∷ []) list.first halves.0 halves.0 halves.1 refl)
+            (end_of list, children-stacked list (drop from stack) sources halves.0 (end_of list) halves.2, refl);
+        words = all-snoc (has_known_name names) front children
+            (all-snoc (has_known_name names) (take from stack) (Word token name) (all-take (has_known_name names) from stack sound.words) known) refl;
+        node_names = sound.node_names;
+        bound_names = sound.bound_names;
+        closed_names = sound.closed_names;
+      }
 
 -- The first tree of a list
 

@@ -33,7 +33,7 @@ all-weaker first second weaker (x ∷ xs) all =
     ap₂ (λ (one rest : Bool). one && rest) (weaker x halves.0) (all-weaker first second weaker xs halves.1)
 
 -- one more behind others
-all-snoc : {X : Type 0} (test : X → Bool) (xs : List X) (x : X) → list_all test xs ≡ true → test x ≡ true → list_all test (xs ++ x ∷ []) ≡ true
+pub all-snoc : {X : Type 0} (test : X → Bool) (xs : List X) (x : X) → list_all test xs ≡ true → test x ≡ true → list_all test (xs ++ x ∷ []) ≡ true
 all-snoc test xs x all one = list_all-append test xs (x ∷ []) ∙ ap₂ (λ (front back : Bool). front && (back && true)) all one
 
 -- Handles

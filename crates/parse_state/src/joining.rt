@@ -78,7 +78,7 @@ impl<'t> ParseState<'t> {
     ghost use Rattle.meaning_derivation.specs.Values.{ListValue, value_at as value_below};
     ghost use Rattle.meaning_derivation.specs.State.{with_value, with_values};
     ghost use Rattle.meaning_derivation.specs.Lists.{suffixed};
-    ghost use Rattle.parse_state.specs.Joining.{word_at};
+    ghost use Rattle.parse_state.specs.Joining.{EndsInLists, word_at};
     ghost use Rattle.parse_state.specs.Seen.{state_of};
     ghost use Rattle.parse_state.specs.Sources.{IsCovered, parts_given};
 
@@ -111,6 +111,7 @@ impl<'t> ParseState<'t> {
     ///
     /// Where memory runs out no value is left.
     pub fn put_suffixes(&mut self) -> Result<(), AllocError>
+        requires lists { EndsInLists (state_of self.old).values }
         ensures list { OnOk result (state_of self.new ≡ with_value (state_of self.old) 2 (suffixed (value_below (state_of self.old).values 0) (value_below (state_of self.old).values 1))) }
         ensures names { self.new.names ≡ self.old.names }
     {

@@ -1,0 +1,6 @@
+use Rattle.parse_state.specs.Seen.{state_of}
+use Rattle.c_decl.proofs.Listing.{suffixes_end}
+use Rattle.c_decl.proofs.declarators.join_suffixes.Goals as goal
+
+pub put_suffixes-requires-clause-lists : goal.put_suffixes-requires-clause-lists
+put_suffixes-requires-clause-lists c = suffixes_end (state_of c.args.state.now).values c.requires.finds

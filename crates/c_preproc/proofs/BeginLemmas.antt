@@ -18,6 +18,7 @@ use Rattle.c_preproc.specs.Kept.{found_at, tokens_kept}
 use Rattle.c_preproc.specs.Lines.{parts_of}
 use Rattle.c_preproc.specs.Loads.{IsFresh, IsLooked, IsSource, IsTooLong, KeepsLoads, paths_seen}
 use Rattle.c_preproc.specs.Opens.{IsOpened, opened_piece}
+use Rattle.c_preproc.specs.PartEnds.{ArePartEnds}
 use Rattle.c_preproc.specs.States.{EndsUnit, GoesOn, Holds, IsHeld, put_of, stop_of}
 use Rattle.c_preproc.specs.Steps.{IsReadWhole, directories_alone}
 use Rattle.c_preproc.specs.Units.{setting_of}
@@ -53,10 +54,10 @@ paths-later names later more apart path state s holds = ap (drop 1) ((Holds-late
 
 -- it is the first that is kept
 pub command-kept : (names mid : List (List ℕ)) → Extends names mid → AreApart mid → (old : State) → IsHeld names old → drop 1 (paths_seen names old) ≡ [] → (before now : Kept) → IsFresh before → (file : KeptFile) → now.files.items ≡ before.files.items ++ file ∷ []
-    → now.paths ≡ before.paths → AreKnown mid file.tokens.items → length file.tokens.items ≤ file.bytes → KeepsLoads mid (paths_seen mid old) [] now
-command-kept names mid more apart old held one before now fresh file items paths known small =
+    → now.paths ≡ before.paths → AreKnown mid file.tokens.items → length file.tokens.items ≤ file.bytes → ArePartEnds mid file.tokens.items file.ends.entries → KeepsLoads mid (paths_seen mid old) [] now
+command-kept names mid more apart old held one before now fresh file items paths known small ends =
     keeps-first mid (paths_seen mid old) now file (ap (drop 1) (paths-later names mid more apart held.0 old held.1 held.2) ∙ one)
-    (λ id. ap (λ found. found_at (record before { paths = found }) id) paths ∙ fresh.none id) (items ∙ ap (λ files. files ++ file ∷ []) fresh.files) known small
+    (λ id. ap (λ found. found_at (record before { paths = found }) id) paths ∙ fresh.none id) (items ∙ ap (λ files. files ++ file ∷ []) fresh.files) known small ends
 
 module _ (names mid later : List (List ℕ)) (more : Extends names mid) (apart : AreApart mid) (old new : State) (given : List Loaded) (kept now : Kept) (directories : List (List ℕ)) (place : ℕ) (text : List ℕ) (tokens : List Token)
     (lexes : LexesFile 0 text (toks_of mid tokens)) (there : tokens_kept kept.files.items place ≡ tokens) where

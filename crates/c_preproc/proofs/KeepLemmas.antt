@@ -17,6 +17,7 @@ use Rattle.c_preproc.specs.Lines.{parts_of}
 use Rattle.c_preproc.specs.Loads.{IsKeptPath, IsNew}
 use Rattle.c_preproc.specs.Numbers.{IsKeptNow, IsNewPath, IsNumberable, IsNumbered}
 use Rattle.c_preproc.specs.Opens.{FilesStay}
+use Rattle.c_preproc.specs.PartEnds.{ArePartEnds}
 use Rattle.c_preproc.specs.States.{Holds, stop_of}
 use Rattle.c_preproc.specs.declared.kept.AtPath.TheVariants.{File}
 use Rattle.c_preproc.specs.declared.kept.Kept.{Kept}
@@ -66,13 +67,13 @@ module _ (names mid later : List (List ℕ)) (first : Extends names mid) (more :
   -- its tokens are kept
   pub kept-now : (now : Kept) (place : ℕ) (file : KeptFile) → place ≡ length kept.files.items → now.files.items ≡ kept.files.items ++ file ∷ [] → found_at now id ≡ Some (File place)
       → ((other : NameId) → other ≢ id → found_at now other ≡ found_at kept other) → file.bytes ≡ length text → LexesFile number text (toks_of later file.tokens.items) → AreKnown later file.tokens.items → length file.tokens.items ≤ length text
-      → IsKeptNow later main state given now path text s (Ok place)
-  kept-now now place file place_is items here others size lexes known small =
+      → ArePartEnds later file.tokens.items file.ends.entries → IsKeptNow later main state given now path text s (Ok place)
+  kept-now now place file place_is items here others size lexes known small ends =
       let tokens = lexed-tokens number text (toks_of later file.tokens.items) lexes in
       let there = last-place kept.files.items now.files.items file place place_is items in (
         with-path-holds,
         keeps-file later apart s.paths given kept path id text (new-later names later (Extends-Extends names mid later first more) s.paths given kept path id text new) now others file items size
-            (ap (λ n. lexed_file n text) (sym number-is) ∙ tokens) known (omega (arith, small, size)) (here ∙ ap (λ n. Some (File n)) place_is),
+            (ap (λ n. lexed_file n text) (sym number-is) ∙ tokens) known (omega (arith, small, size)) ends (here ∙ ap (λ n. Some (File n)) place_is),
         omega (arith, place_is, ap length items, length-append kept.files.items (file ∷ [])),
         λ value include.
             ap (λ n. text_of_file value include n text with_path) (sym number-is)

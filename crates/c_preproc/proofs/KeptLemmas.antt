@@ -15,14 +15,16 @@ use Rattle.c_tokens.specs.Spellings.{AreApart}
 use Rattle.c_tokens.specs.Seen.{Extends, IsKnown, text_of, toks_of}
 use Rattle.c_tokens.proofs.SeenLemmas.{IsKnown-Extends, slice_get-append, text_of-Extends, text_of-injective, toks_of-Extends}
 use Rattle.c_preproc.specs.Conditions.{AreKnown}
-use Rattle.c_preproc.specs.Kept.{bytes_in_kept, bytes_kept, found_at, tokens_in_kept, tokens_kept}
+use Rattle.c_preproc.specs.Kept.{bytes_in_kept, bytes_kept, ends_in_kept, ends_kept, found_at, tokens_in_kept, tokens_kept}
 use Rattle.c_preproc.specs.Loads.{IsFileOf, IsFoundPlace, IsKeptPath, IsNew, IsPlace, KeepsLoads, Tells}
 use Rattle.c_preproc.specs.Numbers.{IsNewPath}
+use Rattle.c_preproc.specs.PartEnds.{ArePartEnds}
 use Rattle.c_preproc.specs.declared.kept.AtPath.{AtPath}
 use Rattle.c_preproc.specs.declared.kept.AtPath.TheVariants.{Nothing, File}
 use Rattle.c_preproc.specs.declared.kept.Kept.{Kept}
 use Rattle.c_preproc.specs.declared.kept.KeptFile.{KeptFile}
 use Rattle.c_preproc.proofs.LoadLemmas.{agrees-back, agrees-front, once-push}
+use Rattle.c_preproc.proofs.PartLemmas.{ends-later}
 use Rattle.c_preproc.proofs.PathLemmas.{number-new, number-self, number-with, rest-with, with-new, with-self, with-with}
 use Rattle.c_preproc.proofs.StateLemmas.{known-later}
 
@@ -55,6 +57,7 @@ module _ (names later : List (List ℕ)) (more : Extends names later) where
         (tells-later paths kept.files.items (text_of names id) (file_at files (text_of names id)) found keeps.tokens (keeps.tells id found at files agrees));
     tokens = λ place. known-later names later more (tokens_kept kept.files.items place) (keeps.tokens place);
     small = keeps.small;
+    ends = λ place. ends-later names later more (tokens_kept kept.files.items place) (ends_kept kept.files.items place) (keeps.tokens place) (keeps.ends place);
   }
 
 -- Paths that aren't kept
@@ -120,6 +123,7 @@ module _ (names : List (List ℕ)) (apart : AreApart names) (kept : Kept) (id : 
                 (same-or other id);
             tokens = λ place. subst (λ files. AreKnown names (tokens_kept files place)) (sym items) (keeps.tokens place);
             small = λ place. subst (λ files. length (tokens_kept files place) ≤ bytes_kept files place) (sym items) (keeps.small place);
+            ends = λ place. subst (λ files. ArePartEnds names (tokens_kept files place) (ends_kept files place)) (sym items) (keeps.ends place);
           }
 
 -- Files that are kept
@@ -158,7 +162,8 @@ place-stays files more (File place) within = omega (arith, within, length-append
 
 module _ (names : List (List ℕ)) (apart : AreApart names) (paths : List (List ℕ)) (given : List Loaded) (kept : Kept) (path : List ℕ) (id : NameId) (text : List ℕ) (is : IsNew names paths given kept path id text)
     (now : Kept) (others : (other : NameId) → other ≢ id → found_at now other ≡ found_at kept other) (file : KeptFile) (items : now.files.items ≡ kept.files.items ++ file ∷ []) (size : file.bytes ≡ length text)
-    (tokens : lexed_file (number_from 1 paths path) text ≡ Tokens (toks_of names file.tokens.items)) (known : AreKnown names file.tokens.items) (small : length file.tokens.items ≤ file.bytes) where
+    (tokens : lexed_file (number_from 1 paths path) text ≡ Tokens (toks_of names file.tokens.items)) (known : AreKnown names file.tokens.items) (small : length file.tokens.items ≤ file.bytes)
+    (ends : ArePartEnds names file.tokens.items file.ends.entries) where
   last : slice_get now.files.items (length kept.files.items) ≡ Some file
   last = ap (λ files. slice_get files (length kept.files.items)) items ∙ last-kept kept.files.items file
 
@@ -205,14 +210,15 @@ module _ (names : List (List ℕ)) (apart : AreApart names) (paths : List (List 
             (same-or other id);
         tokens = λ place_. subst (λ files. AreKnown names (tokens_kept files place_)) (sym items) (each-kept (λ found. AreKnown names (tokens_in_kept found)) kept.files.items file keeps.tokens known place_);
         small = λ place_. subst (λ files. length (tokens_kept files place_) ≤ bytes_kept files place_) (sym items) (each-kept (λ found. length (tokens_in_kept found) ≤ bytes_in_kept found) kept.files.items file keeps.small small place_);
+        ends = λ place_. subst (λ files. ArePartEnds names (tokens_kept files place_) (ends_kept files place_)) (sym items) (each-kept (λ found. ArePartEnds names (tokens_in_kept found) (ends_in_kept found)) kept.files.items file keeps.ends ends place_);
       })
 
 -- The first file
 
 -- nothing was loaded, and one text is kept that has no path
 pub keeps-first : (names paths : List (List ℕ)) (kept : Kept) (file : KeptFile) → drop 1 paths ≡ [] → ((id : NameId) → found_at kept id ≡ None) → kept.files.items ≡ file ∷ [] → AreKnown names file.tokens.items → length file.tokens.items ≤ file.bytes
-    → KeepsLoads names paths [] kept
-keeps-first names paths kept file one none items known small = record {
+    → ArePartEnds names file.tokens.items file.ends.entries → KeepsLoads names paths [] kept
+keeps-first names paths kept file one none items known small ends = record {
   once = tt;
   loaded = All-nil (λ (load : Loaded). IsKeptPath names kept load.path);
   numbered = subst (All (IsKeptPath names kept)) (sym one) (All-nil (IsKeptPath names kept));
@@ -220,6 +226,7 @@ keeps-first names paths kept file one none items known small = record {
   tells = λ id found at. absurd (none-some found (sym (none id) ∙ at));
   tokens = λ place. subst (λ files. AreKnown names (tokens_kept files place)) (sym items) (tokens_at place);
   small = λ place. subst (λ files. length (tokens_kept files place) ≤ bytes_kept files place) (sym items) (small_at place);
+  ends = λ place. subst (λ files. ArePartEnds names (tokens_kept files place) (ends_kept files place)) (sym items) (ends_at place);
 }
   where
     tokens_at : (place : ℕ) → AreKnown names (tokens_kept (file ∷ []) place)
@@ -229,3 +236,7 @@ keeps-first names paths kept file one none items known small = record {
     small_at : (place : ℕ) → length (tokens_kept (file ∷ []) place) ≤ bytes_kept (file ∷ []) place
     small_at zero = small
     small_at (suc place) = omega arith
+
+    ends_at : (place : ℕ) → ArePartEnds names (tokens_kept (file ∷ []) place) (ends_kept (file ∷ []) place)
+    ends_at zero = ends
+    ends_at (suc place) = λ begin end there. absurd (none-some end there)

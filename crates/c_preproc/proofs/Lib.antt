@@ -18,6 +18,7 @@ mod NumberLemmas
 mod OpenLemmas
 mod OpenedLemmas
 mod ParameterLemmas
+mod PartLemmas
 mod PathLemmas
 mod PieceLemmas
 mod ReadLemmas

@@ -1,5 +1,5 @@
 -- The parts of a file by the lengths of its lines and texts.
-use Rattle.std.proofs.Common.{◌≡◌, ℕ, suc, Bool, true, false, ◌&&◌, List, [], ◌∷◌, ◌++◌, take, drop, refl, sym, ap, subst, ◌∙◌, if◌then◌else◌}
+use Rattle.std.proofs.Common.{◌≡◌, ℕ, suc, Bool, true, false, ◌&&◌, List, [], ◌∷◌, ◌++◌, take, drop, take-append-drop, refl, sym, ap, subst, ◌∙◌, if◌then◌else◌}
 use Rattle.std.specs.Bool.{⊤}
 use Rattle.std.proofs.lemmas.List.{append-nil}
 use Rattle.meaning_text.specs.Tokens.{Tok, is_hash}
@@ -142,4 +142,16 @@ pub directive_seen : (names : List (List ℕ)) (ts text left : List Token) (n : 
 directive_seen names ts text left n hash others rest behind m is front back found line first after =
     directive_behind names ts hash others (ap (λ k. drop k ts) (sym is) ∙ sym back ∙ found)
     ∙ (λ i. DirectiveBehind (toks_of names (sym (front ∙ ap (λ k. take k ts) is) i)) (tok_of names hash)
+    (toks_of names (sym (first ∙ ap (λ k. take k others) line) i)) (parts_of names (sym (after ∙ ap (λ k. drop k others) line) i)))
+
+-- and of those from its `#` on
+pub from_hash_seen : (names : List (List ℕ)) (ts left : List Token) (n : ℕ) (hash : Token) (others rest behind : List Token) (m : ℕ)
+    → n ≡ text_length ts → left ≡ drop n ts → left ≡ hash ∷ others → m ≡ line_length others → rest ≡ take m others → behind ≡ drop m others
+    → parts_of names (hash ∷ rest ++ behind) ≡ DirectiveBehind [] (tok_of names hash) (toks_of names rest) (parts_of names behind)
+from_hash_seen names ts left n hash others rest behind m is back found line first after =
+    let begins : is_hash hash.kind ≡ true = subst BeginsWithHash (ap (λ k. drop k ts) (sym is) ∙ sym back ∙ found) (hash-first ts) in
+    let all : rest ++ behind ≡ others = (λ i. first i ++ after i) ∙ take-append-drop m others in
+    ap (λ tokens. parts_of names (hash ∷ tokens)) all
+    ∙ parts-front names hash others true begins
+    ∙ (λ i. DirectiveBehind [] (tok_of names hash)
     (toks_of names (sym (first ∙ ap (λ k. take k others) line) i)) (parts_of names (sym (after ∙ ap (λ k. drop k others) line) i)))

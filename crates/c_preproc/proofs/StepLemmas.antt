@@ -18,7 +18,7 @@ use Rattle.c_preproc.specs.Groups.{groups_seen}
 use Rattle.c_preproc.specs.Kept.{bytes_kept, tokens_kept}
 use Rattle.c_preproc.specs.Lines.{parts_of}
 use Rattle.c_preproc.specs.Loads.{IsPlace, KeepsLoads, paths_seen}
-use Rattle.c_preproc.specs.Opens.{FilesStay, IsCounted, IsIncluded, left_of, open_piece, waiting_piece, work_left}
+use Rattle.c_preproc.specs.Opens.{FilesStay, IsCounted, IsIncluded, IsWorthAsMuch, left_of, open_piece, waiting_piece, work_left}
 use Rattle.c_preproc.specs.Requests.{request_seen}
 use Rattle.c_preproc.specs.States.{EndsUnit, GoesOn, Holds, IsHeld, put_of, stop_of}
 use Rattle.c_preproc.specs.Steps.{ArePlaced, IsStepped, directories_alone}
@@ -233,6 +233,13 @@ reads-held names later old new files file next held found reads =
     by all read.Part goes = (held.0, goes.0, goes.1)
     by all (read.Include request) goes = (held.0, goes.0, goes.1)
     by all read.End goes = (held.0, goes.0, goes.1)
+
+-- a directive was done, and the part that is skipped behind it is passed
+pub reads-passed : (names later : List (List ℕ)) (old new : State) (files : List KeptFile) (file next passed : OpenFile) → IsWorthAsMuch later files next passed → Reads names later old new files file next (Ok read.Part)
+    → Reads names later old new files file passed (Ok read.Part)
+reads-passed names later old new files file next passed worth reads = λ value include path s is holds.
+    let goes = reads value include path s is holds in
+    (goes.0, goes.1, ap (tokens_before (put_of later new)) (worth.same value include goes.0) ∙ goes.2)
 
 module _ (names later : List (List ℕ)) (more : Extends names later) (old new : State) (held : IsHeld names old) (same : new.paths ≡ old.paths) (kept : Kept) (directories : List (List ℕ)) (waiting : List OpenFile) (file next : OpenFile)
     (placed : ArePlaced kept.files.items (waiting ++ file ∷ [])) (earlier : List Loaded) (keeps : KeepsLoads names (paths_seen names old) earlier kept) where

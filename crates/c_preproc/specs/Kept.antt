@@ -15,6 +15,10 @@ abbrev pub tokens_in_kept : Option KeptFile → List Token
 tokens_in_kept None = []
 tokens_in_kept (Some file) = file.tokens.items
 
+abbrev pub ends_in_kept : Option KeptFile → List (ℕ × ℕ)
+ends_in_kept None = []
+ends_in_kept (Some file) = file.ends.entries
+
 abbrev pub bytes_in_kept : Option KeptFile → ℕ
 bytes_in_kept None = 0
 bytes_in_kept (Some file) = file.bytes
@@ -22,6 +26,9 @@ bytes_in_kept (Some file) = file.bytes
 -- of the file in this place
 abbrev pub tokens_kept : List KeptFile → ℕ → List Token
 tokens_kept files place = tokens_in_kept (slice_get files place)
+
+abbrev pub ends_kept : List KeptFile → ℕ → List (ℕ × ℕ)
+ends_kept files place = ends_in_kept (slice_get files place)
 
 abbrev pub bytes_kept : List KeptFile → ℕ → ℕ
 bytes_kept files place = bytes_in_kept (slice_get files place)

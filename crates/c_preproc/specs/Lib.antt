@@ -12,6 +12,7 @@ pub mod Loads
 pub mod Made
 pub mod Numbers
 pub mod Opens
+pub mod PartEnds
 pub mod Requests
 pub mod Seen
 pub mod States

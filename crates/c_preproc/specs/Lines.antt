@@ -25,6 +25,16 @@ abbrev pub tokens_in : FilePart → List Token
 tokens_in (LastText text) = text.now
 tokens_in (Directive text hash rest behind) = text.now ++ hash ∷ rest.now ++ behind.now
 
+-- the tokens of a part from its `#` on
+abbrev pub from_hash : FilePart → List Token
+from_hash (LastText text) = []
+from_hash (Directive text hash rest behind) = hash ∷ rest.now ++ behind.now
+
+-- without the text before the first directive
+abbrev pub without_text : FileParts → FileParts
+without_text (lines.LastText text) = lines.LastText []
+without_text (lines.DirectiveBehind text hash rest parts) = lines.DirectiveBehind [] hash rest parts
+
 -- how many tokens go on with a line
 abbrev pub line_length : List Token → ℕ
 line_length [] = 0

@@ -13,7 +13,8 @@ use Rattle.meaning_preprocessing.specs.Unit.{unit_limits}
 use Rattle.sparse_model.specs.declared.ids.NameId.{NameId}
 use Rattle.c_tokens.specs.Seen.{IsKnown, text_of, toks_of}
 use Rattle.c_preproc.specs.Conditions.{AreKnown}
-use Rattle.c_preproc.specs.Kept.{bytes_kept, found_at, tokens_kept}
+use Rattle.c_preproc.specs.Kept.{bytes_kept, ends_kept, found_at, tokens_kept}
+use Rattle.c_preproc.specs.PartEnds.{ArePartEnds}
 use Rattle.c_preproc.specs.States.{stop_of}
 use Rattle.c_preproc.specs.declared.kept.AtPath.{AtPath}
 use Rattle.c_preproc.specs.declared.kept.AtPath.TheVariants.{Nothing, File}
@@ -68,6 +69,7 @@ pub record KeepsLoads (names : List (List ℕ)) (paths : List (List ℕ)) (given
   pub tells : (id : NameId) (found : AtPath) → found_at kept id ≡ Some found → (files : FileMap) → AgreesWith files given → Tells names paths kept.files.items (text_of names id) (file_at files (text_of names id)) found
   pub tokens : (place : ℕ) → AreKnown names (tokens_kept kept.files.items place)
   pub small : (place : ℕ) → length (tokens_kept kept.files.items place) ≤ bytes_kept kept.files.items place
+  pub ends : (place : ℕ) → ArePartEnds names (tokens_kept kept.files.items place) (ends_kept kept.files.items place)
 
 -- nothing is kept yet
 pub record IsFresh (kept : Kept) : Type 0 where

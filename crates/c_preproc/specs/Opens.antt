@@ -49,6 +49,12 @@ left_of files file = drop (length (tokens_kept files file.place) - file.left) (t
 abbrev pub open_piece : Evaluation → Reader → List (List ℕ) → List KeptFile → OpenFile → UnitState → Piece
 open_piece value include names files file s = over_parts value include (parts_of names (left_of files file)) (groups_seen file.groups.items) s
 
+-- the same file where less may be left of it, which comes to the same
+pub record IsWorthAsMuch (names : List (List ℕ)) (files : List KeptFile) (before now : OpenFile) : Type 0 where
+  pub place : now.place ≡ before.place
+  pub fewer : length (left_of files now) ≤ length (left_of files before)
+  pub same : (value : Evaluation) (include : Reader) (s : UnitState) → open_piece value include names files now s ≡ open_piece value include names files before s
+
 -- What comes of files that wait, the outermost first, which has so many files within it at most, and of what is read before them.
 abbrev pub waiting_piece : Setting → List (List ℕ) → List KeptFile → ℕ → List OpenFile → (UnitState → Piece) → UnitState → Piece
 waiting_piece setting names files depth [] next s = next s

@@ -8,13 +8,14 @@ ghost use Rattle.c_tokens.specs.Seen.{Extends, tok_of, toks_of};
 ghost use Rattle.c_preproc.specs.Conditions.{AreKnown};
 ghost use Rattle.c_preproc.specs.Files.{IsKnownRead, IsReadEnd, IsReadPart, IsShorter};
 ghost use Rattle.c_preproc.specs.Groups.{groups_seen};
-ghost use Rattle.c_preproc.specs.Kept.{tokens_kept};
-ghost use Rattle.c_preproc.specs.Opens.{IsKnownTurned, IsTurnDone, left_of, open_piece};
+ghost use Rattle.c_preproc.specs.Kept.{ends_kept, tokens_kept};
+ghost use Rattle.c_preproc.specs.Opens.{IsKnownTurned, IsTurnDone, IsWorthAsMuch, left_of, open_piece};
+ghost use Rattle.c_preproc.specs.PartEnds.{ArePartEnds};
 ghost use Rattle.c_preproc.specs.States.{Holds, IsFaultInText, IsHeld, put_of};
 
 use crate::directive::begin_directive;
 use crate::fault::LineFault;
-use crate::groups::{Group, outermost};
+use crate::groups::{Group, are_read, outermost};
 use crate::include_line::HeaderRequest;
 use crate::kept::Kept;
 use crate::lines::{FilePart, first_part};
@@ -59,6 +60,20 @@ impl OpenFile {
             left: kept.tokens(place).len(),
             groups: Vec::new(alloc),
         }
+    }
+
+    /// Passes what is left of a part that is skipped, where it is known how far that goes.
+    pub(crate) fn pass_part(&mut self, kept: &Kept)
+        ensures { (names : List (List ℕ)) → ArePartEnds names (tokens_kept kept.now.files.items self.old.place) (ends_kept kept.now.files.items self.old.place) →
+            IsWorthAsMuch names kept.now.files.items self.old self.new }
+    {
+        if are_read(&self.groups) {
+            return;
+        }
+        let Some(end) = kept.end_of_part(self.place, self.left) else {
+            return;
+        };
+        self.left = end;
     }
 
     // What is left of its tokens.

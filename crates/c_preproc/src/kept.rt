@@ -1,8 +1,9 @@
 //! What loads gave, by the paths of their files: the tokens of each file, or that there is none. No path is
 //! loaded twice.
-ghost use Rattle.std.specs.Prelude.{◌≡◌, ◌≢◌, ◌++◌, ◌∷◌, [], List, ℕ, length, None, Some, IfOk, OnOk, OnErr};
+ghost use Rattle.std.specs.Prelude.{◌≡◌, ◌≢◌, ◌++◌, ◌∷◌, [], List, ℕ, length, nat_eq, None, Some, IfOk, OnOk, OnErr};
+ghost use Rattle.std.specs.Map.{lookup};
 ghost use Rattle.sparse_model.specs.declared.ids.NameId.{NameId};
-ghost use Rattle.c_preproc.specs.Kept.{bytes_kept, found_at, tokens_kept};
+ghost use Rattle.c_preproc.specs.Kept.{bytes_kept, ends_kept, found_at, tokens_kept};
 
 use c_tokens::Token;
 use indexmap::IndexMap;
@@ -23,6 +24,8 @@ pub(crate) struct KeptFile {
     /// How many bytes it has.
     pub(crate) bytes: usize,
     pub(crate) tokens: Vec<Token>,
+    /// Where the parts of its groups end.
+    pub(crate) ends: IndexMap<usize, usize>,
 }
 
 /// What the loads of a unit gave.
@@ -100,6 +103,16 @@ impl Kept {
         match self.files.get(place) {
             Some(file) => file.bytes,
             None => 0,
+        }
+    }
+
+    /// How many tokens of the file in this place are left where the part ends behind whose first line so many are.
+    pub(crate) fn end_of_part(&self, place: usize, left: usize) -> Option<usize>
+        ensures { result ≡ lookup (nat_eq left) (ends_kept self.now.files.items place) }
+    {
+        match self.files.get(place) {
+            Some(file) => file.ends.get(&left).copied(),
+            None => None,
         }
     }
 }

@@ -35,6 +35,7 @@ mod opening;
 mod operand;
 mod operators;
 mod parameters;
+mod part_ends;
 mod pre_fault;
 mod search;
 mod signs;

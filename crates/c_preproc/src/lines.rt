@@ -1,7 +1,7 @@
 //! The tokens of a file, part by part: text, and the directive behind it. No token is copied, and what a
 //! directive does isn't known here.
 ghost use Rattle.std.specs.Prelude.{◌≡◌, ◌≤◌, List, ℕ, length};
-ghost use Rattle.c_preproc.specs.Lines.{line_length, part_seen, parts_of, text_behind, text_length, tokens_in};
+ghost use Rattle.c_preproc.specs.Lines.{from_hash, line_length, part_seen, parts_of, text_behind, text_length, tokens_in, without_text};
 
 use c_tokens::Token;
 use sparse_model::TokenKind;
@@ -26,6 +26,7 @@ pub(crate) enum FilePart<'t> {
 pub(crate) fn first_part(tokens: &[Token]) -> FilePart<'_>
     ensures parts { (names : List (List ℕ)) → parts_of names tokens.now ≡ part_seen names result }
     ensures tokens { tokens_in result ≡ tokens.now }
+    ensures hash { (names : List (List ℕ)) → parts_of names (from_hash result) ≡ without_text (part_seen names result) }
 {
     let (text, directive) = tokens.split_at(text_length(tokens));
     let Some((hash, others)) = directive.split_first() else {

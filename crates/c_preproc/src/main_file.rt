@@ -10,6 +10,7 @@ ghost use Rattle.c_preproc.specs.Loads.{HasLoaded, IsFresh, KeepsLoads, paths_se
 ghost use Rattle.c_preproc.specs.States.{Holds, IsFaultInText, IsHeld, IsKnownFault, stop_of};
 
 use crate::kept::{Kept, KeptFile};
+use crate::part_ends::part_ends;
 use crate::pre_fault::PreFault;
 use crate::state::State;
 use c_tokens::{Names, lex};
@@ -51,7 +52,12 @@ impl State {
             Ok(tokens) => {
                 names.apart();
                 let bytes = text.len();
-                let place = kept.keep_file(KeptFile { bytes, tokens })?;
+                let ends = part_ends(alloc, names, &tokens)?;
+                let place = kept.keep_file(KeptFile {
+                    bytes,
+                    tokens,
+                    ends,
+                })?;
                 self.read_files(alloc, names, files, directories, kept, place)
             }
             Err(fault) => {

@@ -80,6 +80,7 @@ impl State {
         let mut file = file;
         match self.read_part(alloc, names, kept, &mut file) {
             Ok(Read::Part) => {
+                file.pass_part(kept);
                 waiting.push(file)?;
                 Ok(())
             }

@@ -13,6 +13,7 @@ ghost use Rattle.c_preproc.specs.States.{Holds, IsFaultInText, stop_of};
 use crate::first_state::tell_file;
 use crate::kept::{Kept, KeptFile};
 use crate::loads::Source;
+use crate::part_ends::part_ends;
 use crate::pre_fault::PreFault;
 use crate::state::{NO_WORD, State};
 use c_tokens::{LexFault, Names, lex};
@@ -112,7 +113,12 @@ impl State {
             Ok(tokens) => {
                 names.apart();
                 let bytes = text.len();
-                let place = kept.keep_file(KeptFile { bytes, tokens })?;
+                let ends = part_ends(alloc, names, &tokens)?;
+                let place = kept.keep_file(KeptFile {
+                    bytes,
+                    tokens,
+                    ends,
+                })?;
                 kept.keep_path(path, place)?;
                 Ok(place)
             }

@@ -18,6 +18,7 @@ returns-in_ok-keep_path-in-Ok-clause-kept c = λ main s given asked holds new.
     (subst (λ text. LexesFile c.in_ok-number.number text (toks_of c.lex.new.names c.in-Ok.tokens.items)) c.as_slice.ensures.value c.in-Ok.ensures.tokens)
     c.in-Ok.ensures.known
     (omega (arith, c.in-Ok.ensures.count, ap length c.as_slice.ensures.value))
+    c.in_ok-ends-in-Ok.ensures
 
 pub returns-in_ok-keep_path-in-Ok-clause-counted : goal.returns-in_ok-keep_path-in-Ok-clause-counted
 returns-in_ok-keep_path-in-Ok-clause-counted c =

@@ -22,7 +22,7 @@ pub read_files-requires-clause-kept : goal.read_files-requires-clause-kept
 read_files-requires-clause-kept g c = (
   [],
   command-kept c.args.names.now c.lex.new.names c.lex.ensures.keeps c.apart.ensures.apart c.args.self.now c.requires.held c.requires.paths c.args.kept.now c.keep_file.new.self c.requires.fresh
-      (record { bytes = length c.args.text.now; tokens = c.in-Ok.tokens }) c.in_ok-place-in-Ok.ensures.files c.keep_file.ensures.paths c.in-Ok.ensures.known (omega (arith, c.in-Ok.ensures.count)),
+      (record { bytes = length c.args.text.now; tokens = c.in-Ok.tokens; ends = c.in_ok-ends-in-Ok.ends }) c.in_ok-place-in-Ok.ensures.files c.keep_file.ensures.paths c.in-Ok.ensures.known (omega (arith, c.in-Ok.ensures.count)) c.in_ok-ends-in-Ok.ensures,
 )
 
 pub returns-in_ok-place-in-Ok-clause-read : goal.returns-in_ok-place-in-Ok-clause-read
@@ -31,7 +31,7 @@ returns-in_ok-place-in-Ok-clause-read g c =
     c.in-Ok.ensures.tokens (ap tokens_in_kept (last-place c.args.kept.now.files.items c.keep_file.new.self.files.items _ c.in_ok-place-in-Ok.place c.in_ok-place-in-Ok.ensures.place c.in_ok-place-in-Ok.ensures.files))
     c.read_files.result (c.read_files.ensures.read []
     (command-kept c.args.names.now c.lex.new.names c.lex.ensures.keeps c.apart.ensures.apart c.args.self.now c.requires.held c.requires.paths c.args.kept.now c.keep_file.new.self c.requires.fresh
-    (record { bytes = length c.args.text.now; tokens = c.in-Ok.tokens }) c.in_ok-place-in-Ok.ensures.files c.keep_file.ensures.paths c.in-Ok.ensures.known (omega (arith, c.in-Ok.ensures.count))))
+    (record { bytes = length c.args.text.now; tokens = c.in-Ok.tokens; ends = c.in_ok-ends-in-Ok.ends }) c.in_ok-place-in-Ok.ensures.files c.keep_file.ensures.paths c.in-Ok.ensures.known (omega (arith, c.in-Ok.ensures.count)) c.in_ok-ends-in-Ok.ensures))
 
 pub returns-in-Err-clause-read : goal.returns-in-Err-clause-read
 returns-in-Err-clause-read g c = (

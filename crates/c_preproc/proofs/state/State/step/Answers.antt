@@ -5,7 +5,7 @@ use Rattle.c_preproc.specs.Kept.{tokens_kept}
 use Rattle.c_preproc.specs.Loads.{IsPlace}
 use Rattle.c_preproc.specs.Opens.{IsCounted, left_of, work_left}
 use Rattle.c_preproc.specs.Steps.{ArePlaced, IsStepped}
-use Rattle.c_preproc.proofs.StepLemmas.{Reads, end-is-stepped, end-less, end-placed, fault-is-stepped, include-held, include-is-forgotten, include-is-refused, include-is-stepped, include-kept, include-place, inner-less, inner-placed, keeps-seen, next-less, next-placed, part-is-stepped, reads-held}
+use Rattle.c_preproc.proofs.StepLemmas.{Reads, end-is-stepped, end-less, end-placed, fault-is-stepped, include-held, include-is-forgotten, include-is-refused, include-is-stepped, include-kept, include-place, inner-less, inner-placed, keeps-seen, next-less, next-placed, part-is-stepped, reads-held, reads-passed}
 use Rattle.c_preproc.proofs.state.State.step.Goals as goal
 
 pub include-requires-clause-held : goal.include-requires-clause-held
@@ -30,8 +30,11 @@ returns-in_ok-push-in-Ok-Part-clause-read g c = λ earlier keeps.
     let waiting = c.args.waiting.now.items in
     let all = g.F.Files.loads c.args.files.now in
     let reads = subst (λ found. Reads names later old new kept.files.items c.args.file c.read_part.new.file (Ok found)) c.in-Ok-Part.field-0-is c.in-Ok-Part.ensures.read in
+    let now = keeps-seen names later c.read_part.ensures.keeps old new c.requires.held c.read_part.ensures.paths earlier kept keeps in
+    let worth = c.pass_part.ensures later (now.ends c.read_part.new.file.place) in
     subst (λ on_way. IsStepped names later old new (earlier ++ loads_since all all) kept kept c.args.directories.now (waiting ++ c.args.file ∷ []) on_way (Ok tt)) (sym c.in_ok-push-in-Ok-Part.ensures.items)
-    (part-is-stepped names later c.read_part.ensures.keeps old new c.requires.held c.read_part.ensures.paths kept c.args.directories.now waiting c.args.file c.read_part.new.file c.requires.placed earlier keeps all reads)
+    (part-is-stepped names later c.read_part.ensures.keeps old new c.requires.held c.read_part.ensures.paths kept c.args.directories.now waiting c.args.file c.pass_part.new.self c.requires.placed earlier keeps all
+    (reads-passed names later old new kept.files.items c.args.file c.read_part.new.file c.pass_part.new.self worth reads))
 
 pub returns-in_ok-push-in-Ok-Part-clause-held : goal.returns-in_ok-push-in-Ok-Part-clause-held
 returns-in_ok-push-in-Ok-Part-clause-held g c =
@@ -39,16 +42,18 @@ returns-in_ok-push-in-Ok-Part-clause-held g c =
 
 pub returns-in_ok-push-in-Ok-Part-clause-placed : goal.returns-in_ok-push-in-Ok-Part-clause-placed
 returns-in_ok-push-in-Ok-Part-clause-placed g c =
+    let worth = c.pass_part.ensures c.args.names.now (c.requires.kept.1.ends c.read_part.new.file.place) in
     subst (ArePlaced c.args.kept.now.files.items) (sym c.in_ok-push-in-Ok-Part.ensures.items)
-    (next-placed c.args.kept.now.files.items c.args.waiting.now.items c.args.file c.read_part.new.file c.read_part.ensures.place c.requires.placed)
+    (next-placed c.args.kept.now.files.items c.args.waiting.now.items c.args.file c.pass_part.new.self (worth.place ∙ c.read_part.ensures.place) c.requires.placed)
 
 pub returns-in_ok-push-in-Ok-Part-clause-less : goal.returns-in_ok-push-in-Ok-Part-clause-less
 returns-in_ok-push-in-Ok-Part-clause-less g c =
     let files = c.args.kept.now.files.items in
     let waiting = c.args.waiting.now.items in
+    let worth = c.pass_part.ensures c.args.names.now (c.requires.kept.1.ends c.read_part.new.file.place) in
+    let shorter = subst (IsShorter (left_of files c.args.file) (left_of files c.read_part.new.file)) c.in-Ok-Part.field-0-is c.in-Ok-Part.ensures.left in
     subst (λ on_way. work_left c.read_part.new.self files on_way < work_left c.args.self.now files (waiting ++ c.args.file ∷ [])) (sym c.in_ok-push-in-Ok-Part.ensures.items)
-    (next-less files waiting c.args.file c.read_part.new.file c.args.self.now c.read_part.new.self c.read_part.ensures.bytes
-    (subst (IsShorter (left_of files c.args.file) (left_of files c.read_part.new.file)) c.in-Ok-Part.field-0-is c.in-Ok-Part.ensures.left))
+    (next-less files waiting c.args.file c.pass_part.new.self c.args.self.now c.read_part.new.self c.read_part.ensures.bytes (omega (arith, shorter, worth.fewer)))
 
 -- The file was at its end
 

@@ -1,0 +1,7 @@
+use Rattle.std.proofs.Common.{sym, ◌∙◌}
+use Rattle.c_preproc.proofs.PartLemmas.{worth-passed, worth-self}
+use Rattle.c_preproc.proofs.file.OpenFile.pass_part.Goals as goal
+
+pub returns : goal.returns
+returns c = λ names are.
+    worth-passed names c.args.kept.now.files.items c.args.self.now c.in-Some.end (sym c.are_read.ensures ∙ c.if-are_read.false) are (sym c.in-Some.ensures)

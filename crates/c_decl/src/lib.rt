@@ -5,9 +5,11 @@
 
 mod actions;
 mod attributes;
+mod binding;
 mod functions;
 mod names;
 mod nodes;
+mod specifiers;
 mod tags;
 
 pub use actions::act;

@@ -1,3 +1,4 @@
 pub mod Finding
 pub mod Dropping
 pub mod Listing
+pub mod Parameters

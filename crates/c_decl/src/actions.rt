@@ -12,13 +12,14 @@ ghost use Rattle.parse_state.specs.Steps.{IsToldBy};
 use crate::attributes::{
     append_attribute, append_leading_attributes, make_parenthesized_attributes,
 };
+use crate::binding::{bind_declarator, bind_enumerator, bind_parameter};
 use crate::declarators::{join_any_parts, join_parts, join_suffixes, make_optional_declarator};
 use crate::functions::{
-    append_declarator, begin_declarators, close_parameters, make_file_specifiers,
-    note_function_declarator, open_body,
+    append_declarator, begin_declarators, close_parameters, note_function_declarator, open_body,
 };
 use crate::names::{put_no_tag, use_typedef_name};
 use crate::nodes::make_node;
+use crate::specifiers::{make_file_specifiers, make_specifiers};
 use crate::tags::{define_tag, use_tag};
 use parse_state::{ActionFault, ParseState};
 use vocabulary::Action;
@@ -42,7 +43,15 @@ pub fn act(state: &mut ParseState<'_>, action: Action) -> Result<(), ActionFault
             state.await_body(1);
             Ok(())
         }
+        Action::BindDeclarator => bind_declarator(state, 1),
+        Action::BindFurtherDeclarator => bind_declarator(state, 2),
+        Action::BindEnumerator => bind_enumerator(state),
+        Action::BindParameter => bind_parameter(state),
         Action::MakeFileSpecifiers => make_file_specifiers(state),
+        Action::MakeBlockSpecifiers
+        | Action::MakeMemberSpecifiers
+        | Action::MakeParameterSpecifiers
+        | Action::MakeTypeNameSpecifiers => make_specifiers(state),
         Action::CloseParameters => close_parameters(state),
         Action::OpenBody => open_body(state),
         Action::RequireType => Ok(()),
@@ -62,10 +71,6 @@ pub fn act(state: &mut ParseState<'_>, action: Action) -> Result<(), ActionFault
         Action::JoinAnyParts => join_any_parts(state),
         Action::JoinSuffixes => join_suffixes(state),
         Action::MakeOptionalDeclarator => make_optional_declarator(state),
-        Action::BindDeclarator
-        | Action::BindFurtherDeclarator
-        | Action::BindEnumerator
-        | Action::BindParameter => Err(ActionFault::Memory),
         _ => make_node(state, action),
     }
 }

@@ -1,6 +1,6 @@
 // Functions and their bodies (C11 6.9.1), and declarators in a row (6.7).
 ghost use Rattle.std.specs.Prelude.{◌≡◌, IfErr, IsSome, OnOk};
-ghost use Rattle.vocabulary.specs.declared.action.Action.TheVariants.{AppendDeclarator, BeginDeclarators, CloseParameters, MakeFileSpecifiers, NoteFunctionDeclarator, OpenBody};
+ghost use Rattle.vocabulary.specs.declared.action.Action.TheVariants.{AppendDeclarator, BeginDeclarators, CloseParameters, NoteFunctionDeclarator, OpenBody};
 ghost use Rattle.vocabulary.specs.declared.production_item.ProductionItem.TheVariants.{Do};
 ghost use Rattle.meaning_grammar.specs.Sorts.{effect};
 ghost use Rattle.meaning_derivation.specs.Values.{sorts_of};
@@ -9,8 +9,8 @@ ghost use Rattle.meaning_derivation.specs.Actions.{act};
 ghost use Rattle.parse_state.specs.Seen.{state_of};
 ghost use Rattle.parse_state.specs.Steps.{IsToldBy};
 
-use parse_state::{ActionFault, ParseState, Place, Row, Source};
-use vocabulary::{NodeKind, Role};
+use parse_state::{ActionFault, ParseState, Source};
+use vocabulary::Role;
 
 /// The list of declarators, with the first one and its attributes in it.
 pub fn begin_declarators(state: &mut ParseState<'_>) -> Result<(), ActionFault>
@@ -52,24 +52,6 @@ pub fn note_function_declarator(state: &mut ParseState<'_>)
     if state.own_parameters(1).is_some() {
         state.note_function_end();
     }
-}
-
-/// The specifiers of a declaration at file scope. No list of an earlier declaration is its function's.
-pub fn make_file_specifiers(state: &mut ParseState<'_>) -> Result<(), ActionFault>
-    requires finds { IsSome (effect (Do MakeFileSpecifiers) (sorts_of (state_of state.old).values)) }
-    ensures goes { OnOk result (act MakeFileSpecifiers (state_of state.old) ≡ Goes (state_of state.new)) }
-    ensures told { IfErr result (IsToldBy (act MakeFileSpecifiers (state_of state.old))) }
-    ensures names { state.new.names ≡ state.old.names }
-{
-    state.forget_closed();
-    state.make_row(&Row {
-        takes: 2,
-        kind: NodeKind::Specifiers,
-        place: Place::AtWord(1),
-        name: None,
-        number: None,
-        sources: &[Source::AllTrees(0)],
-    })
 }
 
 /// The end of a parameter list.

@@ -5,10 +5,12 @@
 
 mod actions;
 mod attributes;
+mod binding;
 mod declarators;
 mod functions;
 mod names;
 mod nodes;
+mod specifiers;
 mod tags;
 
 pub use actions::act;

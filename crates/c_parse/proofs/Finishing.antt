@@ -11,7 +11,7 @@ use Rattle.meaning_derivation.specs.Units.{DerivesTree}
 use Rattle.meaning_forms.proofs.Deriving.{derived_lists_are_formed}
 use Rattle.sparse_model.specs.declared.ids.NameId.{NameId}
 use Rattle.c_tokens.specs.Seen.{text_of}
-use Rattle.parse_state.specs.Finished.{IsOnlyTreeOf, HasKnownNames, spelled}
+use Rattle.parse_state.specs.Finished.{IsOnlyTreeOf, spelled}
 use Rattle.c_parse.specs.Answers.{DerivesUnit}
 
 -- the unit stands for the tree that is left

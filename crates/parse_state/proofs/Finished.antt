@@ -2,14 +2,13 @@
 use Rattle.std.proofs.Common.{◌≡◌, ℕ, ◌+◌, ◌-◌, ◌<◌, List, [], ◌∷◌, map, reverse, length, refl, sym, ap, subst, ◌∙◌, arith}
 use Rattle.std.proofs.lemmas.List.{length-map, reverse-reverse}
 use Rattle.meaning_tree.specs.Trees.{SyntaxTree}
-use Rattle.meaning_tree.specs.Nodes.{NodeList, end_of, HasNode, ChildrenStandBefore, StandsFor, IsTreeOf}
+use Rattle.meaning_tree.specs.Nodes.{NodeList, end_of, ChildrenStandBefore, StandsFor}
 use Rattle.meaning_tree.specs.Listed.{renamed_node, tree_at}
 use Rattle.meaning_tree.specs.Laid.{IsLaid}
 use Rattle.meaning_tree.specs.Runs.{IsRun}
 use Rattle.meaning_tree.proofs.ListedStand.{listed_stand}
 use Rattle.meaning_tree.proofs.Lying.{run_is_laid}
 use Rattle.meaning_tree.proofs.Renaming.{stand_before-renamed}
-use Rattle.meaning_tree.proofs.Runs.{run-rises}
 use Rattle.meaning_grammar.specs.Sorts.{ATree}
 use Rattle.meaning_derivation.specs.Values.{TreeValue, sorts_of}
 use Rattle.meaning_derivation.specs.Values as values
@@ -32,7 +31,7 @@ only_value names trees (Tree handle ∷ []) is = (handle, refl)
 only_value names trees (Tree handle ∷ other ∷ rest) is = absurd (cc is)
 
 module _ (names : List (List ℕ)) (list : NodeList NameId) (stack : List Value) (first : list.first ≡ 0) (laid : AreStacked list stack list.first (end_of list))
-  (alone : sorts_of (values_of names list stack) ≡ ATree ∷ []) where
+    (alone : sorts_of (values_of names list stack) ≡ ATree ∷ []) where
   root : (handle : ℕ) × (stack ≡ Tree handle ∷ [])
   root =
       let found = only_value names (spelled_trees names list) (reverse stack) alone in
@@ -51,8 +50,7 @@ module _ (names : List (List ℕ)) (list : NodeList NameId) (stack : List Value)
       let last = whole.1 in
       let here : root.0 ≡ end_of (spelled names list) - 1 = omega (arith, last, same) in
       let below : root.0 < length (map (renamed_node names_of) list.nodes) = omega (arith, last, same, first) in
-      let shown : tree_at (spelled_trees names list) root.0 ≡ tree = tree_shown tree is in
-      (
+      let shown : tree_at (spelled_trees names list) root.0 ≡ tree = tree_shown tree is in (
         omega (arith, below),
         subst (λ (handle : ℕ). StandsFor (spelled names list) handle tree) here
             (subst (λ (one : SyntaxTree). StandsFor (spelled names list) root.0 one) shown

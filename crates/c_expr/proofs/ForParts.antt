@@ -1,17 +1,16 @@
 -- What `for` has and what it leaves out.
-use Rattle.std.proofs.Common.{◌≡◌, ℕ, true, false, List, [], ◌∷◌, take, is_some, IsSome, refl, ap}
-use Rattle.std.specs.List.{list_all}
+use Rattle.std.proofs.Common.{◌≡◌, ℕ, true, false, List, is_some, IsSome, refl}
 use Rattle.vocabulary.specs.declared.action.Action.TheVariants.{MakeForPart}
 use Rattle.vocabulary.specs.declared.node_kind.NodeKind.TheVariants as kinds
 use Rattle.vocabulary.specs.declared.production_item.ProductionItem.TheVariants.{Do}
 use Rattle.meaning_tree.specs.Trees.{Parts, NoParts, Part}
-use Rattle.meaning_grammar.specs.Sorts.{Sort, AWord, AList, effect}
-use Rattle.meaning_derivation.specs.Values.{Value, sort_of, sorts_of, token_of, plain_tree}
+use Rattle.meaning_grammar.specs.Sorts.{effect}
+use Rattle.meaning_derivation.specs.Values.{Value, sorts_of, token_of, plain_tree}
 use Rattle.meaning_derivation.specs.State.{State, Goes, made}
 use Rattle.meaning_derivation.specs.Lists.{part_of_for}
-use Rattle.parse_state.specs.Lying.{is_word_sort, AreWords}
+use Rattle.parse_state.specs.Lying.{AreWords}
 use Rattle.parse_state.specs.Looking.{only_tree, with_only}
-use Rattle.parse_state.proofs.Fitting.{fit}
+use Rattle.parse_state.proofs.Fitting.{fit, word_on_list}
 
 pub kept : (s : State) (parts : Parts (List ℕ)) (word : Value) → true ≡ is_some (only_tree parts) → part_of_for s parts word ≡ Goes (with_only s 1 (only_tree parts))
 kept s NoParts word is = absurd (cc is)
@@ -29,12 +28,6 @@ same s NoParts is = refl
 same s (Part role tree NoParts) is = absurd (cc is)
 same s (Part role tree (Part next other parts)) is = refl
 
-word_first : (values : List Value) → take 2 (sorts_of values) ≡ AWord ∷ AList ∷ [] → AreWords values 1
-word_first [] is = absurd (cc is)
-word_first (value ∷ []) is = absurd (cc is)
-word_first (value ∷ other ∷ values) is =
-    let top : sort_of value ≡ AWord = cc is in ap (λ (sort : Sort). list_all is_word_sort (sort ∷ [])) top
-
 -- what stands above the list is a word
 pub word_above : (values : List Value) → IsSome (effect (Do MakeForPart) (sorts_of values)) → AreWords values 1
-word_above values finds = word_first values (fit MakeForPart values finds)
+word_above values finds = word_on_list values (fit MakeForPart values finds)

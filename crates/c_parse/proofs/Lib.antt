@@ -8,3 +8,4 @@ pub mod Unended
 pub mod Running
 pub mod Waiting
 pub mod Moving
+pub mod Finishing

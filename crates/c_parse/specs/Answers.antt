@@ -1,12 +1,11 @@
 -- What a parse answers.
-use Rattle.std.specs.Prelude.{◌≡◌, List, [], ◌∷◌}
+use Rattle.std.specs.Prelude.{ℕ, List}
 use Rattle.meaning_text.specs.Tokens.{Tok}
 use Rattle.meaning_tree.specs.Trees.{SyntaxTree}
-use Rattle.meaning_derivation.specs.Values.{TreeValue}
+use Rattle.meaning_tree.specs.Nodes.{NodeList, IsTreeOf}
 use Rattle.meaning_derivation.specs.State.{IsError, PassesLimit}
 use Rattle.meaning_derivation.specs.Actions.{act}
 use Rattle.meaning_derivation.specs.Units.{DerivesTree, IsRefused}
-use Rattle.parse_state.specs.Seen.{Read, state_of}
 use Rattle.c_parse.specs.declared.fault.ParseFault.{ParseFault}
 use Rattle.c_parse.specs.declared.fault.ParseFault.TheVariants.{Refused, Limit, Memory}
 
@@ -16,6 +15,6 @@ IsFaultOf tokens (Refused kind token) = IsRefused act tokens (IsError kind) toke
 IsFaultOf tokens (Limit limit token) = IsRefused act tokens (PassesLimit limit) token
 IsFaultOf tokens Memory = Unit {0}
 
--- the tokens derive the tree that is left
-abbrev pub IsReadOf : List Tok → Read → Type 0
-IsReadOf tokens read = (tree : SyntaxTree) × ((state_of read).values ≡ TreeValue tree ∷ []) × DerivesTree act tokens tree
+-- the tokens derive the tree that these nodes stand for
+abbrev pub DerivesUnit : List Tok → NodeList (List ℕ) → Type 0
+DerivesUnit tokens list = (tree : SyntaxTree) × IsTreeOf list tree × DerivesTree act tokens tree

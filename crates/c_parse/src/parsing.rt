@@ -5,13 +5,16 @@ ghost use Rattle.meaning_derivation.specs.Leading.{ComesTo, LeadsTo};
 ghost use Rattle.meaning_derivation.specs.State.{Done};
 ghost use Rattle.meaning_derivation.specs.Units.{state_before};
 ghost use Rattle.meaning_derivation.specs.Values.{sorts_of};
+ghost use Rattle.meaning_tree.specs.Forms.{IsFormed};
+ghost use Rattle.meaning_tree.specs.Laid.{IsLaid};
 ghost use Rattle.meaning_grammar.specs.Productions.{start};
 ghost use Rattle.meaning_grammar.specs.Sorts.{ATree};
 ghost use Rattle.meaning_grammar.specs.Terminals.{terminals};
 ghost use Rattle.c_tokens.specs.Seen.{toks_of};
 ghost use Rattle.c_terminals.specs.Left.{AreKnown};
+ghost use Rattle.parse_state.specs.Finished.{HasKnownNames, spelled};
 ghost use Rattle.parse_state.specs.Seen.{state_of};
-ghost use Rattle.c_parse.specs.Answers.{IsFaultOf, IsReadOf};
+ghost use Rattle.c_parse.specs.Answers.{IsFaultOf, DerivesUnit};
 ghost use Rattle.c_parse.specs.Moments.{IsReady, standing_with};
 ghost use Rattle.c_parse.specs.Steps.{before_end};
 ghost use Rattle.c_parse.specs.Telling.{IsTold};
@@ -24,6 +27,7 @@ use crate::stepping::step;
 use crate::taking::{take, token_before};
 use c_terminals::Terminals;
 use c_tokens::{Names, Token};
+use c_tree::Unit;
 use parse_state::ParseState;
 use std::alloc::{AllocError, Global};
 use vocabulary::{Action, ProductionItem, Symbol, TokenClass};
@@ -94,23 +98,23 @@ fn end(parser: &mut Parser<'_>) -> Result<(), ParseFault>
     Ok(())
 }
 
-/// What was read of a unit behind its last token: the only value that is left is the tree that its tokens derive.
+/// The tree of a unit, as nodes with their names in the table: that which its tokens derive.
 ///
 /// # Errors
 /// `Refused` with what is told first of the tokens and the token at which it stands, and `Limit` with the limit that is passed
 /// first.
-pub fn parse<'t>(
-    alloc: Global,
-    names: &'t Names,
-    tokens: &'t [Token],
-) -> Result<ParseState<'t>, ParseFault>
+pub fn parse(alloc: Global, names: &Names, tokens: &[Token]) -> Result<Unit, ParseFault>
     requires { AreKnown names.now tokens.now }
-    ensures tree { IfOk result (λ read. IsReadOf (toks_of names.now tokens.now) read) }
-    ensures names { IfOk result (λ read. read.names ≡ names.now) }
+    ensures tree { IfOk result (λ unit. DerivesUnit (toks_of names.now tokens.now) (spelled names.now unit)) }
+    ensures first { IfOk result (λ unit. unit.first ≡ 0) }
+    ensures laid { IfOk result (λ unit. IsLaid unit) }
+    ensures formed { IfOk result (λ unit. IsFormed unit) }
+    ensures names { IfOk result (HasKnownNames names.now) }
     ensures fault { IfErr result (IsFaultOf (toks_of names.now tokens.now)) }
 {
     let mut parser = begin(alloc, names, tokens)?;
     run(&mut parser)?;
     end(&mut parser)?;
-    Ok(parser.state)
+    let Parser { state, .. } = parser;
+    Ok(state.into_unit())
 }

@@ -2,14 +2,13 @@
 use Rattle.std.proofs.Common.{◌≡◌, ℕ, ◌+◌, ◌-◌, ◌<◌, List, [], ◌∷◌, map, reverse, length, refl, sym, ap, subst, ◌∙◌, arith}
 use Rattle.std.proofs.lemmas.List.{length-map, reverse-reverse}
 use Rattle.meaning_tree.specs.Trees.{SyntaxTree}
-use Rattle.meaning_tree.specs.Nodes.{NodeList, end_of, HasNode, ChildrenStandBefore, StandsFor, IsTreeOf}
+use Rattle.meaning_tree.specs.Nodes.{NodeList, end_of, ChildrenStandBefore, StandsFor}
 use Rattle.meaning_tree.specs.Listed.{renamed_node, tree_at}
 use Rattle.meaning_tree.specs.Laid.{IsLaid}
 use Rattle.meaning_tree.specs.Runs.{IsRun}
 use Rattle.meaning_tree.proofs.ListedStand.{listed_stand}
 use Rattle.meaning_tree.proofs.Lying.{run_is_laid}
 use Rattle.meaning_tree.proofs.Renaming.{stand_before-renamed}
-use Rattle.meaning_tree.proofs.Runs.{run-rises}
 use Rattle.meaning_grammar.specs.Sorts.{ATree}
 use Rattle.meaning_derivation.specs.Values.{TreeValue, sorts_of}
 use Rattle.meaning_derivation.specs.Values as values

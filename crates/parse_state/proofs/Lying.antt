@@ -1,15 +1,13 @@
 -- Values go on lying one behind the other.
 use Rattle.std.proofs.Common.{◌≡◌, ℕ, zero, suc, ◌+◌, ◌-◌, true, List, [], ◌∷◌, ◌++◌, map, reverse, take, drop, length, slice_get, Option, Some, None, refl, sym, ap, subst, ◌∙◌, arith}
 use Rattle.std.specs.List.{list_all}
-use Rattle.std.proofs.lemmas.Bool.{and_parts}
-use Rattle.std.proofs.lemmas.List.{take-append-drop, reverse-append, reverse-reverse}
+use Rattle.std.proofs.lemmas.List.{take-append-drop, reverse-reverse}
 use Rattle.std.proofs.lemmas.Option.{same_Some}
 use Rattle.meaning_tree.specs.Trees.{SyntaxTree}
 use Rattle.meaning_tree.specs.Nodes.{TreeNode, NodeList, end_of, Grows, with_node}
 use Rattle.meaning_tree.specs.Runs.{IsRun, AreRuns, no_runs, last_run}
 use Rattle.meaning_tree.proofs.Finding.{Grows-added, end_of-added}
 use Rattle.meaning_tree.proofs.Runs.{run-stays, runs-stay, run-added, run-alone, runs-before, runs-behind, runs-reversed}
-use Rattle.meaning_grammar.specs.Sorts.{Sort}
 use Rattle.meaning_derivation.specs.Values.{sort_of, sorts_of}
 use Rattle.meaning_derivation.specs.Values as values
 use Rattle.sparse_model.specs.declared.ids.NameId.{NameId}
@@ -20,7 +18,7 @@ use Rattle.parse_state.specs.declared.value.Value.TheVariants as kinds
 use Rattle.parse_state.specs.declared.shape.Source.{Source}
 use Rattle.parse_state.specs.Giving.{first_role, left_behind, children_in}
 use Rattle.parse_state.specs.Lying.{AreStacked, is_word_sort, AreWords}
-use Rattle.parse_state.specs.OnlyTrees.{only_child, only_in}
+use Rattle.parse_state.specs.OnlyTrees.{only_in}
 use Rattle.parse_state.specs.Seen.{value_of, values_of, spelled_trees}
 use Rattle.parse_state.proofs.Covering.{last_sorts}
 use Rattle.parse_state.proofs.Stacks.{all-reverse, last_ones, reverse-snoc}
@@ -82,14 +80,14 @@ module _ (list : NodeList NameId) where
   stacked-parted (kinds.List children ∷ values) back first end stacked =
       let rest = stacked-parted values back stacked.0 end stacked.2 in (rest.0, (stacked.0, stacked.1, rest.1), rest.2)
 
-  pub stacked-halves : (values : List Value) (count first end : ℕ) → AreStacked list values first end
+  stacked-halves : (values : List Value) (count first end : ℕ) → AreStacked list values first end
       → (middle : ℕ) × AreStacked list (take count values) first middle × AreStacked list (drop count values) middle end
   stacked-halves values count first end stacked =
       stacked-parted (take count values) (drop count values) first end
       (subst (λ (all : List Value). AreStacked list all first end) (sym (take-append-drop count values)) stacked)
 
   -- what values give has runs where they have
-  pub children-stacked : (values : List Value) (sources : List Source) (first end : ℕ) → AreStacked list values first end → AreRuns list (children_in values sources) first end
+  children-stacked : (values : List Value) (sources : List Source) (first end : ℕ) → AreStacked list values first end → AreRuns list (children_in values sources) first end
   children-stacked [] sources first end stacked = subst (λ (last : ℕ). AreRuns list [] first last) stacked no_runs
   children-stacked (Word token name ∷ values) sources first end stacked = children-stacked values sources first end stacked
   children-stacked (Tree handle ∷ values) sources first end stacked =
@@ -167,7 +165,7 @@ module _ (list : NodeList NameId) where
 
 -- values lie as they did where nodes are added
 module _ (before after : NodeList NameId) (grows : Grows before after) where
-  pub stacked-stays : (values : List Value) (first end : ℕ) → AreStacked before values first end → AreStacked after values first end
+  stacked-stays : (values : List Value) (first end : ℕ) → AreStacked before values first end → AreStacked after values first end
   stacked-stays [] first end stacked = stacked
   stacked-stays (Word token name ∷ values) first end stacked = stacked-stays values first end stacked
   stacked-stays (Tree handle ∷ values) first end stacked = (run-stays before after grows stacked.0, stacked-stays values (handle + 1) end stacked.1)

@@ -1,11 +1,9 @@
 -- The tree of the list stands in its place.
-use Rattle.std.proofs.Common.{◌≡◌, ◌+◌, List, length, map, reverse, slice_get, take, Some, None, is_some, refl, sym, ap, subst, ◌∙◌}
+use Rattle.std.proofs.Common.{◌≡◌, List, map, reverse, slice_get, Some, None, is_some, sym, ap, subst, ◌∙◌}
 use Rattle.meaning_derivation.specs.Values.{parts_of, value_at}
 use Rattle.parse_state.specs.declared.value.Value.{Value}
-use Rattle.parse_state.specs.declared.value.Value.TheVariants.{Tree}
 use Rattle.parse_state.specs.Looking.{only_tree, with_only}
 use Rattle.parse_state.specs.OnlyTrees.{only_in}
-use Rattle.parse_state.specs.Making.{start_of}
 use Rattle.parse_state.specs.Seen.{Read, closed_seen, state_of}
 use Rattle.parse_state.specs.Lying.{AreWords}
 use Rattle.parse_state.specs.Soundness.{IsSound}

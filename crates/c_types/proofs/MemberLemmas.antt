@@ -12,7 +12,7 @@ use Rattle.meaning_layout.specs.Bodies.{LayoutMember}
 use Rattle.meaning_layout.specs.Layouts.{Layout, LayoutFault, TooLarge, most_bytes}
 use Rattle.meaning_layout.specs.Sizes.{Extent, Told, array_extent, bytes_of, extent_of, extent_of_base, member_extent, told_extent}
 use Rattle.meaning_layout.specs.Layouts.{layout_of}
-use Rattle.meaning_layout.specs.Telling.{and_then, field_width}
+use Rattle.meaning_layout.specs.Telling.{member_before, field_width}
 use Rattle.body_layout.specs.declared.member.PlacedMember.{PlacedMember}
 use Rattle.body_layout.specs.declared.structure.BodyLayout.{BodyLayout}
 use Rattle.body_layout.specs.declared.union.Extent as code
@@ -23,6 +23,7 @@ use Rattle.c_types.specs.declared.form.Form.{Form}
 use Rattle.c_types.specs.declared.form.Form.TheVariants as forms
 use Rattle.c_types.specs.declared.form.Shape.{Shape}
 use Rattle.c_types.specs.declared.layouts.AggregateLayout.{AggregateLayout}
+use Rattle.c_types.specs.declared.layouts.LayoutFault as told_faults
 use Rattle.c_types.specs.declared.layouts.LayoutFault.TheVariants as faults
 use Rattle.c_types.specs.Forms.{open_element_in}
 use Rattle.c_types.specs.Layouts.{AreNarrow, IsNarrowLayout, layout_kept, open_element_of, placed_before, structure_kept, union_kept}
@@ -190,7 +191,7 @@ pub before-none : (members : Result (List LayoutMember) LayoutFault) → members
 before-none (Err fault) = refl
 before-none (Ok members) = refl
 
-pub before-more : (placed : List PlacedMember) (one : PlacedMember) (rest : Result (List LayoutMember) LayoutFault) → placed_before placed (and_then (Ok (member_seen one)) rest) ≡ placed_before (placed ++ one ∷ []) rest
+pub before-more : (placed : List PlacedMember) (one : PlacedMember) (rest : Result (List LayoutMember) LayoutFault) → placed_before placed (member_before (Ok (member_seen one)) rest) ≡ placed_before (placed ++ one ∷ []) rest
 before-more placed one (Err fault) = refl
 before-more placed one (Ok others) =
     ap Ok (sym (append_assoc (map member_seen placed) (member_seen one ∷ []) others)) ∙ ap (λ front. Ok (front ++ others)) (sym (map-append member_seen placed (one ∷ [])))
@@ -227,7 +228,7 @@ both-narrow packed written members made are some few structure union = λ is_uni
     by true = ok_from (layout_kept made true) (λ layout. IsNarrow layout.size layout.align) (λ layout is. union-narrow packed written members are some few layout (sym union ∙ is))
     by false = ok_from (layout_kept made false) (λ layout. IsNarrow layout.size layout.align) (λ layout is. structure-narrow packed written members are some few layout (sym structure ∙ is))
 
-pub faulty-narrow : (fault : Rattle.c_types.specs.declared.layouts.LayoutFault.LayoutFault) (count : ℕ) → IsNarrowLayout (record { structure = Err fault; union = Err fault; count = count })
+pub faulty-narrow : (fault : told_faults.LayoutFault) (count : ℕ) → IsNarrowLayout (record { structure = Err fault; union = Err fault; count = count })
 faulty-narrow fault count = λ is_union. by is_union
   where
     by : (is_union : Bool) → IfOk (layout_kept (record { structure = Err fault; union = Err fault; count = count }) is_union) (λ layout. IsNarrow layout.size layout.align)

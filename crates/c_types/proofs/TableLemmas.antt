@@ -14,9 +14,9 @@ use Rattle.c_types.specs.declared.form.Marking.{Marking}
 use Rattle.c_types.specs.Rows.{Row, types_of, AreRows, Grows}
 use Rattle.c_types.specs.Levels.{AreMarkings}
 use Rattle.c_types.specs.declared.layouts.AggregateLayout.{AggregateLayout}
-use Rattle.c_types.specs.Layouts.{AreNarrow, told_kept, told_of}
+use Rattle.c_types.specs.Layouts.{AreNarrow, told_in, told_kept, told_of_bodies}
 use Rattle.c_types.specs.Kept.{IsKept}
-use Rattle.c_types.proofs.LayoutLemmas.{told_of-later}
+use Rattle.c_types.proofs.LayoutLemmas.{told_of_bodies-later}
 use Rattle.c_types.specs.Table.{TypeTable, Extends, IsBodyOver, is_named, plain_integers, with_name}
 use Rattle.c_types.proofs.Integers.{integers-stand}
 use Rattle.c_types.proofs.RowLemmas.{types_of-Grows, stands-Grows}
@@ -55,13 +55,13 @@ kept-Grows old new markings others bodies layouts kept grows are marked =
       rows_right = are;
       markings_right = marked;
       bodies_known = bodies-later old new (omega (arith, ap length more.1, length-append (types_of old) more.0)) bodies kept.bodies_known;
-      layouts_right = kept.layouts_right ∙ sym (ap (λ types. told_of types bodies) more.1 ∙ told_of-later (types_of old) more.0 bodies kept.bodies_known);
+      layouts_right = kept.layouts_right ∙ sym (ap (λ types. told_of_bodies types bodies) more.1 ∙ told_of_bodies-later (types_of old) more.0 bodies kept.bodies_known);
       layouts_narrow = kept.layouts_narrow;
       integers_stand = λ kind. stands-Grows old new grows _ _ (kept.integers_stand kind);
     }
 
 pub kept-body : (rows : List Row) (markings : List (Marking × ℕ)) (bodies : List (ℕ × AggregateBody)) (layouts others : List (ℕ × AggregateLayout)) (aggregate : ℕ) (body : AggregateBody)
-    → IsKept rows markings bodies layouts → IsBodyOver (types_of rows) body → told_kept others ≡ told_of (types_of rows) (bodies ++ (aggregate, body) ∷ []) → AreNarrow (told_kept others)
+    → IsKept rows markings bodies layouts → IsBodyOver (types_of rows) body → told_kept others ≡ told_of_bodies (types_of rows) (bodies ++ (aggregate, body) ∷ []) → AreNarrow (told_kept others)
     → IsKept rows markings (bodies ++ (aggregate, body) ∷ []) others
 kept-body rows markings bodies layouts others aggregate body kept over right narrow =
     record {
@@ -93,6 +93,11 @@ module _ (old new : List Row) (bodies : List (ℕ × AggregateBody)) (names : Li
   pub table-extends : Grows old new → Extends table grown
   table-extends grows =
       subst (λ t. Extends t grown) is (record { types = types_of-Grows old new grows; bodies = ([], sym (append-nil bodies)); names = ([], sym (append-nil names)) })
+
+  pub table-told : Grows old new → AllByRecursion (λ entry. IsBodyOver (types_of old) entry.1) bodies → told_in grown ≡ told_in table
+  table-told grows known =
+      let more = types_of-Grows old new grows in
+      ap (λ types. told_of_bodies types bodies) more.1 ∙ told_of_bodies-later (types_of old) more.0 bodies known ∙ ap told_in is
 
 -- Names
 

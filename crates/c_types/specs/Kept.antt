@@ -6,7 +6,7 @@ use Rattle.meaning_types.specs.Equality.{kind_number}
 use Rattle.c_types.specs.declared.bodies.AggregateBody.{AggregateBody}
 use Rattle.c_types.specs.declared.form.Marking.{Marking}
 use Rattle.c_types.specs.declared.layouts.AggregateLayout.{AggregateLayout}
-use Rattle.c_types.specs.Layouts.{AreNarrow, told_kept, told_of}
+use Rattle.c_types.specs.Layouts.{AreNarrow, told_kept, told_of_bodies}
 use Rattle.c_types.specs.Levels.{AreMarkings}
 use Rattle.c_types.specs.Rows.{Row, AreRows, types_of}
 use Rattle.c_types.specs.Table.{IsBodyOver, plain_integer}
@@ -17,6 +17,6 @@ pub record IsKept (rows : List Row) (markings : List (Marking × ℕ)) (bodies :
   pub rows_right : AreRows rows
   pub markings_right : AreMarkings rows markings
   pub bodies_known : AllByRecursion (λ entry. IsBodyOver (types_of rows) entry.1) bodies
-  pub layouts_right : told_kept layouts ≡ told_of (types_of rows) bodies
+  pub layouts_right : told_kept layouts ≡ told_of_bodies (types_of rows) bodies
   pub layouts_narrow : AreNarrow (told_kept layouts)
   pub integers_stand : (kind : IntKind) → slice_get (types_of rows) (kind_number kind) ≡ Some (plain_integer kind)

@@ -7,7 +7,7 @@ use Rattle.meaning_layout.specs.Bodies.{LayoutMember}
 use Rattle.meaning_layout.specs.Layouts.{Layout}
 use Rattle.meaning_layout.specs.Layouts as meaning
 use Rattle.meaning_layout.specs.Sizes as sizes
-use Rattle.meaning_layout.specs.Telling.{ToldBody, ToldMember, field_width, nothing_told, told_by}
+use Rattle.meaning_layout.specs.Telling.{ToldBody, ToldMember, field_width, nothing_told, told_in_order}
 use Rattle.body_layout.specs.declared.member.PlacedMember.{PlacedMember}
 use Rattle.body_layout.specs.declared.structure.BodyLayout.{BodyLayout}
 use Rattle.body_layout.specs.declared.union.Extent.{Extent}
@@ -34,12 +34,12 @@ abbrev pub body_told : List TypeTree → ℕ × AggregateBody → ℕ × ToldBod
 body_told types entry = (entry.0, body_seen types entry.1)
 
 -- what the bodies told, in their order
-abbrev pub told_of : List TypeTree → List (ℕ × AggregateBody) → sizes.Told
-told_of types bodies = told_by nothing_told (map (body_told types) bodies)
+abbrev pub told_of_bodies : List TypeTree → List (ℕ × AggregateBody) → sizes.Told
+told_of_bodies types bodies = told_in_order nothing_told (map (body_told types) bodies)
 
 -- the layouts of a table's aggregates
 abbrev pub told_in : TypeTable → sizes.Told
-told_in table = told_of (types_in table) table.bodies
+told_in table = told_of_bodies (types_in table) table.bodies
 
 -- Questions
 

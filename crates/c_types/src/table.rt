@@ -5,8 +5,8 @@ ghost use Rattle.meaning_types.specs.Equality.{are_equal_flags, are_same};
 ghost use Rattle.meaning_types.specs.Composite.{composite};
 ghost use Rattle.meaning_operands.specs.Operands.{identity_of};
 ghost use Rattle.meaning_layout.specs.Sizes.{extent_of};
-ghost use Rattle.meaning_layout.specs.Telling.{or_incomplete};
-ghost use Rattle.c_types.specs.Layouts.{bit_in, bit_seen, extent_seen, told_in};
+ghost use Rattle.meaning_layout.specs.Telling.{or_incomplete, tell};
+ghost use Rattle.c_types.specs.Layouts.{bit_in, bit_seen, body_seen, extent_seen, told_in};
 ghost use Rattle.c_types.specs.Levels.{BeginsWith};
 ghost use Rattle.c_types.specs.Operands.{identity_seen};
 ghost use Rattle.c_types.specs.Outlines.{outline_of};
@@ -79,6 +79,7 @@ impl Types {
         ensures stands { IfOk result (λ id. slice_get (types_in self.new) id.0 ≡ Some (type_of_shape self.old shape)) }
         ensures keeps { OnOk result (Extends self.old self.new) }
         ensures tells { OnOk result (TellsNoMore self.old self.new) }
+        ensures layouts { OnOk result (told_in self.new ≡ told_in self.old) }
         ensures err { OnErr result (self.new ≡ self.old) }
     {
         let marks = marks_of(&shape);
@@ -239,6 +240,7 @@ impl Types {
         ensures known { IfOk result (λ found. IfSome found (IsTypeId self.new)) }
         ensures keeps { OnOk result (Extends self.old self.new) }
         ensures tells { OnOk result (TellsNoMore self.old self.new) }
+        ensures layouts { OnOk result (told_in self.new ≡ told_in self.old) }
         ensures err { OnErr result (self.new ≡ self.old) }
     {
         match self.maker.rows.make_composite(a.0, b.0)? {
@@ -262,6 +264,7 @@ impl Types {
         requires untold { body_in self.old aggregate ≡ None }
         requires known { IsBodyOver (types_in self.old) body }
         ensures told { OnOk result (self.new ≡ record { rows = self.old.rows; bodies = self.old.bodies ++ (aggregate, body) ∷ []; names = self.old.names }) }
+        ensures layouts { OnOk result (told_in self.new ≡ tell (told_in self.old) aggregate (body_seen (types_in self.old) body)) }
         ensures err { OnErr result (self.new ≡ self.old) }
     {
         let layout = self

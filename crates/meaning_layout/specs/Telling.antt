@@ -43,24 +43,24 @@ abbrev pub placed_member : Told → ToldMember → Result LayoutMember LayoutFau
 placed_member told member = placed_with member (member_extent told member.of)
 
 -- a member and the ones behind it, or the first reason that one has no size
-abbrev pub and_then : Result LayoutMember LayoutFault → Result (List LayoutMember) LayoutFault → Result (List LayoutMember) LayoutFault
-and_then (Err fault) members = Err fault
-and_then (Ok member) (Err fault) = Err fault
-and_then (Ok member) (Ok members) = Ok (member ∷ members)
+abbrev pub member_before : Result LayoutMember LayoutFault → Result (List LayoutMember) LayoutFault → Result (List LayoutMember) LayoutFault
+member_before (Err fault) members = Err fault
+member_before (Ok member) (Err fault) = Err fault
+member_before (Ok member) (Ok members) = Ok (member ∷ members)
 
 abbrev pub placed_members : Told → List ToldMember → Result (List LayoutMember) LayoutFault
 placed_members told [] = Ok []
-placed_members told (member ∷ members) = and_then (placed_member told member) (placed_members told members)
+placed_members told (member ∷ members) = member_before (placed_member told member) (placed_members told members)
 
 -- the layout of a body whose members take this
-abbrev pub layout_with : ToldBody → (is_union : Bool) → Result (List LayoutMember) LayoutFault → Result Layout LayoutFault
-layout_with body is_union (Err fault) = Err fault
-layout_with body is_union (Ok members) =
+abbrev pub layout_by_members : ToldBody → (is_union : Bool) → Result (List LayoutMember) LayoutFault → Result Layout LayoutFault
+layout_by_members body is_union (Err fault) = Err fault
+layout_by_members body is_union (Ok members) =
     layout_of (record { members = members; is_union = is_union; packed = body.packed; written = effective body.written })
 
 -- the layout of a body by those that were told before: where a member has no size, there is none for the same reason
 abbrev pub layout_told : Told → ToldBody → (is_union : Bool) → Result Layout LayoutFault
-layout_told told body is_union = layout_with body is_union (placed_members told body.members)
+layout_told told body is_union = layout_by_members body is_union (placed_members told body.members)
 
 -- Telling
 
@@ -79,9 +79,9 @@ tell told aggregate body number is_union =
     if number == aggregate then told_before (told number is_union) (layout_told told body is_union) else told number is_union
 
 -- aggregates by their numbers, in the order in which their bodies are told
-abbrev pub told_by : Told → List (ℕ × ToldBody) → Told
-told_by told [] = told
-told_by told (entry ∷ bodies) = told_by (tell told entry.0 entry.1) bodies
+abbrev pub told_in_order : Told → List (ℕ × ToldBody) → Told
+told_in_order told [] = told
+told_in_order told (entry ∷ bodies) = told_in_order (tell told entry.0 entry.1) bodies
 
 -- Questions
 

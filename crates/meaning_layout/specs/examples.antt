@@ -3,3 +3,4 @@ pub mod Layouts
 pub mod Sizes
 pub mod Asked
 pub mod Compared
+pub mod Telling

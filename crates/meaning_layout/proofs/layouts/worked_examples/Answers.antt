@@ -69,3 +69,18 @@ returns-clause-members c = record {
   fields_told = refl;
   flexible = refl;
 }
+
+pub returns-clause-telling : goal.returns-clause-telling
+returns-clause-telling c = record {
+  inner_first = refl;
+  outer_then = refl;
+  as_a_union = refl;
+  not_told = refl;
+  too_early = refl;
+  told_twice = refl;
+  first_reason = refl;
+  no_bit_field = refl;
+  offset = refl;
+  no_aggregate = refl;
+  field = refl;
+}

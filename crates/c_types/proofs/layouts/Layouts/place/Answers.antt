@@ -2,7 +2,7 @@
 use Rattle.std.proofs.Common.{[], All, length, map, sym, ap, ◌∙◌, subst}
 use Rattle.std.proofs.lemmas.List.{nil_from_length}
 use Rattle.std.proofs.lemmas.List.Elements.{All-from_recursion, All-push}
-use Rattle.meaning_layout.specs.Telling.{and_then, placed_members}
+use Rattle.meaning_layout.specs.Telling.{member_before, placed_members}
 use Rattle.body_layout.specs.Seen.{IsPlaced}
 use Rattle.c_types.specs.Layouts.{member_told, placed_before, told_kept}
 use Rattle.c_types.specs.Rows.{types_of}
@@ -28,7 +28,7 @@ returns-in-Err-clause-members c =
     let types = types_of c.args.rows.now.rows.entries in
     sym
     (c.members.invariant.members ∙ ap (λ members. placed_before c.members.placed.items (placed_members told (map (member_told types) members))) c.in-Some.ensures.cases.0
-    ∙ ap (λ one. placed_before c.members.placed.items (and_then one (placed_members told (map (member_told types) c.in-Some.others.now)))) (sym c.in-Err.ensures.member))
+    ∙ ap (λ one. placed_before c.members.placed.items (member_before one (placed_members told (map (member_told types) c.in-Some.others.now)))) (sym c.in-Err.ensures.member))
 
 pub members-preserved : goal.members-preserved
 members-preserved c =
@@ -38,7 +38,7 @@ members-preserved c =
     record {
       members =
           c.members.invariant.members ∙ ap (λ members. placed_before c.members.placed.items (placed_members told (map (member_told types) members))) c.in-Some.ensures.cases.0
-          ∙ ap (λ one. placed_before c.members.placed.items (and_then one rest)) (sym c.in-Ok.ensures.member) ∙ before-more c.members.placed.items c.in-Ok.one rest
+          ∙ ap (λ one. placed_before c.members.placed.items (member_before one rest)) (sym c.in-Ok.ensures.member) ∙ before-more c.members.placed.items c.in-Ok.one rest
           ∙ ap (λ items. placed_before items rest) (sym c.in_ok-push-in-Ok.ensures.items);
       placed = subst (All IsPlaced) (sym c.in_ok-push-in-Ok.ensures.items) (All-push IsPlaced c.members.placed.items c.in-Ok.one c.members.invariant.placed c.in-Ok.ensures.placed);
       known = rest-known (length types) c.members.rest.now c.in-Some.member.now c.in-Some.others.now c.in-Some.ensures.cases.0 c.members.invariant.known;

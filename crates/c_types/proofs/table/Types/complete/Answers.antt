@@ -4,9 +4,10 @@ use Rattle.std.specs.Map.{lookup}
 use Rattle.indexmap.specs.IndexMap.{insert_entry}
 use Rattle.indexmap.proofs.CallerLemmas.{insert_entry-new}
 use Rattle.c_types.specs.Kept.{IsKept}
+use Rattle.c_types.specs.Layouts.{told_in}
 use Rattle.c_types.specs.Rows.{types_of}
 use Rattle.c_types.specs.Table.{IsBodyOver, types_in}
-use Rattle.c_types.proofs.LayoutLemmas.{narrow-push, told_kept-push}
+use Rattle.c_types.proofs.LayoutLemmas.{narrow-push, told_kept-push, told_of_bodies-push}
 use Rattle.c_types.proofs.TableLemmas.{kept-body}
 use Rattle.c_types.proofs.table.Types.complete.Goals as goal
 
@@ -36,3 +37,6 @@ returns-clause-told c =
     let grown = c.in_ok-insert.ensures.entries ∙ insert_entry-new nat_eq c.self.inside.bodies c.args.aggregate c.args.body none in
     (λ i. record { rows = c.self.inside.maker.rows.rows.entries; bodies = grown i; names = c.self.inside.names.entries })
     ∙ ap (λ table. record { rows = table.rows; bodies = table.bodies ++ (c.args.aggregate, c.args.body) ∷ []; names = table.names }) c.self.view_is
+
+pub returns-clause-layouts : goal.returns-clause-layouts
+returns-clause-layouts c = ap told_in (returns-clause-told c) ∙ told_of_bodies-push (types_in c.args.self.now) c.args.self.now.bodies c.args.aggregate c.args.body

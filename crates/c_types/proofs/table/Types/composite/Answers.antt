@@ -1,5 +1,5 @@
 -- The rows grew, and nothing else.
-use Rattle.c_types.proofs.TableLemmas.{kept-Grows, table-extends}
+use Rattle.c_types.proofs.TableLemmas.{kept-Grows, table-extends, table-told}
 use Rattle.c_types.proofs.MarkingLemmas.{AreMarkings-Grows, on_ok}
 use Rattle.c_types.proofs.table.Types.composite.Goals as goal
 
@@ -14,3 +14,9 @@ returns-clause-keeps c =
     on_ok c.match-branch-2.result
     (table-extends c.self.inside.maker.rows.rows.entries c.make_composite.new.self.rows.entries c.self.inside.bodies.entries c.self.inside.names.entries c.args.self.now c.self.view_is
     c.make_composite.ensures.grows)
+
+pub returns-clause-layouts : goal.returns-clause-layouts
+returns-clause-layouts c =
+    on_ok c.match-branch-2.result
+    (table-told c.self.inside.maker.rows.rows.entries c.make_composite.new.self.rows.entries c.self.inside.bodies.entries c.self.inside.names.entries c.args.self.now c.self.view_is
+    c.make_composite.ensures.grows c.self.invariant.bodies_known)

@@ -1,5 +1,5 @@
 -- The rows grew, and nothing else.
-use Rattle.c_types.proofs.TableLemmas.{kept-Grows, table-extends}
+use Rattle.c_types.proofs.TableLemmas.{kept-Grows, table-extends, table-told}
 use Rattle.c_types.proofs.table.Types.make.Goals as goal
 
 pub invariant_of-self-2 : goal.invariant_of-self-2
@@ -11,3 +11,8 @@ pub returns-clause-keeps : goal.returns-clause-keeps
 returns-clause-keeps c =
     table-extends c.self.inside.maker.rows.rows.entries c.make_base.new.self.rows.rows.entries c.self.inside.bodies.entries c.self.inside.names.entries c.args.self.now c.self.view_is
     c.in_ok-number.ensures.grows
+
+pub returns-clause-layouts : goal.returns-clause-layouts
+returns-clause-layouts c =
+    table-told c.self.inside.maker.rows.rows.entries c.make_base.new.self.rows.rows.entries c.self.inside.bodies.entries c.self.inside.names.entries c.args.self.now c.self.view_is
+    c.in_ok-number.ensures.grows c.self.invariant.bodies_known

@@ -3,3 +3,8 @@ pub mod Deriving
 pub mod Sorting
 pub mod Shaping
 pub mod Stepping
+pub mod Reaching
+pub mod Taken
+pub mod Unended
+pub mod Finding
+pub mod Existence

@@ -23,7 +23,7 @@ use Rattle.c_parse.specs.declared.looks.Looks.{Looks}
 use Rattle.c_parse.specs.Steps.{AreLooks, before_end, standing}
 use Rattle.c_parse.specs.Telling.{IsTold, fault_seen}
 use Rattle.c_parse.specs.declared.fault.ParseFault.{ParseFault}
-use Rattle.c_parse.proofs.Sorting.{row_sorted}
+use Rattle.meaning_derivation.proofs.Finding.{row_sorted}
 use Rattle.c_parse.proofs.Told.{told_so}
 
 -- What waits is noted, and nothing else changes

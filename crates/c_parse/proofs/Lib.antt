@@ -1,10 +1,6 @@
-pub mod Reaching
-pub mod Sorting
 pub mod Told
 pub mod Noted
-pub mod Taken
 pub mod Expanded
-pub mod Unended
 pub mod Running
 pub mod Waiting
 pub mod Moving

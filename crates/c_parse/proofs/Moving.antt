@@ -15,16 +15,16 @@ use Rattle.meaning_derivation.specs.State.{State, Done, Goes, with_waiting}
 use Rattle.meaning_derivation.specs.Taking.{look_of, second_of, take_one}
 use Rattle.meaning_derivation.specs.Derivation.{symbols, is_terminal_item}
 use Rattle.meaning_derivation.specs.Actions.{act}
-use Rattle.meaning_derivation.specs.Leading.{LeadsTo}
+use Rattle.meaning_derivation.specs.Leading.{LeadsTo, is_no_end, is_usual}
 use Rattle.meaning_derivation.proofs.Stepping.{terminal_leads, action_leads}
 use Rattle.meaning_derivation.proofs.Sorting.{actions_lead_on}
 use Rattle.parse_state.specs.Seen.{state_of}
-use Rattle.c_parse.specs.Steps.{before_end, standing, is_no_end, IsSorted}
-use Rattle.c_parse.specs.Moments.{MayBeLooks, is_usual, IsReady, Moves, standing_with}
+use Rattle.c_parse.specs.Steps.{before_end, standing, IsSorted}
+use Rattle.c_parse.specs.Moments.{MayBeLooks, IsReady, Moves, standing_with}
 use Rattle.c_parse.specs.declared.looks.Looks.{Looks}
 use Rattle.c_parse.specs.declared.parser.Parser.{Parser}
-use Rattle.c_parse.proofs.Reaching.{chosen_is_usual, row_shortens}
-use Rattle.c_parse.proofs.Taken.{taken_sorted, taken_shortens, unended_behind}
+use Rattle.meaning_derivation.proofs.Reaching.{chosen_is_usual, row_shortens}
+use Rattle.meaning_derivation.proofs.Taken.{taken_sorted, taken_shortens, unended_behind}
 use Rattle.c_parse.proofs.Expanded.{expanded_leads, expanded_sorted, expanded_looks}
 
 none_looked : (s : State) (terminals : List Terminal) (looks : Option Looks) → looks ≡ None → MayBeLooks s terminals looks

@@ -59,14 +59,6 @@ told_of_unit tokens here (Refused kind token) is told = (told.0, subst (λ one. 
 told_of_unit tokens here (Limit limit token) is told = (told.0, subst (λ one. ComesTo act one (Fails (PassesLimit limit) told.0 token)) is told.1)
 told_of_unit tokens here Memory is told = tt
 
--- one tree is all that is left
-pub only_tree : (values : List Value) → sorts_of values ≡ ATree ∷ [] → (tree : SyntaxTree) × (values ≡ TreeValue tree ∷ [])
-only_tree [] is = absurd (cc is)
-only_tree (WordValue token text ∷ []) is = absurd (cc is)
-only_tree (TreeValue tree ∷ []) is = (tree, refl)
-only_tree (ListValue parts ∷ []) is = absurd (cc is)
-only_tree (value ∷ other ∷ values) is = absurd (cc is)
-
 pub tree_of_unit : (tokens : List Tok) (here : Standing) (last : State) (tree : SyntaxTree) → here ≡ first_standing tokens → ComesTo act here (Done last [])
     → last.values ≡ TreeValue tree ∷ [] → DerivesTree act tokens tree
 tree_of_unit tokens here last tree is comes values = (last, subst (λ one. ComesTo act one (Done last [])) is comes, values)

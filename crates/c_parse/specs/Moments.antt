@@ -1,19 +1,16 @@
 -- What holds between two steps, and what a step does.
-use Rattle.std.specs.Prelude.{◌≡◌, ◌<◌, ◌≤◌, ℕ, ◌+◌, ◌*◌, ◌^◌, Bool, true, not, List, length, Option, Some, None}
+use Rattle.std.specs.Prelude.{◌≡◌, ◌<◌, ◌≤◌, ℕ, ◌+◌, ◌*◌, ◌^◌, true, List, length, Option, Some, None}
 use Rattle.std.specs.List.{list_all}
-use Rattle.vocabulary.specs.declared.token_class.TokenClass.TheVariants.{End}
 use Rattle.vocabulary.specs.declared.production_item.ProductionItem.{ProductionItem}
-use Rattle.vocabulary.specs.declared.production_item.ProductionItem.TheVariants.{Token}
-use Rattle.meaning_grammar.specs.Classes.{is_same}
 use Rattle.meaning_grammar.specs.Terminals.{Terminal}
 use Rattle.meaning_grammar.specs.Weights.{live}
 use Rattle.meaning_derivation.specs.State.{State}
 use Rattle.meaning_derivation.specs.Actions.{act}
-use Rattle.meaning_derivation.specs.Leading.{Standing, LeadsTo}
+use Rattle.meaning_derivation.specs.Leading.{Standing, LeadsTo, is_no_end, is_usual}
 use Rattle.parse_state.specs.Seen.{state_of}
 use Rattle.c_parse.specs.declared.looks.Looks.{Looks}
 use Rattle.c_parse.specs.declared.parser.Parser.{Parser}
-use Rattle.c_parse.specs.Steps.{AreLooks, IsSorted, is_no_end, standing}
+use Rattle.c_parse.specs.Steps.{AreLooks, IsSorted, standing}
 
 abbrev pub MayBeLooks : State → List Terminal → Option Looks → Type 0
 MayBeLooks s terminals None = Unit {0}
@@ -22,11 +19,6 @@ MayBeLooks s terminals (Some looks) = AreLooks s terminals looks
 -- items before what a parser has left
 abbrev pub standing_with : List ProductionItem → Parser → Standing
 standing_with items parser = standing items (state_of parser.state) parser.terminals.terminals
-
--- no row keeps the end as a token
-abbrev pub is_usual : ProductionItem → Bool
-is_usual (Token class_) = not (is_same class_ End)
-is_usual item = true
 
 -- what holds where these items wait
 pub record IsReady (items : List ProductionItem) (parser : Parser) : Type 0 where

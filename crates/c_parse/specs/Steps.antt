@@ -1,11 +1,10 @@
 -- How what the parser holds is seen: items that wait before terminals, in a state.
-use Rattle.std.specs.Prelude.{◌≡◌, ℕ, Bool, not, List, [], ◌∷◌, ◌++◌, Option, Some, None}
+use Rattle.std.specs.Prelude.{◌≡◌, ℕ, List, [], ◌∷◌, ◌++◌, Option, Some, None}
 use Rattle.vocabulary.specs.declared.token_class.TokenClass.{TokenClass}
 use Rattle.vocabulary.specs.declared.token_class.TokenClass.TheVariants.{End}
 use Rattle.vocabulary.specs.declared.production_item.ProductionItem.{ProductionItem}
 use Rattle.vocabulary.specs.declared.production_item.ProductionItem.TheVariants.{Passed}
 use Rattle.meaning_scopes.specs.Scopes.{ScopeList}
-use Rattle.meaning_grammar.specs.Classes.{is_same}
 use Rattle.meaning_grammar.specs.Terminals.{Terminal}
 use Rattle.meaning_grammar.specs.Sorts.{ATree, effects}
 use Rattle.meaning_derivation.specs.Values.{sorts_of}
@@ -32,10 +31,6 @@ abbrev pub unless_noted : State → (otherwise : Outcome) → Outcome
 unless_noted s otherwise = behind_limit s.passed s.taken (unless_held s.held s.taken otherwise)
 
 -- Before each item
-
--- no terminal is the end
-abbrev pub is_no_end : Terminal → Bool
-is_no_end terminal = not (is_same End terminal.class_)
 
 -- the end of the unit waits behind all
 abbrev pub before_end : List ProductionItem → List ProductionItem

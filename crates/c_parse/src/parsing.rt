@@ -1,5 +1,5 @@
 // A unit from its first token to its end.
-ghost use Rattle.std.specs.Prelude.{◌≡◌, ◌-◌, ◌∷◌, [], IfErr, IfOk, OnOk};
+ghost use Rattle.std.specs.Prelude.{◌≡◌, ◌∷◌, [], IfErr, IfOk, OnOk};
 ghost use Rattle.meaning_derivation.specs.Actions.{act};
 ghost use Rattle.meaning_derivation.specs.Leading.{ComesTo, LeadsTo};
 ghost use Rattle.meaning_derivation.specs.State.{Done};
@@ -39,15 +39,14 @@ static UNIT: [ProductionItem; 3] = [
     ProductionItem::Do(Action::MakeTranslationUnit),
 ];
 
-// The index of the last of so many tokens, or 0.
-fn last_of(count: usize) -> Result<u32, AllocError>
-    ensures { IfOk result (λ last. last ≡ count - 1) }
+// The index behind so many tokens.
+fn index_behind(count: usize) -> Result<u32, AllocError>
+    ensures { IfOk result (λ index. index ≡ count) }
 {
-    let last = count.saturating_sub(1);
-    if last > u32::MAX as usize {
+    if count > u32::MAX as usize {
         return Err(AllocError);
     }
-    Ok(last as u32)
+    Ok(count as u32)
 }
 
 // Before the first token of a unit.
@@ -59,7 +58,7 @@ fn begin<'t>(alloc: Global, names: &'t Names, tokens: &'t [Token]) -> Result<Par
     ensures items { IfOk result (λ parser. before_end parser.pending ≡ start) }
     ensures names { IfOk result (λ parser. parser.state.names ≡ names.now) }
 {
-    let last = last_of(tokens.len())?;
+    let last = index_behind(tokens.len())?;
     let terminals = Terminals::new(alloc, names, tokens)?;
     let next = token_before(&terminals, last);
     Ok(Parser {
@@ -101,8 +100,8 @@ fn end(parser: &mut Parser<'_>) -> Result<(), ParseFault>
 /// The tree of a unit, as nodes with their names in the table: that which its tokens derive.
 ///
 /// # Errors
-/// `Refused` with what is told first of the tokens and the token at which it stands, and `Limit` with the limit that is passed
-/// first.
+/// `Refused` with what is told first of the tokens and the token at which it stands, or as many as there are where the file
+/// ends too early, and `Limit` with the limit that is passed first.
 pub fn parse(alloc: Global, names: &Names, tokens: &[Token]) -> Result<Unit, ParseFault>
     requires { AreKnown names.now tokens.now }
     ensures tree { IfOk result (λ unit. DerivesUnit (toks_of names.now tokens.now) (spelled names.now unit)) }

@@ -32,7 +32,7 @@ fn keep(
     }
 }
 
-/// The token of the next terminal, or the last one.
+/// The token of the next terminal, or what it is last.
 pub(crate) fn token_before(terminals: &Terminals<'_>, last: u32) -> u32
     ensures { result ≡ token_before last terminals.now.terminals }
 {

@@ -4,3 +4,8 @@ pub mod Sorting
 pub mod Shaping
 pub mod Stepping
 pub mod Storing
+pub mod Reaching
+pub mod Taken
+pub mod Unended
+pub mod Finding
+pub mod Existence

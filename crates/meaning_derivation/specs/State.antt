@@ -27,7 +27,7 @@ pub record ClosedList (N : Type 0) : Type 0 where
 pub record State : Type 0 where
   -- how many terminals were taken
   pub taken : ℕ
-  -- the token of the next terminal, or at the end the last token of the unit
+  -- the token of the next terminal, and what it is last: at the end, the index behind the unit's tokens
   pub next_token : ℕ
   pub last_token : ℕ
   -- the stack of values, its top first
@@ -47,12 +47,12 @@ pub record State : Type 0 where
   -- where the parameter list of a function begins whose body comes next
   pub awaited : Option ℕ
 
--- the token of the first of these terminals, or the last one
+-- the token of the first of these terminals, or what it is last
 abbrev pub token_before : (last_token : ℕ) → List Terminal → ℕ
 token_before last_token [] = last_token
 token_before last_token (terminal ∷ terminals) = terminal.index
 
--- before the first terminal of a unit with this last token
+-- before the first terminal of a unit whose end stands there
 abbrev pub state_at_start : (last_token : ℕ) → List Terminal → State
 state_at_start last_token terminals =
     record {

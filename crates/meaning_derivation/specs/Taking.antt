@@ -85,7 +85,7 @@ behind_limit None decided otherwise = otherwise
 behind_limit (Some passed) decided otherwise =
     if nat_lt passed.terminal decided then Fails (PassesLimit passed.limit) passed.terminal passed.terminal else otherwise
 
--- the item can't go on here; at the end that stands at the unit's last token
+-- the item can't go on here; at the end that stands behind the unit's last token
 abbrev pub refused_at : ProductionItem → State → List Terminal → Outcome
 refused_at item s terminals =
     behind_limit s.passed s.taken (Fails (IsError (fault_before item s terminals)) s.taken s.next_token)

@@ -1,14 +1,15 @@
 // What is proved of derivations, and the examples that hold of them.
-ghost use Rattle.meaning_derivation.specs.laws.Outcomes.{ItemsHaveOneOutcome, UnitsHaveOneOutcome, AnswersAreOutcomes};
+ghost use Rattle.meaning_derivation.specs.laws.Outcomes.{ItemsHaveOneOutcome, UnitsHaveOneOutcome, UnitsHaveAnOutcome, AnswersAreOutcomes};
 ghost use Rattle.meaning_derivation.specs.laws.Sorts.{ActionsAreSorted, ActionsLeadOn};
 ghost use Rattle.meaning_derivation.specs.laws.Shapes.{ShapesAreMade};
 ghost use Rattle.meaning_derivation.specs.laws.Storage.{ClassesHaveNumbers, SpecifiersHaveTheirClass};
 ghost use Rattle.meaning_derivation.specs.examples.Units.{TreeExamples, BodyExamples, BindExamples, ChainExamples, RefusalExamples};
 
-/// A list of tokens has one outcome at most, a tree or a refusal, whatever the actions do.
+/// A list of tokens has one outcome at most, whatever the actions do, and with those of C it has one: a tree or a refusal.
 pub fn each_unit_has_one_outcome()
     ensures items { ItemsHaveOneOutcome }
     ensures units { UnitsHaveOneOutcome }
+    ensures exist { UnitsHaveAnOutcome }
 {}
 
 /// What the plain program answers is the outcome.

@@ -93,7 +93,7 @@ impl<'t> ParseState<'t> {
         self.function_end
     }
 
-    /// The index of the last token of the unit.
+    /// What the token of the next terminal is last: the index behind the tokens of the unit.
     pub fn last_token(&self) -> u32
         ensures { result ≡ (state_of self.now).last_token }
     {

@@ -239,9 +239,9 @@ pub record RefusalExamples : Type 0 where
   -- what is wrong at the terminal that passes the limit goes before it, what is wrong behind that doesn't
   pub action_at_limit : waiting 65521 (terminals (tokens_of (codes "y;"))) ≡ IsTold (IsError NotDeclared) 0 0
   pub syntax_behind_limit : waiting 65521 (terminals (tokens_of (codes "(;"))) ≡ IsTold (PassesLimit ParseStack) 0 0
-  -- at the end of the file it stands at the last token, which the grammar needn't see
-  pub end : unit (codes "int x") ≡ IsTold (IsError SyntaxError) 2 1
-  pub behind_extension : unit (codes "int x __extension__") ≡ IsTold (IsError SyntaxError) 2 2
+  -- at the end of the file it stands behind the last token, which the grammar needn't see
+  pub end : unit (codes "int x") ≡ IsTold (IsError SyntaxError) 2 2
+  pub behind_extension : unit (codes "int x __extension__") ≡ IsTold (IsError SyntaxError) 2 3
   -- a name that isn't declared is told ahead of what can't follow it
   pub action_first : unit (codes "int x = y y") ≡ IsTold (IsError NotDeclared) 3 3
   -- and an unsupported word ahead of what could be wrong there

@@ -1,12 +1,14 @@
 -- What holds of derivations, whatever the actions do.
-use Rattle.std.specs.Prelude.{◌≡◌, ℕ, List, Some}
+use Rattle.std.specs.Prelude.{◌≡◌, ◌⊎◌, ℕ, List, Some}
 use Rattle.vocabulary.specs.declared.action.Action.{Action}
 use Rattle.vocabulary.specs.declared.production_item.ProductionItem.{ProductionItem}
 use Rattle.meaning_text.specs.Tokens.{Tok}
+use Rattle.meaning_tree.specs.Trees.{SyntaxTree}
 use Rattle.meaning_grammar.specs.Terminals.{Terminal}
-use Rattle.meaning_derivation.specs.State.{State, ActionOutcome, Outcome}
+use Rattle.meaning_derivation.specs.State.{State, Fault, ActionOutcome, Outcome}
 use Rattle.meaning_derivation.specs.Derivation.{DerivesAll}
-use Rattle.meaning_derivation.specs.Units.{HasOutcome}
+use Rattle.meaning_derivation.specs.Actions as actions
+use Rattle.meaning_derivation.specs.Units.{HasOutcome, DerivesTree, IsRefused}
 use Rattle.meaning_derivation.specs.plain.Deriving.{derived_outcome}
 
 -- items have at most one outcome, wherever they stand
@@ -19,6 +21,12 @@ ItemsHaveOneOutcome =
 abbrev pub UnitsHaveOneOutcome : Type 0
 UnitsHaveOneOutcome =
     (act : Action → State → ActionOutcome) (tokens : List Tok) (first second : Outcome) → HasOutcome act tokens first → HasOutcome act tokens second → first ≡ second
+
+-- With the actions of C there is one: the tokens of a unit derive a tree, or they are refused.
+abbrev pub UnitsHaveAnOutcome : Type 0
+UnitsHaveAnOutcome =
+    (tokens : List Tok)
+    → ((tree : SyntaxTree) × DerivesTree actions.act tokens tree) ⊎ ((fault : Fault) × (stands : ℕ) × IsRefused actions.act tokens fault stands)
 
 -- what the plain program answers is derived
 abbrev pub AnswersAreOutcomes : Type 0

@@ -1,13 +1,12 @@
 -- What holds before the first token.
 use Rattle.std.proofs.Common.{length, sym, ap, ◌∙◌, arith}
 use Rattle.std.specs.List.{list_all}
+use Rattle.meaning_derivation.specs.Leading.{is_no_end, is_usual}
 use Rattle.meaning_derivation.specs.State.{State}
 use Rattle.parse_state.specs.Seen.{state_of}
 use Rattle.c_tokens.specs.Seen.{toks_of}
-use Rattle.c_parse.specs.Moments.{is_usual}
-use Rattle.c_parse.specs.Steps.{is_no_end}
 use Rattle.c_parse.proofs.Running.{begins_sorted}
-use Rattle.c_parse.proofs.Unended.{terminals-no_end}
+use Rattle.meaning_derivation.proofs.Unended.{terminals-no_end}
 use Rattle.c_parse.proofs.parsing.begin.Goals as goal
 
 pub returns-clause-ready : goal.returns-clause-ready

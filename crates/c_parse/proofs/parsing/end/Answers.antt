@@ -13,9 +13,9 @@ use Rattle.meaning_derivation.proofs.Stepping.{terminal_leads, terminal_fails}
 use Rattle.parse_state.specs.Seen.{state_of}
 use Rattle.c_parse.specs.Moments.{standing_with}
 use Rattle.c_parse.specs.Telling.{IsTold}
-use Rattle.c_parse.proofs.Taken.{taken, taken_sorted, left_behind_end}
+use Rattle.meaning_derivation.proofs.Taken.{taken, taken_sorted, left_behind_end}
 use Rattle.c_parse.proofs.Told.{told_so, passed_on}
-use Rattle.c_parse.proofs.Unended.{end_left}
+use Rattle.meaning_derivation.proofs.Unended.{end_left}
 use Rattle.c_parse.proofs.parsing.end.Goals as goal
 
 pub returns-in_err-take-clause-told : goal.returns-in_err-take-clause-told

@@ -1,11 +1,12 @@
 -- What comes of the items comes of the tokens.
 use Rattle.std.proofs.Common.{[], ◌∙◌}
 use Rattle.meaning_derivation.specs.State.{Done}
+use Rattle.meaning_derivation.proofs.Existence.{only_tree}
 use Rattle.parse_state.specs.Seen.{state_of}
 use Rattle.c_tokens.specs.Seen.{toks_of}
 use Rattle.c_parse.specs.Answers.{IsFaultOf}
 use Rattle.c_parse.proofs.Told.{passed_on}
-use Rattle.c_parse.proofs.Running.{begins_first, told_on, told_of_unit, only_tree, tree_of_unit}
+use Rattle.c_parse.proofs.Running.{begins_first, told_on, told_of_unit, tree_of_unit}
 use Rattle.c_parse.proofs.Finishing.{is_unit, is_formed}
 use Rattle.c_parse.proofs.parsing.parse.Goals as goal
 

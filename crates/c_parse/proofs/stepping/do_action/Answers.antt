@@ -10,7 +10,7 @@ use Rattle.c_parse.specs.Moments.{standing_with}
 use Rattle.c_parse.specs.Telling.{IsTold}
 use Rattle.c_parse.proofs.Expanded.{action_told}
 use Rattle.c_parse.proofs.Moving.{act_moves}
-use Rattle.c_parse.proofs.Sorting.{action_fits}
+use Rattle.meaning_derivation.proofs.Finding.{action_fits}
 use Rattle.c_parse.proofs.stepping.do_action.Goals as goal
 
 pub act-requires : goal.act-requires

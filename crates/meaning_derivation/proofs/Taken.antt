@@ -1,5 +1,5 @@
 -- What is known where a terminal was taken.
-use Rattle.std.proofs.Common.{◌≡◌, ℕ, ◌+◌, ◌*◌, ◌^◌, ◌<◌, ◌≤◌, Bool, true, false, not, List, [], ◌∷◌, Option, Some, None, length, drop, refl, ap, subst, ◌∙◌, arith, if◌then◌else◌, nat_lt}
+use Rattle.std.proofs.Common.{◌≡◌, ℕ, ◌+◌, ◌*◌, ◌^◌, ◌<◌, ◌≤◌, Bool, true, false, not, List, [], ◌∷◌, Option, Some, None, length, drop, refl, sym, ap, subst, ◌∙◌, arith, if◌then◌else◌, nat_lt}
 use Rattle.std.specs.List.{list_all}
 use Rattle.std.proofs.lemmas.Bool.{and_parts}
 use Rattle.vocabulary.specs.declared.token_class.TokenClass.TheVariants.{End}
@@ -14,8 +14,8 @@ use Rattle.meaning_derivation.specs.Values.{Value, sorts_of}
 use Rattle.meaning_derivation.specs.State.{State, Passed as PassedLimit, Held, Outcome, Done, Fails}
 use Rattle.meaning_derivation.specs.Derivation.{is_terminal_item}
 use Rattle.meaning_derivation.specs.Taking.{look_of, behind_limit, unless_held, advanced, refused_at, take_one, kept}
-use Rattle.c_parse.specs.Moments.{is_usual}
-use Rattle.c_parse.proofs.Reaching.{live_is_bounded}
+use Rattle.meaning_derivation.specs.Leading.{is_usual}
+use Rattle.meaning_derivation.proofs.Reaching.{live_is_bounded}
 
 -- what goes on behind a limit or what is held is what was said
 
@@ -24,7 +24,7 @@ limit_if : (test : Bool) (first otherwise : Outcome) (next : State) (left : List
 limit_if true first otherwise next left never is = absurd (never is)
 limit_if false first otherwise next left never is = is
 
-limit_goes : (passed : Option PassedLimit) (decided : ℕ) (otherwise : Outcome) (next : State) (left : List Terminal)
+pub limit_goes : (passed : Option PassedLimit) (decided : ℕ) (otherwise : Outcome) (next : State) (left : List Terminal)
     → behind_limit passed decided otherwise ≡ Done next left → otherwise ≡ Done next left
 limit_goes None decided otherwise next left is = is
 limit_goes (Some passed) decided otherwise next left is = limit_if (nat_lt passed.terminal decided) _ otherwise next left (λ clash. cc clash) is
@@ -106,7 +106,7 @@ taken_sorted item items s next (terminal ∷ terminals) left all is usual goes h
 
 -- Weights
 
-live_at_end : (item : ProductionItem) (items : List ProductionItem) → is_terminal_item item ≡ true → is_usual item ≡ true → takes item End ≡ true
+pub live_at_end : (item : ProductionItem) (items : List ProductionItem) → is_terminal_item item ≡ true → is_usual item ≡ true → takes item End ≡ true
     → live (item ∷ items) ≡ 1 + live items
 live_at_end (Token class_) items is usual ends = absurd (not_both (is_same class_ End) usual ends)
 live_at_end (Passed class_) items is usual ends =
@@ -135,6 +135,10 @@ taken_shortens item items s next (terminal ∷ terminals) left is usual few goes
     omega (arith, bounded, few, ap length rest)
 
 -- What is left
+
+pub left_behind : (item : ProductionItem) (s next : State) (terminals left : List Terminal) → take_one item s terminals ≡ Done next left → left ≡ drop 1 terminals
+left_behind item s next [] left goes = sym (ap (left_or []) (taken item s next [] left goes).1)
+left_behind item s next (terminal ∷ terminals) left goes = sym (ap (left_or []) (taken item s next (terminal ∷ terminals) left goes).1)
 
 pub unended_behind : (p : Terminal → Bool) (terminals : List Terminal) → list_all p terminals ≡ true → list_all p (drop 1 terminals) ≡ true
 unended_behind p [] is = refl

@@ -15,7 +15,7 @@ use Rattle.meaning_grammar.specs.Choice.{choice}
 use Rattle.meaning_grammar.specs.Weights.{can_be_empty, symbol_weight, weight, is_nullable, live, all_nullable, Falls}
 use Rattle.meaning_grammar.proofs.Everywhere.{All-at}
 use Rattle.meaning_grammar.proofs.Taking.{what_is_taken_is_a_row}
-use Rattle.c_parse.specs.Moments.{is_usual}
+use Rattle.meaning_derivation.specs.Leading.{is_usual}
 
 -- No row of the grammar keeps the end as a token
 

@@ -23,7 +23,7 @@ use Rattle.meaning_scopes.specs.Scopes.{Found, find}
 use Rattle.meaning_scopes.specs.Classes.{bound_class, found_class}
 use Rattle.meaning_derivation.specs.State.{State}
 use Rattle.meaning_derivation.specs.Taking.{look_of}
-use Rattle.c_parse.specs.Steps.{is_no_end}
+use Rattle.meaning_derivation.specs.Leading.{is_no_end}
 
 abbrev reads_no_end : Reading → Bool
 reads_no_end reading = not (is_same End reading.class_)

@@ -80,14 +80,14 @@ module _ (list : NodeList NameId) where
   stacked-parted (kinds.List children ∷ values) back first end stacked =
       let rest = stacked-parted values back stacked.0 end stacked.2 in (rest.0, (stacked.0, stacked.1, rest.1), rest.2)
 
-  stacked-halves : (values : List Value) (count first end : ℕ) → AreStacked list values first end
+  pub stacked-halves : (values : List Value) (count first end : ℕ) → AreStacked list values first end
       → (middle : ℕ) × AreStacked list (take count values) first middle × AreStacked list (drop count values) middle end
   stacked-halves values count first end stacked =
       stacked-parted (take count values) (drop count values) first end
       (subst (λ (all : List Value). AreStacked list all first end) (sym (take-append-drop count values)) stacked)
 
   -- what values give has runs where they have
-  children-stacked : (values : List Value) (sources : List Source) (first end : ℕ) → AreStacked list values first end → AreRuns list (children_in values sources) first end
+  pub children-stacked : (values : List Value) (sources : List Source) (first end : ℕ) → AreStacked list values first end → AreRuns list (children_in values sources) first end
   children-stacked [] sources first end stacked = subst (λ (last : ℕ). AreRuns list [] first last) stacked no_runs
   children-stacked (Word token name ∷ values) sources first end stacked = children-stacked values sources first end stacked
   children-stacked (Tree handle ∷ values) sources first end stacked =

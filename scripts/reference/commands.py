@@ -1,6 +1,7 @@
 """Words and files to what a command writes and its status."""
 import rules
 
+from . import parsing
 from .macros import Passed
 from .preprocessing import NoSuchFile, Refusal, Unit, text_of
 from .scanning import IS_WORD, Place
@@ -68,7 +69,13 @@ def line(paths, place, text):
 
 
 def checked(unit, classes):
-    """The status of the check of a unit, and its warnings."""
+    """The status of the check of a unit, and its warnings, or the line of what refuses it."""
+    try:
+        parsing.Parser(unit.tokens).parse()
+    except parsing.Refused as refusal:
+        return REFUSED, line(unit.paths, *refusal.args)
+    except parsing.Passed as passed:
+        return LIMIT, b"ksparse: limit: %b\n" % passed.args[0]
     undefined = [(place, b"warning: undefined preprocessor identifier '%b'" % name) for place, name in unit.undefined]
     try:
         found = rules.Reader(unit.tokens).unit()

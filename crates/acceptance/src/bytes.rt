@@ -1,37 +1,73 @@
 // Each byte in each state of a text, by what a check of the whole text answers.
-use crate::run::{NOT_BUILT, assert_check};
+use crate::run::{assert_ran, check};
 use ksparse::Exit;
 use std::alloc::{AllocError, Global};
 use std::test::Fail;
 
+// What an error says of a text.
+#[derive(Clone, Copy)]
+enum Told {
+    // The byte isn't expected.
+    Byte,
+    // The whole text, which is one token, isn't expected.
+    Text,
+    // This.
+    Line(&'static str),
+}
+
+impl Told {
+    fn text(self, alloc: Global, text: &[u8], byte: u8) -> Result<Vec<u8>, AllocError> {
+        match self {
+            Told::Byte => unexpected(alloc, &[byte]),
+            Told::Text => unexpected(alloc, text),
+            Told::Line(told) => Vec::from_slice(alloc, told.as_bytes()),
+        }
+    }
+}
+
+// The error of a token that isn't expected.
+fn unexpected(alloc: Global, token: &[u8]) -> Result<Vec<u8>, AllocError> {
+    let mut told = Vec::from_slice(alloc, b"error[20]: syntax error: unexpected '")?;
+    told.extend_from_slice(token)?;
+    told.push(b'\'')?;
+    Ok(told)
+}
+
+const END_OF_FILE: Told = Told::Line("error[20]: syntax error: unexpected end of file");
+const UNEXPECTED_B: Told = Told::Line("error[20]: syntax error: unexpected 'b'");
+const B_IS_NOT_DECLARED: Told = Told::Line("error[21]: 'b' is not declared");
+
 // What a text with one byte in it is answered by.
-#[derive(Clone, Copy, Debug, PartialEq, Eq)]
+#[derive(Clone, Copy)]
 enum Answer {
     // It has no tokens, and isn't refused.
     Empty,
-    // It has tokens, which aren't in the form.
-    NotInForm,
-    // It opens a literal in this column and never closes it.
-    Opens(u32),
+    // An error stands in this line and column.
+    Refused(u32, u32, Told),
 }
 
 impl Answer {
+    // The literal that opens in this column is never closed.
+    fn opens(column: u32) -> Self {
+        Answer::Refused(1, column, Told::Line("error[4]: unterminated literal"))
+    }
+
     fn exit(self) -> Exit {
         match self {
             Answer::Empty => Exit::Clean,
-            Answer::NotInForm => Exit::Refused,
-            Answer::Opens(_) => Exit::Refused,
+            Answer::Refused(_, _, _) => Exit::Refused,
         }
     }
 
-    fn err(self, alloc: Global) -> Result<String, AllocError> {
-        match self {
-            Answer::Empty => Ok(String::new(alloc)),
-            Answer::NotInForm => String::from_str(alloc, NOT_BUILT),
-            Answer::Opens(column) => {
-                format!(in alloc; "t.c:1:{column}: error[4]: unterminated literal\n")
-            }
-        }
+    fn err(self, alloc: Global, text: &[u8], byte: u8) -> Result<Vec<u8>, AllocError> {
+        let Answer::Refused(line, column, told) = self else {
+            return Ok(Vec::new(alloc));
+        };
+        let place = format!(in alloc; "t.c:{line}:{column}: ")?;
+        let mut err = Vec::from_slice(alloc, place.as_bytes())?;
+        err.extend_from_slice(told.text(alloc, text, byte)?.as_slice())?;
+        err.push(b'\n')?;
+        Ok(err)
     }
 }
 
@@ -65,26 +101,52 @@ impl State {
 
     fn answer(self, byte: u8) -> Answer {
         match self {
-            State::BetweenTokens => match byte {
-                b' ' | b'\t' | b'\n' | 0x0b | 0x0c => Answer::Empty,
-                // A directive that does nothing.
-                b'#' => Answer::Empty,
-                b'\'' | b'"' => Answer::Opens(1),
-                _ => Answer::NotInForm,
-            },
-            State::InWord | State::InNumber => match byte {
-                b'\'' | b'"' => Answer::Opens(2),
-                _ => Answer::NotInForm,
-            },
+            State::BetweenTokens => between_tokens(byte),
+            State::InWord => in_word(byte),
+            State::InNumber => in_number(byte),
             State::InCharacter => in_literal(byte, b'\''),
             State::InString => in_literal(byte, b'"'),
             State::InLineComment | State::InComment => Answer::Empty,
-            State::BehindBackslash => match byte {
-                b'\n' => Answer::Empty,
-                b'\'' | b'"' => Answer::Opens(2),
-                _ => Answer::NotInForm,
-            },
+            State::BehindBackslash => behind_backslash(byte),
         }
+    }
+}
+
+// A name, a star and a parenthesis begin a declarator.
+fn between_tokens(byte: u8) -> Answer {
+    match byte {
+        b' ' | b'\t' | b'\n' | 0x0b | 0x0c => Answer::Empty,
+        // A directive that does nothing.
+        b'#' => Answer::Empty,
+        b'\'' | b'"' => Answer::opens(1),
+        b';' => Answer::Refused(1, 1, Told::Line("error[29]: form not built")),
+        b'(' | b'*' | b'_' | b'A'..=b'Z' | b'a'..=b'z' => Answer::Refused(1, 1, END_OF_FILE),
+        _ => Answer::Refused(1, 1, Told::Byte),
+    }
+}
+
+// `a` is a declarator: what may stand behind one is taken, and then `b` comes.
+fn in_word(byte: u8) -> Answer {
+    match byte {
+        b'\'' | b'"' => Answer::opens(2),
+        b'0'..=b'9' | b'_' | b'A'..=b'Z' | b'a'..=b'z' => Answer::Refused(1, 1, END_OF_FILE),
+        b'(' | b',' | b';' => Answer::Refused(1, 3, END_OF_FILE),
+        b'=' | b'[' | b'{' => Answer::Refused(1, 3, B_IS_NOT_DECLARED),
+        b' ' | b'\t' | 0x0b | 0x0c => Answer::Refused(1, 3, UNEXPECTED_B),
+        b'\n' => Answer::Refused(2, 1, UNEXPECTED_B),
+        _ => Answer::Refused(1, 2, Told::Byte),
+    }
+}
+
+// A point or an exponent makes a floating constant of it.
+fn in_number(byte: u8) -> Answer {
+    match byte {
+        b'\'' | b'"' => Answer::opens(2),
+        b'.' | b'E' | b'e' => {
+            Answer::Refused(1, 1, Told::Line("error[30]: unsupported: floating type"))
+        }
+        b'0'..=b'9' | b'_' | b'A'..=b'Z' | b'a'..=b'z' => Answer::Refused(1, 1, Told::Text),
+        _ => Answer::Refused(1, 1, Told::Line("error[20]: syntax error: unexpected '1'")),
     }
 }
 
@@ -92,11 +154,20 @@ impl State {
 // a mark ends it, so that the one behind it opens another.
 fn in_literal(byte: u8, quote: u8) -> Answer {
     if byte == b'\n' || byte == b'\\' {
-        Answer::Opens(1)
+        Answer::opens(1)
     } else if byte == quote {
-        Answer::Opens(3)
+        Answer::opens(3)
     } else {
-        Answer::NotInForm
+        Answer::Refused(1, 1, Told::Text)
+    }
+}
+
+// Both are joined to nothing where a new-line ends the line.
+fn behind_backslash(byte: u8) -> Answer {
+    match byte {
+        b'\n' => Answer::Empty,
+        b'\'' | b'"' => Answer::opens(2),
+        _ => Answer::Refused(1, 1, Told::Line("error[20]: syntax error: unexpected '\\'")),
     }
 }
 
@@ -121,14 +192,9 @@ fn each_byte_in_each_state(rt: HostRuntime) -> Result<(), Fail> {
             text.extend_from_slice(behind.as_bytes())?;
             let case = format!(in rt.alloc(); "byte {byte} {state:?}")?;
             let answer = state.answer(byte);
-            let err = answer.err(rt.alloc())?;
-            assert_check(
-                &rt,
-                case.as_str(),
-                text.as_slice(),
-                answer.exit(),
-                err.as_str(),
-            )?;
+            let err = answer.err(rt.alloc(), text.as_slice(), byte)?;
+            let ran = check(rt.alloc(), text.as_slice())?;
+            assert_ran(&rt, case.as_str(), &ran, answer.exit(), err.as_slice());
         }
     }
     Ok(())

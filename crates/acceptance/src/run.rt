@@ -7,9 +7,6 @@ use std::process::Abort;
 /// Room for each text of a test.
 pub const ROOM: usize = 4096;
 
-/// The answer to a text that has tokens and isn't in the form.
-pub const NOT_BUILT: &str = "t.c:1:1: error[29]: form not built\n";
-
 /// What a run of the top call left.
 #[derive(Drop)]
 pub struct Ran {
@@ -27,8 +24,8 @@ pub fn list(alloc: Global, words: &[&str]) -> Result<Words, AllocError> {
     Ok(list)
 }
 
-// Checks the one file `t.c` with this text.
-fn check(alloc: Global, text: &[u8]) -> Result<Ran, AllocError> {
+/// Checks the one file `t.c` with this text.
+pub fn check(alloc: Global, text: &[u8]) -> Result<Ran, AllocError> {
     let words = list(alloc, &["t.c"])?;
     let mut files = HonestFiles::new(alloc);
     files.add(b"t.c", text)?;

@@ -1,5 +1,5 @@
 -- From the first token of a unit to its end.
-use Rattle.std.proofs.Common.{◌≡◌, List, [], ◌∷◌, Some, refl, ap, subst, ◌∙◌}
+use Rattle.std.proofs.Common.{◌≡◌, List, [], ◌∷◌, Some, ap, subst, ◌∙◌}
 use Rattle.vocabulary.specs.declared.symbol.Symbol.TheVariants.{ExternalDeclarations}
 use Rattle.vocabulary.specs.declared.action.Action.TheVariants.{BeginList, MakeTranslationUnit}
 use Rattle.vocabulary.specs.declared.production_item.ProductionItem.{ProductionItem}
@@ -7,8 +7,8 @@ use Rattle.vocabulary.specs.declared.production_item.ProductionItem.TheVariants.
 use Rattle.meaning_text.specs.Tokens.{Tok}
 use Rattle.meaning_grammar.specs.Productions.{start}
 use Rattle.meaning_grammar.specs.Terminals.{Terminal, terminals}
-use Rattle.meaning_grammar.specs.Sorts.{ATree, effects}
-use Rattle.meaning_derivation.specs.Values.{Value, WordValue, TreeValue, ListValue, sorts_of}
+use Rattle.meaning_grammar.specs.Sorts.{effects}
+use Rattle.meaning_derivation.specs.Values.{TreeValue, sorts_of}
 use Rattle.meaning_derivation.specs.State.{State, IsError, PassesLimit, Done, Fails}
 use Rattle.meaning_derivation.specs.Actions.{act}
 use Rattle.meaning_derivation.specs.Leading.{Standing, ComesTo, LeadsTo}

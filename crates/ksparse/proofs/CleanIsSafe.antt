@@ -11,12 +11,13 @@ use Rattle.meaning_tree.specs.Trees.{SyntaxTree}
 use Rattle.meaning_syntax.specs.Trees.{Derives}
 use Rattle.meaning_syntax.proofs.Derivations.{derived_trees_are_unique, derived_trees_are_in_first_form}
 use Rattle.meaning_first_rules.specs.Failures.{Cause, SpacesMixed, FlaggedAccess, Failure, IsListing, code_of}
+use Rattle.meaning_derivation.specs.State.{Fault, IsError, PassesLimit}
 use Rattle.meaning_preprocessing.specs.State.{Stop, Refuses, Passes}
 use Rattle.meaning_preprocessing.specs.Unit.{UnitEnd, Ends, EndsEarly, PreprocessedUnit}
 use Rattle.meaning_answer.specs.Reply.{Reply, Clean}
 use Rattle.meaning_answer.specs.Requests.{Request, BadWord, MissingFile, Check, Expand, request_of}
-use Rattle.meaning_answer.specs.Lines.{warned, failures_on, undefined_on, stop_reply}
-use Rattle.meaning_answer.specs.Answers.{files_of, IsCheckReply, IsCheckEnd, IsRequestReply, IsAnswer}
+use Rattle.meaning_answer.specs.Lines.{warned, failures_on, undefined_on, stop_reply, refusal_reply}
+use Rattle.meaning_answer.specs.Answers.{files_of, IsFormReply, IsCheckReply, IsCheckEnd, IsRequestReply, IsAnswer}
 use Rattle.meaning_machine.specs.Runs.{IsSafe}
 use Rattle.meaning_machine.specs.laws.Runs.{SilenceIsSafe}
 use Rattle.ksparse.specs.Safe.{AreGuarding, IsSafeUnit, NamesSafeUnit, IsSafeIfClean}
@@ -41,6 +42,11 @@ stop_is_not_clean : (stop : Stop) (reply : Reply) → reply ≡ stop_reply stop 
 stop_is_not_clean (Refuses refusal) reply is clean = let ending = ap (λ (r : Reply). r.ending) is in cc
 stop_is_not_clean (Passes kind) reply is clean = let ending = ap (λ (r : Reply). r.ending) is in cc
 
+refusal_is_not_clean : (files : List (List ℕ)) (tokens : List Tok) (fault : Fault) (stands : ℕ) (reply : Reply) → reply ≡ refusal_reply files tokens fault stands
+    → reply.ending ≡ Clean → ⊥
+refusal_is_not_clean files tokens (IsError kind) stands reply is clean = let ending = ap (λ (r : Reply). r.ending) is in cc
+refusal_is_not_clean files tokens (PassesLimit limit) stands reply is clean = let ending = ap (λ (r : Reply). r.ending) is in cc
+
 module _ (law : SilenceIsSafe) where
   module _ (classes : List Class) (files : List (List ℕ)) (tokens undefined : List Tok) where
     -- a tree without failures is safe
@@ -50,15 +56,21 @@ module _ (law : SilenceIsSafe) where
         law other (derived_trees_are_in_first_form (terminals_of tokens) other others)
         (subst (λ (t : SyntaxTree). IsListing t []) (derived_trees_are_unique (terminals_of tokens) tree other derives others) listing)
 
-    check_safe :
-        (reply : Reply) → IsCheckReply classes files tokens undefined reply → reply.ending ≡ Clean
+    form_safe :
+        (reply : Reply) → IsFormReply classes files tokens undefined reply → reply.ending ≡ Clean
         → ((tree : SyntaxTree) × Derives (terminals_of tokens) tree) × (AreGuarding classes → (tree : SyntaxTree) → Derives (terminals_of tokens) tree → IsSafe tree)
-    check_safe reply (inl tells) clean =
+    form_safe reply (inl tells) clean =
         let none = no_failures files tokens (undefined_on classes undefined) (failures_on classes tells.1) (sym (ap (λ (r : Reply). r.ending) tells.4) ∙ clean) in (
           (tells.0, tells.2),
           λ guards other others. tree_safe tells.0 other tells.2 (subst (IsListing tells.0) (sym (all_on classes guards tells.1) ∙ none) tells.3) others,
         )
-    check_safe reply (inr tells) clean = let ending = ap (λ (r : Reply). r.ending) tells.1 in cc
+    form_safe reply (inr tells) clean = let ending = ap (λ (r : Reply). r.ending) tells.1 in cc
+
+    check_safe :
+        (reply : Reply) → IsCheckReply classes files tokens undefined reply → reply.ending ≡ Clean
+        → ((tree : SyntaxTree) × Derives (terminals_of tokens) tree) × (AreGuarding classes → (tree : SyntaxTree) → Derives (terminals_of tokens) tree → IsSafe tree)
+    check_safe reply (inl (fault, stands, refused, is)) clean = absurd (refusal_is_not_clean files tokens fault stands reply is clean)
+    check_safe reply (inr (parsed, told)) clean = form_safe reply told clean
 
   pub end_safe : (classes : List Class) (tokens : List Tok) (end : UnitEnd) (reply : Reply) → IsCheckEnd classes tokens end reply → reply.ending ≡ Clean
       → IsSafeUnit classes (record { tokens = tokens; end = end })

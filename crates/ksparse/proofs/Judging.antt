@@ -11,9 +11,9 @@ use Rattle.meaning_first_rules.specs.plain.Judging as judging
 use Rattle.vocabulary.specs.declared.class.Class.{Class}
 use Rattle.meaning_answer.specs.Reply.{Reply}
 use Rattle.meaning_answer.specs.Lines.{checked_reply, not_built_reply}
-use Rattle.meaning_answer.specs.Answers.{IsCheckReply}
-use Rattle.meaning_answer.specs.plain.Replying.{items_reply, check_reply}
-use Rattle.meaning_answer.proofs.Replies.{check_answered}
+use Rattle.meaning_answer.specs.Answers.{IsFormReply}
+use Rattle.meaning_answer.specs.plain.Replying.{items_reply, form_reply}
+use Rattle.meaning_answer.proofs.Replies.{form_answered}
 use Rattle.first_form.specs.declared.failure.Failure.{Failure}
 use Rattle.first_form.specs.Seen.{failures_of, spellings_of}
 use Rattle.ksparse.specs.Judged.{IsJudged}
@@ -37,19 +37,19 @@ read_unit-unbound texts items some unbound = rw (some, unbound) refl
 -- The reply, by what was judged
 
 module _ (names : List (List ℕ)) (classes : List Class) (files : List (List ℕ)) (tokens : List Token) (undefined : List Tok) (reply : Reply) where
-  replied : reply ≡ check_reply classes files (toks_of names tokens) undefined → IsCheckReply classes files (toks_of names tokens) undefined reply
-  replied is = subst (λ (r : Reply). IsCheckReply classes files (toks_of names tokens) undefined r) (sym is) (check_answered classes files (toks_of names tokens) undefined)
+  replied : reply ≡ form_reply classes files (toks_of names tokens) undefined → IsFormReply classes files (toks_of names tokens) undefined reply
+  replied is = subst (λ (r : Reply). IsFormReply classes files (toks_of names tokens) undefined r) (sym is) (form_answered classes files (toks_of names tokens) undefined)
 
   pub judged_replied :
       (failures : List Failure) → IsJudged names tokens failures → reply ≡ checked_reply classes files (toks_of names tokens) undefined (failures_of names failures)
-      → IsCheckReply classes files (toks_of names tokens) undefined reply
+      → IsFormReply classes files (toks_of names tokens) undefined reply
   judged_replied failures judged is =
       replied
       (is ∙ ap (checked_reply classes files (toks_of names tokens) undefined) judged.are
       ∙ sym (ap (items_reply classes files (toks_of names tokens) undefined) judged.read))
 
   pub unread_replied :
-      read_unit (spellings_of names tokens) ≡ None → reply ≡ not_built_reply files → IsCheckReply classes files (toks_of names tokens) undefined reply
+      read_unit (spellings_of names tokens) ≡ None → reply ≡ not_built_reply files → IsFormReply classes files (toks_of names tokens) undefined reply
   unread_replied none is = replied (is ∙ sym (ap (items_reply classes files (toks_of names tokens) undefined) none))
 
 -- What is said of a value in three ways, if there is one, may be said of it in a fourth

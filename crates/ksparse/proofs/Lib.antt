@@ -7,6 +7,7 @@ pub mod FrontLemmas
 pub mod IdentifierLemmas
 pub mod Judging
 pub mod Loads
+pub mod ParsingLemmas
 pub mod ReadingLemmas
 pub mod SafeTexts
 pub mod Taken

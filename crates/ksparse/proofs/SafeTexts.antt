@@ -8,9 +8,9 @@ use Rattle.meaning_syntax.specs.plain.Reading.{read_unit}
 use Rattle.meaning_syntax.proofs.Derivations.{read_units_derive}
 use Rattle.meaning_first_rules.specs.Failures.{Failure}
 use Rattle.meaning_preprocessing.specs.Unit.{PreprocessedUnit}
-use Rattle.meaning_answer.specs.Reply.{Clean}
+use Rattle.meaning_answer.specs.Reply.{silence}
 use Rattle.meaning_answer.specs.plain.Replying.{end_reply}
-use Rattle.meaning_answer.proofs.Replies.{end_answered, underived}
+use Rattle.meaning_answer.proofs.Replies.{end_right, underived}
 use Rattle.meaning_machine.specs.Outcomes.{FaultKind}
 use Rattle.meaning_machine.specs.Machine.{Fault}
 use Rattle.meaning_machine.specs.Runs.{Move}
@@ -21,9 +21,9 @@ use Rattle.meaning_machine.specs.laws.Runs.{SilenceIsSafe}
 use Rattle.ksparse.specs.Safe.{AreGuarding, IsSafeUnit}
 use Rattle.ksparse.proofs.CleanIsSafe.{end_safe}
 
-pub silent_unit_is_safe : SilenceIsSafe → (unit : PreprocessedUnit) → (end_reply default_classes unit.tokens unit.end).ending ≡ Clean → IsSafeUnit default_classes unit
-silent_unit_is_safe law unit silent =
-    end_safe law default_classes unit.tokens unit.end (end_reply default_classes unit.tokens unit.end) (end_answered default_classes unit.tokens unit.end) silent
+pub silent_unit_is_safe : SilenceIsSafe → (depth : ℕ) (unit : PreprocessedUnit) → end_reply depth default_classes unit.tokens unit.end ≡ Some silence → IsSafeUnit default_classes unit
+silent_unit_is_safe law depth unit silent =
+    end_safe law default_classes unit.tokens unit.end silence (end_right depth default_classes unit.tokens unit.end silence silent) refl
 
 guarding : AreGuarding default_classes
 guarding = record { address_space = refl; bitwise = refl; context = refl }

@@ -1,4 +1,4 @@
-// The check of preprocessed tokens: their items, their tree, its failures, their text.
+// The check of preprocessed tokens: parsing, and then their items, their tree in the first form, its failures, their text.
 ghost use Rattle.std.specs.Prelude.{◌≡◌, ◌≤◌, ℕ, List, IfNone, IfOk, IfSome, None, length};
 ghost use Rattle.c_tokens.specs.Seen.{toks_of};
 ghost use Rattle.c_preproc.specs.Conditions.{AreKnown};
@@ -6,13 +6,14 @@ ghost use Rattle.c_preproc.specs.Units.{IsKnownUnit};
 ghost use Rattle.first_form.specs.Known.{AreKnownFailures};
 ghost use Rattle.first_form.specs.Seen.{failures_of, spellings_of};
 ghost use Rattle.meaning_syntax.specs.plain.Reading.{read_unit};
-ghost use Rattle.meaning_answer.specs.Answers.{IsCheckReply};
+ghost use Rattle.meaning_answer.specs.Answers.{IsCheckReply, IsFormReply};
 ghost use Rattle.meaning_answer.specs.Lines.{checked_reply, failures_on, undefined_on, warned};
 ghost use Rattle.ksparse.specs.Judged.{IsJudged};
 ghost use Rattle.ksparse.specs.Written.{paths_of, reply_seen};
 
 use crate::class_names::is_on;
 use crate::exit::Exit;
+use crate::parsing::{parse_fault, tell_fault};
 use crate::refusal::not_built;
 use crate::reply::Written;
 use crate::warnings::write_undefined;
@@ -22,7 +23,8 @@ use first_form::{Failure, build, judge, read_items, write_warnings};
 use sparse_model::{Class, ClassSet};
 use std::alloc::{AllocError, Global};
 
-/// Checks the tokens of a unit, and answers what the rules whose classes are on say of them.
+/// Checks the tokens of a unit, and answers for what parsing refuses them, or what the rules whose classes are on say of
+/// them.
 pub fn check_tokens(
     alloc: Global,
     names: &Names,
@@ -34,13 +36,31 @@ pub fn check_tokens(
     ensures { IfOk result (λ written. IsCheckReply classes.now (paths_of names.now toks.now.files)
         (toks_of names.now toks.now.tokens) (toks_of names.now toks.now.undef_tokens) (reply_seen written)) }
 {
+    match parse_fault(alloc, names, toks.tokens.as_slice()) {
+        Some(fault) => tell_fault(alloc, names, toks, fault),
+        None => check_form(alloc, names, toks, classes),
+    }
+}
+
+// The reply to tokens that are parsed: they are judged in the first form.
+fn check_form(
+    alloc: Global,
+    names: &Names,
+    toks: &UnitTokens,
+    classes: &ClassSet,
+) -> Result<Written, AllocError>
+    requires known { IsKnownUnit names.now toks.now }
+    requires few { length toks.now.tokens ≤ 2000000 }
+    ensures { IfOk result (λ written. IsFormReply classes.now (paths_of names.now toks.now.files)
+        (toks_of names.now toks.now.tokens) (toks_of names.now toks.now.undef_tokens) (reply_seen written)) }
+{
     match judge_tokens(alloc, names, toks.tokens.as_slice())? {
         Some(failures) => tell(alloc, names, toks, classes, &failures),
         None => not_built(alloc, names, &toks.files),
     }
 }
 
-// The failures of the tree that the tokens derive, or None where they derive none.
+// The failures of the tree that the tokens derive in the form, or None where they derive none.
 fn judge_tokens(
     alloc: Global,
     names: &Names,

@@ -13,6 +13,7 @@ mod exit;
 mod expand;
 mod identifier;
 mod option;
+mod parsing;
 mod reading;
 mod refusal;
 mod reply;

@@ -18,22 +18,23 @@ use Rattle.meaning_answer.specs.Answers.{IsAnswer}
 use Rattle.meaning_answer.specs.Delivery.{Sinks, Delivers, Completes}
 use Rattle.meaning_answer.specs.plain.Replying.{end_reply, reply_to}
 use Rattle.meaning_answer.specs.examples.Completion.{taken, CompletionExamples, no_file, two_paths, three_words}
-use Rattle.meaning_answer.proofs.Replies.{answers_exist, answers_are_unique}
+use Rattle.meaning_answer.proofs.Replies.{answers_are_unique, plain_answers_are_right}
 
 -- it is complete with a reply that writes nothing to `out`, whichever map agrees with the loads
 completed : (words : List (List ℕ)) (loads : List Loaded) (ending : Ending) (err : List ℕ)
-    → ((files : FileMap) → AgreesWith files loads → reply_to words files ≡ record { out = []; err = err; ending = ending })
+    → ((files : FileMap) → AgreesWith files loads → reply_to 0 words files ≡ Some (record { out = []; err = err; ending = ending }))
     → Completes words loads ⊥ ending (taken err)
 completed words loads ending err is files agrees reply answers none =
-    let same : record { out = []; err = err; ending = ending } ≡ reply = sym (answers_are_unique words files reply answers ∙ is files agrees) in
+    let taken_reply : Reply = record { out = []; err = err; ending = ending } in
+    let same : taken_reply ≡ reply = answers_are_unique words files taken_reply reply (plain_answers_are_right 0 words files taken_reply (is files agrees)) answers in
     inr (ap (λ (r : Reply). r.ending) same, subst (λ (r : Reply). Delivers r (taken err)) same (record { out = refl; err = refl }))
 
 -- and not where, over one such map, the ending or what was taken is another
 incomplete : (words : List (List ℕ)) (loads : List Loaded) (files : FileMap) (reply : Reply) (ending : Ending) (sinks : Sinks) → AgreesWith files loads
-    → reply_to words files ≡ reply → ((ending ≡ NoMemory) ⊎ ((ending ≡ reply.ending) × Delivers reply sinks) → ⊥)
+    → reply_to 0 words files ≡ Some reply → ((ending ≡ NoMemory) ⊎ ((ending ≡ reply.ending) × Delivers reply sinks) → ⊥)
     → Completes words loads ⊥ ending sinks → ⊥
 incomplete words loads files reply ending sinks agrees is differs complete =
-    differs (complete files agrees reply (subst (IsAnswer words files) is (answers_exist words files)) (λ none. none))
+    differs (complete files agrees reply (plain_answers_are_right 0 words files reply is) (λ none. none))
 
 -- another ending than want of memory and that of the answer
 another_ending : {ending wanted : Ending} {Taken : Type 0} → ending ≢ NoMemory → ending ≢ wanted → (ending ≡ NoMemory) ⊎ ((ending ≡ wanted) × Taken) → ⊥
@@ -70,10 +71,10 @@ unit_found files found =
 
 -- the reply where it isn't there
 missing_reply : (files : FileMap) → file_at files (codes "t.c") ≡ None
-    → reply_to (codes "t.c" ∷ []) files ≡ line Refused (codes "ksparse: error[1]: no such file: t.c")
+    → reply_to 0 (codes "t.c" ∷ []) files ≡ Some (line Refused (codes "ksparse: error[1]: no such file: t.c"))
 unfolding preprocessed digits reader expansion within front_of
 missing_reply files none =
-    ap (λ (found : Option (List ℕ)). let unit = unit_found files found in end_reply default_classes unit.tokens unit.end) none
+    ap (λ (found : Option (List ℕ)). let unit = unit_found files found in end_reply 0 default_classes unit.tokens unit.end) none
 
 pub completion_examples : CompletionExamples
 unfolding digits

@@ -11,7 +11,7 @@ module _ (words : List (List ℕ)) (files : FileMap) (reply : Reply) (is : IsAns
   -- what was taken whole is the answer
   ends_answered : (ending : Ending) → Ends (IsAnswer words files) ending sinks → (ending ≡ NoMemory) ⊎ ((ending ≡ reply.ending) × Delivers reply sinks)
   ends_answered ending ends =
-      let same : ends.0 ≡ reply = answers_are_unique words files ends.0 ends.1 ∙ sym (answers_are_unique words files reply is) in
+      let same : ends.0 ≡ reply = answers_are_unique words files ends.0 reply ends.1 is in
       inr (sym ends.2 ∙ ap (λ (r : Reply). r.ending) same, subst (λ (r : Reply). Delivers r sinks) same ends.3)
 
   module _ (rose : Type 0) (none : rose → ⊥) where

@@ -5,6 +5,11 @@ use Rattle.meaning_outside.specs.Files.{FileMap}
 use Rattle.meaning_text.specs.Places.{At, main_file, start_of}
 use Rattle.meaning_text.specs.Tokens.{Tok}
 use Rattle.meaning_types.specs.Types.{flags_of}
+use Rattle.meaning_warnings.specs.Errors.{error_front, error_lines, told_word}
+use Rattle.meaning_derivation.specs.State.{Fault, IsError, PassesLimit}
+use Rattle.vocabulary.specs.declared.error_kind.ErrorKind.{ErrorKind}
+use Rattle.vocabulary.specs.declared.error_kind.ErrorKind.TheVariants.{FormNotBuilt}
+use Rattle.vocabulary.specs.Errors.{error_line}
 use Rattle.meaning_types.specs.Spelling.{spelling}
 use Rattle.meaning_first_rules.specs.Failures.{Cause, SpacesMixed, FlaggedAccess, Failure}
 use Rattle.meaning_first_rules.specs.Text.{place_text, place_of, cause_text, access_text, path_in, placed_text, unit_failure_text, unit_warnings_text}
@@ -13,9 +18,9 @@ use Rattle.meaning_preprocessing.specs.Unit.{UnitEnd, Ends, EndsEarly}
 use Rattle.meaning_answer.specs.Reply.{Reply, IsLine}
 use Rattle.meaning_answer.specs.Requests.{Request, BadWord, MissingFile, Check, Expand, request_of}
 use Rattle.meaning_answer.specs.Tokens.{token_behind, tokens_behind, tokens_text}
-use Rattle.meaning_answer.specs.Lines.{undefined_line, warnings_in, warned, undefined_on, failures_on, limit_text, error_text, stop_reply}
+use Rattle.meaning_answer.specs.Lines.{undefined_line, warnings_in, warned, undefined_on, failures_on, limit_text, named_word, refusal_place, refusal_reply, stop_reply}
 use Rattle.meaning_answer.specs.Shapes.{HasCheckShape, HasExpandShape, IsShapedFor, IsText}
-use Rattle.meaning_answer.specs.Answers.{files_of, IsCheckReply, IsCheckEnd, IsRequestReply, expand_reply}
+use Rattle.meaning_answer.specs.Answers.{files_of, IsFormReply, IsCheckReply, IsCheckEnd, IsRequestReply, expand_reply}
 use Rattle.meaning_answer.specs.laws.Commands.{AnswersAreShaped, AnswersTellFaults, TellsFault}
 
 -- the shapes of replies
@@ -68,19 +73,34 @@ IsText-tokens : (tokens : List Tok) → IsText (tokens_text tokens)
 IsText-tokens [] = inl refl
 IsText-tokens (t ∷ ts) = inr (IsLine-append t.text _ (IsLine-tokens_behind t.at ts))
 
+-- an error is told in a line
+IsLine-error : (kind : ErrorKind) (path : List ℕ) (at : At) (word : List ℕ) → IsLine (error_lines kind path at word)
+IsLine-error kind path at word = (error_front kind path at ++ error_line kind (told_word kind word), refl)
+
 -- a unit that ends early is told in a line, whatever was asked
 check_stopped : (stop : Stop) → IsCheckShaped (stop_reply stop)
-check_stopped (Refuses refusal) = (refl, (error_text refusal.kind refusal.path refusal.place refusal.word, refl))
+check_stopped (Refuses refusal) = (refl, IsLine-error refusal.kind refusal.path refusal.place refusal.word)
 check_stopped (Passes kind) = (refl, (limit_text kind, refl))
 
 expand_stopped : (stop : Stop) → IsExpandShaped (stop_reply stop)
-expand_stopped (Refuses refusal) = (refl, (error_text refusal.kind refusal.path refusal.place refusal.word, refl))
+expand_stopped (Refuses refusal) = (refl, IsLine-error refusal.kind refusal.path refusal.place refusal.word)
 expand_stopped (Passes kind) = (refl, (limit_text kind, refl))
 
-check_shaped : (classes : List Class) (files : List (List ℕ)) (tokens undefined : List Tok) (reply : Reply) → IsCheckReply classes files tokens undefined reply → IsCheckShaped reply
-check_shaped classes files tokens undefined reply (inl tells) =
+form_shaped : (classes : List Class) (files : List (List ℕ)) (tokens undefined : List Tok) (reply : Reply) → IsFormReply classes files tokens undefined reply → IsCheckShaped reply
+form_shaped classes files tokens undefined reply (inl tells) =
     subst IsCheckShaped (sym tells.4) (shaped_warned files tokens (undefined_on classes undefined) (failures_on classes tells.1))
-check_shaped classes files tokens undefined reply (inr tells) = subst IsCheckShaped (sym tells.1) (refl, (_, refl))
+form_shaped classes files tokens undefined reply (inr tells) =
+    subst IsCheckShaped (sym tells.1) (refl, IsLine-error FormNotBuilt (path_in files main_file) (start_of main_file) [])
+
+refusal_shaped : (files : List (List ℕ)) (tokens : List Tok) (fault : Fault) (stands : ℕ) → IsCheckShaped (refusal_reply files tokens fault stands)
+refusal_shaped files tokens (IsError kind) stands =
+    let at = refusal_place tokens stands in
+    (refl, IsLine-error kind (path_in files at.file) at (named_word kind tokens stands))
+refusal_shaped files tokens (PassesLimit limit) stands = (refl, (limit_text limit, refl))
+
+check_shaped : (classes : List Class) (files : List (List ℕ)) (tokens undefined : List Tok) (reply : Reply) → IsCheckReply classes files tokens undefined reply → IsCheckShaped reply
+check_shaped classes files tokens undefined reply (inl (fault, stands, refused, is)) = subst IsCheckShaped (sym is) (refusal_shaped files tokens fault stands)
+check_shaped classes files tokens undefined reply (inr (parsed, told)) = form_shaped classes files tokens undefined reply told
 
 end_shaped : (classes : List Class) (tokens : List Tok) (end : UnitEnd) (reply : Reply) → IsCheckEnd classes tokens end reply → IsCheckShaped reply
 end_shaped classes tokens (Ends undefined paths) reply is = check_shaped classes (files_of paths) tokens undefined reply is

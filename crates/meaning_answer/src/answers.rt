@@ -1,14 +1,15 @@
 // What is proved of answers and outcomes, and examples of them.
-ghost use Rattle.meaning_answer.specs.examples.Answers.{AnswerExamples, ExpandExamples, RequestExamples};
+ghost use Rattle.meaning_answer.specs.examples.Answers.{AnswerExamples, ExpandExamples, ParsingExamples, RequestExamples};
 ghost use Rattle.meaning_answer.specs.examples.Completion.{CompletionExamples};
 ghost use Rattle.meaning_answer.specs.laws.Answers.{EndingsTellWhatIsWritten, OutcomesAreTold, TokensAloneGoOut};
-ghost use Rattle.meaning_answer.specs.laws.Commands.{AnswersAreShaped, AnswersAreUnique, AnswersExist, AnswersTellFaults};
+ghost use Rattle.meaning_answer.specs.laws.Commands.{AnswersAreShaped, AnswersAreUnique, AnswersExist, AnswersTellFaults, PlainAnswersAreRight};
 
-/// Each command has exactly one answer over given files, with the shape of what it asks for and of its ending. It
-/// is a usage line exactly where the words are at fault.
+/// Each command has exactly one answer over given files, with the shape of what it asks for and of its ending, and it is
+/// what the plain program answers. It is a usage line exactly where the words are at fault.
 pub fn each_command_has_one_answer()
     ensures exist { AnswersExist }
     ensures unique { AnswersAreUnique }
+    ensures plain { PlainAnswersAreRight }
     ensures shaped { AnswersAreShaped }
     ensures faults { AnswersTellFaults }
 {}
@@ -16,6 +17,7 @@ pub fn each_command_has_one_answer()
 /// Small commands, from their words and files to their texts.
 pub fn worked_examples()
     ensures answers { AnswerExamples }
+    ensures parsing { ParsingExamples }
     ensures requests { RequestExamples }
     ensures expanded { ExpandExamples }
 {}

@@ -1,32 +1,39 @@
 -- Worked examples: small commands and files, with their answers.
-use Rattle.std.specs.Prelude.{◌≡◌, ℕ, List, [], ◌∷◌, ◌++◌, codes, map, Some, None}
+use Rattle.std.specs.Prelude.{◌≡◌, ℕ, List, [], ◌∷◌, ◌++◌, codes, map, Option, Some, None}
 use Rattle.vocabulary.specs.declared.class.Class.{Class}
 use Rattle.vocabulary.specs.declared.class.Class.TheVariants.{AddressSpace, Bitwise, Context, NonPointerNull, Undef}
 use Rattle.vocabulary.specs.Rules.{default_classes}
 use Rattle.meaning_outside.specs.Files.{FileMap}
 use Rattle.meaning_conditions.specs.plain.Reading.{answer_of}
-use Rattle.meaning_preprocessing.specs.Unit.{PreprocessedUnit, unit_in, unit_limits}
+use Rattle.vocabulary.specs.declared.limit.LimitKind.TheVariants.{Parameters}
+use Rattle.meaning_derivation.specs.State.{PassesLimit}
+use Rattle.meaning_preprocessing.specs.Unit.{Ends, PreprocessedUnit, unit_in, unit_limits}
 use Rattle.meaning_preprocessing.specs.Unit as preprocessing
 use Rattle.meaning_preprocessing.specs.examples.Rows.{main_path, files_of, plain_options, unit_among}
 use Rattle.meaning_answer.specs.Reply.{Reply, Clean, Warned, Refused, Usage, ReadFault, WriteFault, NoMemory, Limit, status_of, silence, line}
 use Rattle.meaning_answer.specs.Requests.{Options, Request, BadWord, MissingFile, Check, Expand, request_of}
+use Rattle.meaning_answer.specs.Lines.{refusal_reply}
 use Rattle.meaning_answer.specs.Answers.{expand_reply}
 use Rattle.meaning_answer.specs.plain.Replying.{end_reply, reply_to}
 
+-- how many steps within one another parsing an example may make
+abbrev pub enough : ℕ
+enough = 400
+
 -- the reply to a check of a unit
-abbrev pub checked_unit : List Class → PreprocessedUnit → Reply
-checked_unit classes unit = end_reply classes unit.tokens unit.end
+abbrev pub checked_unit : List Class → PreprocessedUnit → Option Reply
+checked_unit classes unit = end_reply enough classes unit.tokens unit.end
 
 -- to a check of `t.c` where it has this text
-abbrev pub checked : List ℕ → Reply
+abbrev pub checked : List ℕ → Option Reply
 checked text = checked_unit default_classes (unit_among unit_limits plain_options [] text)
 
 -- with the class of undefined identifiers on too
-abbrev pub checked_undefined : List ℕ → Reply
+abbrev pub checked_undefined : List ℕ → Option Reply
 checked_undefined text = checked_unit (Undef ∷ default_classes) (unit_among unit_limits plain_options [] text)
 
 -- beside a header `k.h`
-abbrev pub checked_with : List ℕ → List ℕ → Reply
+abbrev pub checked_with : List ℕ → List ℕ → Option Reply
 checked_with header text = checked_unit default_classes (unit_among unit_limits plain_options ((codes "k.h", header) ∷ []) text)
 
 -- where `t.c` isn't there
@@ -41,9 +48,21 @@ expanded text = let unit = unit_among unit_limits plain_options [] text in expan
 abbrev pub out_of : List ℕ → Reply
 out_of text = record { out = text; err = []; ending = Clean }
 
+-- no text
+abbrev pub is_silent : Option Reply
+is_silent = Some silence
+
 -- this text on `err`
-abbrev pub warns : List ℕ → Reply
-warns text = record { out = []; err = text; ending = Warned }
+abbrev pub warns : List ℕ → Option Reply
+warns text = Some (record { out = []; err = text; ending = Warned })
+
+-- the line of an error
+abbrev pub refuses : List ℕ → Option Reply
+refuses text = Some (line Refused text)
+
+-- or of words at fault, whatever the files hold
+abbrev pub faults : List (List ℕ) → List ℕ → Type 0
+faults words text = (files : FileMap) → reply_to 0 words files ≡ Some (line Usage text)
 
 -- the flags of a pointer as kernel headers define them
 abbrev pub user_macro : List ℕ
@@ -54,26 +73,26 @@ pub record AnswerExamples : Type 0 where
   pub statuses :
       map status_of (Clean ∷ Warned ∷ Refused ∷ Usage ∷ ReadFault ∷ WriteFault ∷ NoMemory ∷ Limit ∷ [])
       ≡ 0 ∷ 1 ∷ 2 ∷ 3 ∷ 4 ∷ 5 ∷ 6 ∷ 7 ∷ []
-  pub empty : checked [] ≡ silence
-  pub definition : checked (codes "#define X 1") ≡ silence
-  pub number : checked (codes "#define X 1\nX") ≡ line Refused (codes "t.c:1:1: error[29]: form not built")
-  pub open_comment : checked (codes "/* a") ≡ line Refused (codes "t.c:1:1: error[3]: unterminated comment")
-  pub open_literal : checked (codes "char *s = \"a") ≡ line Refused (codes "t.c:1:11: error[4]: unterminated literal")
+  pub empty : checked [] ≡ is_silent
+  pub definition : checked (codes "#define X 1") ≡ is_silent
+  pub not_in_the_form : checked (codes "int x;") ≡ refuses (codes "t.c:1:1: error[29]: form not built")
+  pub open_comment : checked (codes "/* a") ≡ refuses (codes "t.c:1:1: error[3]: unterminated comment")
+  pub open_literal : checked (codes "char *s = \"a") ≡ refuses (codes "t.c:1:11: error[4]: unterminated literal")
   -- `L` is a token, so that the literal opens behind it
-  pub prefixed : checked (codes "L\"a") ≡ line Refused (codes "t.c:1:2: error[4]: unterminated literal")
+  pub prefixed : checked (codes "L\"a") ≡ refuses (codes "t.c:1:2: error[4]: unterminated literal")
   -- errors of preprocessing go before the form
-  pub opening_first : checked (codes "x + 'a") ≡ line Refused (codes "t.c:1:5: error[4]: unterminated literal")
-  pub directive_first : checked (codes "x\n#error a  b") ≡ line Refused (codes "t.c:2:1: error[17]: #error a b")
-  pub comments : checked (codes "/* nothing */ // at all") ≡ silence
-  pub declared_twice : checked (codes "extern int x; extern int x;") ≡ line Refused (codes "t.c:1:1: error[29]: form not built")
-  pub missing : checked_unit default_classes unit_without ≡ line Refused (codes "ksparse: error[1]: no such file: t.c")
-  pub no_header : checked (codes "#include \"no.h\"") ≡ line Refused (codes "t.c:1:10: error[2]: include not found: no.h")
-  pub header_error : checked_with (codes "\n #foo") (codes "x\n#include \"k.h\"") ≡ line Refused (codes "k.h:2:2: error[9]: unknown directive")
-  pub no_word : (files : FileMap) → reply_to [] files ≡ line Usage (codes "ksparse: missing file")
-  pub option : (files : FileMap) → reply_to (codes "-Wfoo" ∷ codes "t.c" ∷ []) files ≡ line Usage (codes "ksparse: bad word: -Wfoo")
-  pub command : (files : FileMap) → reply_to (codes "eval" ∷ []) files ≡ line Usage (codes "ksparse: bad word: eval")
-  pub generator : (files : FileMap) → reply_to (codes "gen" ∷ codes "4" ∷ []) files ≡ line Usage (codes "ksparse: bad word: gen")
-  pub second_file : (files : FileMap) → reply_to (codes "t.c" ∷ codes "u.c" ∷ []) files ≡ line Usage (codes "ksparse: bad word: u.c")
+  pub opening_first : checked (codes "x + 'a") ≡ refuses (codes "t.c:1:5: error[4]: unterminated literal")
+  pub directive_first : checked (codes "x\n#error a  b") ≡ refuses (codes "t.c:2:1: error[17]: #error a b")
+  pub comments : checked (codes "/* nothing */ // at all") ≡ is_silent
+  pub declared_twice : checked (codes "extern int x; extern int x;") ≡ refuses (codes "t.c:1:1: error[29]: form not built")
+  pub missing : checked_unit default_classes unit_without ≡ refuses (codes "ksparse: error[1]: no such file: t.c")
+  pub no_header : checked (codes "#include \"no.h\"") ≡ refuses (codes "t.c:1:10: error[2]: include not found: no.h")
+  pub header_error : checked_with (codes "\n #foo") (codes "x\n#include \"k.h\"") ≡ refuses (codes "k.h:2:2: error[9]: unknown directive")
+  pub no_word : faults [] (codes "ksparse: missing file")
+  pub option : faults (codes "-Wfoo" ∷ codes "t.c" ∷ []) (codes "ksparse: bad word: -Wfoo")
+  pub command : faults (codes "eval" ∷ []) (codes "ksparse: bad word: eval")
+  pub generator : faults (codes "gen" ∷ codes "4" ∷ []) (codes "ksparse: bad word: gen")
+  pub second_file : faults (codes "t.c" ∷ codes "u.c" ∷ []) (codes "ksparse: bad word: u.c")
   pub space_lost :
       checked
       (codes "extern int *p;\n"
@@ -97,7 +116,7 @@ pub record AnswerExamples : Type 0 where
       (codes "k.h:2:18: warning: incorrect type in assignment (different address spaces)\n"
       ++ codes "k.h:2:18:    expected int *\n"
       ++ codes "k.h:2:18:    got int noderef *\n")
-  pub undefined_off : checked (codes "#if FOO\n#endif") ≡ silence
+  pub undefined_off : checked (codes "#if FOO\n#endif") ≡ is_silent
   pub undefined_on : checked_undefined (codes "#if FOO\n#endif") ≡ warns (codes "t.c:1:5: warning: undefined preprocessor identifier 'FOO'\n")
   -- they come first, each at its own token or at the outermost macro name
   pub undefined_first :
@@ -106,7 +125,33 @@ pub record AnswerExamples : Type 0 where
       (codes "t.c:5:5: warning: undefined preprocessor identifier 'a'\n"
       ++ codes "t.c:5:5: warning: undefined preprocessor identifier 'b'\n"
       ++ codes "t.c:3:16: warning: dereference of noderef expression\n")
-  pub classes_off : checked_unit (Bitwise ∷ Context ∷ NonPointerNull ∷ []) (unit_among unit_limits plain_options [] (codes "extern int __attribute__((noderef)) x;\nextern int y;\nvoid f(void) { x = y; }\n")) ≡ silence
+  pub classes_off : checked_unit (Bitwise ∷ Context ∷ NonPointerNull ∷ []) (unit_among unit_limits plain_options [] (codes "extern int __attribute__((noderef)) x;\nextern int y;\nvoid f(void) { x = y; }\n")) ≡ is_silent
+
+-- what parsing refuses
+pub record ParsingExamples : Type 0 where
+  pub unexpected : checked (codes "int f(void) { return 1 }") ≡ refuses (codes "t.c:1:24: error[20]: syntax error: unexpected '}'")
+  -- where the name of the macro stands
+  pub from_a_macro : checked (codes "#define X 1\nX") ≡ refuses (codes "t.c:2:1: error[20]: syntax error: unexpected '1'")
+  -- with the path of the file of its token
+  pub in_a_header : checked_with (codes "\n int )") (codes "#include \"k.h\"\n;") ≡ refuses (codes "k.h:2:6: error[20]: syntax error: unexpected ')'")
+  -- a digraph is told as it is spelled (6.4.6 p3)
+  pub digraph : checked (codes "int x %>") ≡ refuses (codes "t.c:1:7: error[20]: syntax error: unexpected '%>'")
+  -- the end of the file is told at its last token, whether that is the unexpected one's place or not
+  pub last_token : checked (codes "int x }") ≡ refuses (codes "t.c:1:7: error[20]: syntax error: unexpected '}'")
+  pub end_of_file : checked (codes "void f(void) {") ≡ refuses (codes "t.c:1:14: error[20]: syntax error: unexpected end of file")
+  pub behind_extension : checked (codes "int x __extension__") ≡ refuses (codes "t.c:1:7: error[20]: syntax error: unexpected end of file")
+  -- an action's refusal names the name at which it stands
+  pub undeclared : checked (codes "int f(void) { return x; }") ≡ refuses (codes "t.c:1:22: error[21]: 'x' is not declared")
+  pub redeclared : checked (codes "int x; typedef int x;") ≡ refuses (codes "t.c:1:20: error[22]: 'x' redeclared")
+  -- what isn't supported names nothing
+  pub unsupported : checked (codes "double d;") ≡ refuses (codes "t.c:1:1: error[30]: unsupported: floating type")
+  -- an error of preprocessing goes before, and one of the form behind
+  pub behind_preprocessing : checked (codes "int ) ;\n#error late") ≡ refuses (codes "t.c:2:1: error[17]: #error late")
+  pub before_the_form : checked (codes "int x; int }") ≡ refuses (codes "t.c:1:12: error[20]: syntax error: unexpected '}'")
+  -- a limit has no place
+  pub limit : refusal_reply (main_path ∷ []) [] (PassesLimit Parameters) 7 ≡ line Limit (codes "ksparse: limit: parameters")
+  -- with too few steps the plain program doesn't answer
+  pub too_few : end_reply 3 default_classes (unit_among unit_limits plain_options [] (codes "int x;")).tokens (Ends [] []) ≡ None
 
 -- what `-E` writes
 pub record ExpandExamples : Type 0 where

@@ -1,5 +1,5 @@
 -- What holds of the answer to each command.
-use Rattle.std.specs.Prelude.{◌≡◌, ℕ, List}
+use Rattle.std.specs.Prelude.{◌≡◌, ℕ, List, Some}
 use Rattle.meaning_outside.specs.Files.{FileMap}
 use Rattle.meaning_answer.specs.Reply.{Reply}
 use Rattle.meaning_answer.specs.Requests.{Request, BadWord, MissingFile, Check, Expand, request_of}
@@ -8,13 +8,18 @@ use Rattle.meaning_answer.specs.Shapes.{IsShapedFor}
 use Rattle.meaning_answer.specs.Answers.{IsAnswer}
 use Rattle.meaning_answer.specs.plain.Replying.{reply_to}
 
--- there is an answer, the one that the plain program computes
+-- there is an answer
 abbrev pub AnswersExist : Type 0
-AnswersExist = (words : List (List ℕ)) (files : FileMap) → IsAnswer words files (reply_to words files)
+AnswersExist = (words : List (List ℕ)) (files : FileMap) → (reply : Reply) × IsAnswer words files reply
 
 -- and no other
 abbrev pub AnswersAreUnique : Type 0
-AnswersAreUnique = (words : List (List ℕ)) (files : FileMap) (reply : Reply) → IsAnswer words files reply → reply ≡ reply_to words files
+AnswersAreUnique =
+    (words : List (List ℕ)) (files : FileMap) (first second : Reply) → IsAnswer words files first → IsAnswer words files second → first ≡ second
+
+-- what the plain program answers is it
+abbrev pub PlainAnswersAreRight : Type 0
+PlainAnswersAreRight = (depth : ℕ) (words : List (List ℕ)) (files : FileMap) (reply : Reply) → reply_to depth words files ≡ Some reply → IsAnswer words files reply
 
 -- each answer has the shape of what was asked and of its ending: a usage line stands exactly where the words are
 -- at fault

@@ -14,7 +14,7 @@ use Rattle.ksparse.proofs.examples.worked_examples.Goals as goal
 pub returns : goal.returns
 unfolding digits front_of punctuator_of punctuators plain_punctuators digraphs kind_in within expansion reader is_name is_keyword is_reserved is_space_id is_space_name is_space_number is_predefined_macro read_up_to read_many read_noderef read_space read_word read_further_word read_word_list read_attribute read_stars read_object read_assignment read_assignment_through read_address_assignment read_statement read_opening read_function read_item read_items read_unit
 returns c =
-    let safe = silent_unit_is_safe c.silence_is_safe.ensures in
+    let safe = silent_unit_is_safe c.silence_is_safe.ensures 400 in
     let unsafe = faulty_unit_is_unsafe c.faults_are_unsafe.ensures in
     record {
       empty = safe _ refl;

@@ -21,7 +21,7 @@ returns-clause-answers c = record {
   statuses = refl;
   empty = refl;
   definition = refl;
-  number = refl;
+  not_in_the_form = refl;
   open_comment = refl;
   open_literal = refl;
   prefixed = refl;
@@ -44,6 +44,25 @@ returns-clause-answers c = record {
   undefined_on = refl;
   undefined_first = refl;
   classes_off = refl;
+}
+
+pub returns-clause-parsing : goal.returns-clause-parsing
+unfolding opened
+returns-clause-parsing c = record {
+  unexpected = refl;
+  from_a_macro = refl;
+  in_a_header = refl;
+  digraph = refl;
+  last_token = refl;
+  end_of_file = refl;
+  behind_extension = refl;
+  undeclared = refl;
+  redeclared = refl;
+  unsupported = refl;
+  behind_preprocessing = refl;
+  before_the_form = refl;
+  limit = refl;
+  too_few = refl;
 }
 
 pub returns-clause-expanded : goal.returns-clause-expanded

@@ -1,0 +1,17 @@
+use Rattle.std.proofs.Common.{◌∙◌}
+use Rattle.std.proofs.lemmas.Result.{IfOk-weaker}
+use Rattle.c_tokens.specs.Seen.{toks_of}
+use Rattle.ksparse.specs.Written.{paths_of}
+use Rattle.ksparse.proofs.ParsingLemmas.{error_told}
+use Rattle.ksparse.proofs.parsing.tell_error.Goals as goal
+
+pub returns : goal.returns
+returns c =
+    let names = c.args.names.now in
+    let toks = c.args.toks.now in
+    IfOk-weaker c.error.result _ _
+    (λ written is.
+    is
+    ∙ error_told (paths_of names toks.files) (toks_of names toks.tokens) c.args.kind c.args.token c.path_in.result.now c.refusal_place.result c.named_word.result.now
+    c.path_in.ensures (c.refusal_place.ensures names) c.named_word.ensures)
+    c.error.ensures

@@ -1,6 +1,7 @@
 """Words and files to what a command writes and its status."""
 import rules
 
+from . import reading
 from .macros import Passed
 from .preprocessing import NoSuchFile, Refusal, Unit, text_of
 from .scanning import IS_WORD, Place
@@ -68,7 +69,11 @@ def line(paths, place, text):
 
 
 def checked(unit, classes):
-    """The status of the check of a unit, and its warnings."""
+    """The status of the check of a unit, and its warnings or the line of its refusal."""
+    refused = reading.refusal(unit.tokens)
+    if refused is not None:
+        at, text = refused
+        return REFUSED, line(unit.paths, unit.tokens[at].place, text.encode("latin-1"))
     undefined = [(place, b"warning: undefined preprocessor identifier '%b'" % name) for place, name in unit.undefined]
     try:
         found = rules.Reader(unit.tokens).unit()

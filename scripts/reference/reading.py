@@ -107,6 +107,8 @@ class Reader:
         self.enumerators = []
         self.bound = None
         self.awaited = None
+        # each symbol with the number of a row that was chosen
+        self.chosen = set()
 
     def found(self, name):
         return next((scope[name] for scope in reversed(self.scopes) if name in scope), None)
@@ -178,8 +180,9 @@ class Reader:
     def choose(self, symbol):
         self.heed_word(self.at)
         classes = self.classes(self.at)
-        for row, wanted in zip(ROWS[symbol], LOOKS[symbol]):
+        for number, (row, wanted) in enumerate(zip(ROWS[symbol], LOOKS[symbol])):
             if self.begins(row, wanted, classes):
+                self.chosen.add((symbol, number))
                 return row
         if "&&" in classes and any(wanted is not None and "!" in wanted for wanted in LOOKS[symbol]):
             self.stop(self.at, 34)
@@ -333,3 +336,13 @@ def refusal(tokens):
     except Unread as found:
         return found.args
     return None
+
+
+def chosen_rows(tokens):
+    """The rows that reading these chooses, each a symbol and the number of its row."""
+    reader = Reader(tokens)
+    try:
+        reader.read()
+    except Unread:
+        pass
+    return reader.chosen

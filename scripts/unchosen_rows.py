@@ -4,10 +4,11 @@
 usage: unchosen_rows.py
 
 Each file is preprocessed and read by `reference`, so a row counts that the grammar alone chooses, whatever the program does. Files
-with an error of preprocessing choose none. Exits 1 where a row is left.
+with an error of preprocessing choose none, nor do those that take more than a second here. Exits 1 where a row is left.
 """
 import glob
 import os
+import signal
 import sys
 
 import archives
@@ -32,23 +33,33 @@ def commands():
                     yield case.words, case.files
 
 
+class TooLong(Exception):
+    """A command takes more than a second."""
+
+
+def stop(*_):
+    raise TooLong
+
+
 def rows_of(words, files):
     """The rows that the unit of a command chooses."""
+    signal.setitimer(signal.ITIMER_REAL, 1)
     try:
         command = Command(words)
         unit = Unit(files, command.directories, command.lines)
         unit.preprocess(command.file)
-    except (BadWord, Refusal, NoSuchFile, Passed):
+        return chosen_rows(unit.tokens)
+    except (BadWord, Refusal, NoSuchFile, Passed, TooLong):
         return set()
-    return chosen_rows(unit.tokens)
+    finally:
+        signal.setitimer(signal.ITIMER_REAL, 0)
 
 
 def main():
+    signal.signal(signal.SIGALRM, stop)
     chosen = set()
     for words, files in commands():
-        # the largest files repeat what small ones choose
-        if sum(map(len, files.values())) < 100000:
-            chosen |= rows_of(words, files)
+        chosen |= rows_of(words, files)
     left = [(symbol, number) for symbol, rows in ROWS.items() for number in range(len(rows)) if (symbol, number) not in chosen]
     for symbol, number in left:
         print(f"{symbol}: row {number + 1}: {' '.join(name for kind, name in ROWS[symbol][number].items if kind != 'action') or '-'}")

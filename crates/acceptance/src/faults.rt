@@ -21,7 +21,10 @@ const ALONE: &[File] = &[("t.c", UNIT)];
 
 // A unit with three headers, which are loaded in the order `t.c`, `a.h`, `c.h`, `b.h`.
 const HEADED: &[File] = &[
-    ("t.c", "#include \"a.h\"\n#include \"b.h\"\nvoid f(void) { p = u; }\n"),
+    (
+        "t.c",
+        "#include \"a.h\"\n#include \"b.h\"\nvoid f(void) { p = u; }\n",
+    ),
     ("a.h", "#include \"c.h\"\nextern int *p;\n"),
     ("b.h", "extern int USER *u;\n"),
     ("c.h", "#define USER __attribute__((noderef))\n"),
@@ -82,7 +85,13 @@ const FAULTY: [Faulty; 7] = [
 #[test]
 fn faults_are_told(rt: HostRuntime) -> Result<(), Fail> {
     for faulty in &FAULTY {
-        let ran = run_with(rt.alloc(), faulty.words, faulty.files, faulty.failing, faulty.room)?;
+        let ran = run_with(
+            rt.alloc(),
+            faulty.words,
+            faulty.files,
+            faulty.failing,
+            faulty.room,
+        )?;
         assert_ran(&rt, faulty.case, &ran, faulty.exit, faulty.err.as_bytes());
     }
     Ok(())

@@ -6,12 +6,13 @@ usage: costs.py RT [CRATE..]
 
 It looks at /proc, as Linux has it, for the prover's processes below it: the proof of a crate, that of its tests, and
 its edits, which are tried in folders of their own. With names of crates the budgets of the whole aren't looked at.
+The gate prints the dearest rows too, so what a merge cost stands in its log.
 """
 import collections
 import os
 import subprocess
 import sys
-import time
+import threading
 
 from build import TOP, crates_below
 
@@ -45,20 +46,58 @@ def is_below(process, top, above):
     return process == top
 
 
-def sample(process):
-    """What a process of the prover works at, and its processor seconds so far, or None."""
-    try:
-        with open(f"/proc/{process}/cmdline", "rb") as line:
-            words = line.read().decode(errors="replace").split("\0")
-        with open(f"/proc/{process}/stat") as stat:
-            fields = stat.read().rsplit(")", 1)[1].split()
-        folder = os.readlink(f"/proc/{process}/cwd")
-    except OSError:
-        return None
+def seconds_of(process):
+    """The processor seconds of a process so far, and those of the ended ones that it began."""
+    with open(f"/proc/{process}/stat") as stat:
+        fields = stat.read().rsplit(")", 1)[1].split()
+    return sum(map(int, fields[11:15])) / TICKS
+
+
+def task_of(process):
+    """What a process of the prover works at, or None."""
+    with open(f"/proc/{process}/cmdline", "rb") as line:
+        words = line.read().decode(errors="replace").split("\0")
     if os.path.basename(words[0]) != "rattle" or "--crate-name" not in words:
         return None
-    part = "edits" if "rt-edit" in folder else "tests" if "--test" in words else "proof"
-    return (words[words.index("--crate-name") + 1], part), (int(fields[11]) + int(fields[12])) / TICKS
+    part = "edits" if "rt-edit" in os.readlink(f"/proc/{process}/cwd") else "tests" if "--test" in words else "proof"
+    return words[words.index("--crate-name") + 1], part
+
+
+class Meter:
+    """Looks twice a second at what the processes below this one have cost so far, until it is read."""
+
+    def __init__(self, top):
+        self.top = top
+        # the seconds of each process of the prover, with what it worked at; those of its own processes are in them once they ended
+        self.seconds = {}
+        self.ended = threading.Event()
+        self.thread = threading.Thread(target=self.watch, daemon=True)
+        self.thread.start()
+
+    def watch(self):
+        while not self.ended.wait(0.5):
+            above = parents()
+            for process in above:
+                if is_below(process, self.top, above):
+                    self.look(process)
+
+    def look(self, process):
+        try:
+            task = task_of(process)
+            if task:
+                self.seconds[process, task] = max(seconds_of(process), self.seconds.get((process, task), 0))
+        except OSError:
+            # it has ended meanwhile
+            pass
+
+    def costs(self):
+        """The processor minutes of each crate and part."""
+        self.ended.set()
+        self.thread.join()
+        costs = collections.Counter()
+        for (_, task), seconds in self.seconds.items():
+            costs[task] += seconds / 60
+        return costs
 
 
 def lines_of(crates):
@@ -78,24 +117,6 @@ def gate_words(rt):
     return [rt, "ci", *["--anew"] * ("--anew" in told.stdout + told.stderr)]
 
 
-def measured(words):
-    """The status of the gate, and the processor minutes of each crate and part."""
-    gate = subprocess.Popen([*gate_words(words[0]), *words[1:]])
-    last = {}
-    while gate.poll() is None:
-        above = parents()
-        for process in above:
-            if is_below(process, gate.pid, above):
-                found = sample(process)
-                if found:
-                    last[process, found[0]] = found[1]
-        time.sleep(0.5)
-    costs = collections.Counter()
-    for (_, key), seconds in last.items():
-        costs[key] += seconds / 60
-    return gate.returncode, costs
-
-
 def budgets(costs, is_whole):
     """Each cost with its budget, in minutes: what it is of, the cost, and the budget."""
     crates = sorted({crate for crate, _ in costs})
@@ -107,20 +128,38 @@ def budgets(costs, is_whole):
         yield "make run", sum(costs[crate, "proof"] for crate in run), OF_LINES_IN_RUN * lines_of(run)
 
 
-def main():
-    status, costs = measured(sys.argv[1:])
-    print("| Crate | Its proof | The proof of its tests | Its edits |\n|---|---|---|---|")
-    for crate in sorted({crate for crate, _ in costs}):
+def rows(costs):
+    """The crates with what each part of them cost, the dearest first, as rows of a table."""
+    of_crates = collections.Counter()
+    for (crate, _), minutes in costs.items():
+        of_crates[crate] += minutes
+    for crate, _ in of_crates.most_common():
         row = [f"{60 * costs[crate, part]:.0f}" if costs[crate, part] else "" for part in PARTS]
-        print(f"| `{crate}` | {' | '.join(row)} |")
+        yield f"| `{crate}` | {' | '.join(row)} |"
+
+
+def report(costs, is_whole):
+    """Prints what the whole cost, and what is above its budget; answers how much is."""
     above = 0
-    for name, minutes, budget in budgets(costs, not sys.argv[2:]):
+    for name, minutes, budget in budgets(costs, is_whole):
         if name in ("the whole", "make run"):
             print(f"costs: {name} takes {minutes:.1f} processor minutes of {budget:.1f}")
         if minutes > budget:
             print(f"costs: {name} is above its budget: {minutes:.1f} processor minutes of {budget:.1f}")
             above += 1
-    return status or (1 if above else 0)
+    return above
+
+
+def main():
+    rt, *crates = sys.argv[1:]
+    gate = subprocess.Popen([*gate_words(rt), *crates])
+    meter = Meter(gate.pid)
+    status = gate.wait()
+    costs = meter.costs()
+    print("| Crate | Its proof | The proof of its tests | Its edits |\n|---|---|---|---|")
+    for row in rows(costs):
+        print(row)
+    return status or (1 if report(costs, not crates) else 0)
 
 
 if __name__ == "__main__":

@@ -3,9 +3,11 @@
 
 usage: gate.py RT
 
-What rt ci prints is passed on unchanged. The last line is that of rt ci once more; the status is rt ci's, or 1 where
-the docs or the uses fail.
+What rt ci prints is passed on unchanged. Then come the crates that cost most, in processor seconds of their proof, their tests and
+their edits, and what is above its budget. The last line is that of rt ci once more; the status is rt ci's, or 1 where the docs or
+the uses fail.
 """
+import itertools
 import os
 import re
 import subprocess
@@ -13,12 +15,16 @@ import sys
 import threading
 import time
 
+import costs
+
 TOP = os.path.dirname(os.path.dirname(os.path.abspath(__file__)))
 PROGRAM = "crates/ksparse_cli/out/ksparse_cli"
 # How long, in seconds, nothing is said of what is left.
 QUIET = 60
 # So many names of what is left are shown.
 SHOWN = 6
+# So many of the dearest crates are shown.
+DEAREST = 8
 
 DONE = re.compile(r"rt: (\w+)(: its tests)? (?:proved|NOT PROVED|is kept)")
 EDITS = re.compile(r"rt: (\w+): trying its must-fail edits \((\d+)\)")
@@ -82,11 +88,12 @@ def remind(left, ended):
 
 
 def run_gate(rt):
-    """The status of rt ci, and its last line."""
+    """The status of rt ci, its last line, and what it cost."""
     left, ended, last = Left(), threading.Event(), ""
     left.say()
     threading.Thread(target=remind, args=(left, ended), daemon=True).start()
     gate = subprocess.Popen([rt, "ci"], cwd=TOP, stdout=subprocess.PIPE, text=True, errors="replace")
+    meter = costs.Meter(gate.pid)
     for line in gate.stdout:
         sys.stdout.write(line)
         sys.stdout.flush()
@@ -94,7 +101,13 @@ def run_gate(rt):
         last = line.rstrip("\n") or last
     status = gate.wait()
     ended.set()
-    return status, last
+    return status, last, meter.costs()
+
+
+def print_costs(found):
+    for row in itertools.islice(costs.rows(found), DEAREST):
+        print(f"costs: {row}")
+    costs.report(found, is_whole=True)
 
 
 def script(name, *words):
@@ -102,7 +115,8 @@ def script(name, *words):
 
 
 def main():
-    status, last = run_gate(sys.argv[1])
+    status, last, found = run_gate(sys.argv[1])
+    print_costs(found)
     failed = [name for name in ("docs.py",) if script(name)]
     program = os.path.join(TOP, PROGRAM)
     if not os.path.isfile(program):

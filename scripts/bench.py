@@ -4,13 +4,13 @@ libraries that no command makes yet.
 
 usage: bench.py PROGRAM WORKBENCH [FAMILY..]
 
-With families, as `macros`, `#if`, `headers` or `-E`, only these are measured.
+With families, as `macros`, `#if`, `headers`, `-E` or `parsing`, only these are measured.
 
 Prints for each file its bytes and tokens, the processor time of a check, also by the token, and the peak
 memory, also by the token where it is large. Where valgrind is installed, a column has the instructions by the
 token, above those of a check of an empty file: they don't depend on what else the machine does. They are
 counted on a smaller file of the same kind. A second table has those of each stage of a check, a third one has `-E` of files
-and their headers, and the calls, which WORKBENCH makes.
+and their headers, files that the grammar reads and no rule judges, and the calls, which WORKBENCH makes.
 
 Exits 1 where a file of the first form takes more than a tenth longer by the token than a smaller one does,
 once the smaller one takes long enough to be measured, or where a largest file takes more than five seconds; where a
@@ -360,9 +360,50 @@ def long_header(lines):
     return {b"t.c": including([b"h.h"]), b"h.h": b"a\n" * lines}
 
 
-class Expansion(NamedTuple):
-    """What `-E` is measured on: its name, the text of a size, or texts by their paths, the sizes, and the most seconds of the largest,
-    where that is asked, and how many times as long one of ten times the size may take.
+KERNEL_CODE = b"""static inline int take_%06d(struct device *dev, unsigned long flags)
+{
+	struct state *state = dev->state;
+	int error = 0, at;
+
+	if (!state || (flags & 0x10UL) == 0)
+		return -22;
+	for (at = 0; at < state->count; at++) {
+		if (state->entry[at].flags & flags)
+			error = state->run(dev, &state->entry[at], sizeof(state->entry));
+		if (error < 0)
+			goto out;
+	}
+	state->last = (unsigned long)dev >> 3;
+out:
+	return error ? error : at * 2;
+}
+"""
+
+
+def functions_of_a_kernel(functions):
+    """So many functions in the manner of a driver's."""
+    types = b"struct entry { unsigned long flags; };\n"
+    types += b"struct state { int count; struct entry entry[4]; int (*run)(void *, void *, unsigned long); unsigned long last; };\n"
+    return types + b"struct device { struct state *state; };\n" + b"".join(KERNEL_CODE % number for number in range(functions))
+
+
+def enumerators(count):
+    """An enumeration of so many."""
+    return b"enum { " + b"".join(b"e%06d, " % number for number in range(count)) + b"};"
+
+
+def words_before_declarators(count):
+    """So many specifiers, and as many declarators behind them."""
+    return b"const " * count + b"int a" + b", a" * count + b";"
+
+
+# How long a chain or a list is.
+LONG = (50000, 500000)
+
+
+class Family(NamedTuple):
+    """Files that the program is measured on: their name, the text of a size, or texts by their paths, the sizes, the most seconds
+    of the largest, how many times as long one of ten times the size may take, and the words before the file with the status.
     """
 
     name: str
@@ -370,6 +411,14 @@ class Expansion(NamedTuple):
     sizes: tuple
     most_seconds: float = MOST_SECONDS
     most_ratio: int = MOST_CALL_RATIO
+    words: tuple = ("-E",)
+    status: int = 0
+
+
+def of_parsing(name, before, front, middle, back, after, sizes):
+    """A text that the grammar reads and no rule judges: something again and again, and its end as often."""
+    make = lambda count: before + front * count + middle + back * count + after
+    return Family("parsing: " + name, make, sizes, words=(), status=2)
 
 
 class Call(NamedTuple):
@@ -476,21 +525,44 @@ CALLS = (
 )
 
 
-EXPANSIONS = (
-    Expansion("headers: in one another", headers_in_one_another, (20, 200)),
-    Expansion("headers: eight of spaces", headers_of_spaces, (8,), 1),
-    Expansion("headers: one with a guard", guarded_header, (300, 3000), MOST_GUARDED_SECONDS),
-    Expansion("headers: lines of one", long_header, (10000, 100000, 1000000)),
-    Expansion("-E: uses in functions", uses_in_functions, (1900, 19000)),
-    Expansion("-E: nested min", nested_min, (14,)),
-    Expansion("-E: definitions with uses", used_definitions, (1000, 10000, 100000)),
-    Expansion("-E: calls in lines", calls_in_lines, (1000, 10000, 100000)),
-    Expansion("-E: groups", groups, (1000, 10000, 100000)),
-    Expansion("-E: nested groups", nested_groups, (1000, 10000, 100000)),
-    Expansion("-E: lines of #if", conditions, (10000, 100000)),
-    Expansion("-E: nested calls", nested_calls, (1000, 10000, 100000)),
-    Expansion("-E: a chain", chain, (1000, 10000, 100000), most_ratio=MOST_CHAIN_RATIO),
-    Expansion("-E: tokens that vanish", tokens_that_vanish, (75,)),
+FAMILIES = (
+    Family("headers: in one another", headers_in_one_another, (20, 200)),
+    Family("headers: eight of spaces", headers_of_spaces, (8,), 1),
+    Family("headers: one with a guard", guarded_header, (300, 3000), MOST_GUARDED_SECONDS),
+    Family("headers: lines of one", long_header, (10000, 100000, 1000000)),
+    Family("-E: uses in functions", uses_in_functions, (1900, 19000)),
+    Family("-E: nested min", nested_min, (14,)),
+    Family("-E: definitions with uses", used_definitions, (1000, 10000, 100000)),
+    Family("-E: calls in lines", calls_in_lines, (1000, 10000, 100000)),
+    Family("-E: groups", groups, (1000, 10000, 100000)),
+    Family("-E: nested groups", nested_groups, (1000, 10000, 100000)),
+    Family("-E: lines of #if", conditions, (10000, 100000)),
+    Family("-E: nested calls", nested_calls, (1000, 10000, 100000)),
+    Family("-E: a chain", chain, (1000, 10000, 100000), most_ratio=MOST_CHAIN_RATIO),
+    Family("-E: tokens that vanish", tokens_that_vanish, (75,)),
+    Family("parsing: functions of a kernel", functions_of_a_kernel, (1000, 10000), words=(), status=2),
+    of_parsing("a chain of -", b"int a; int x = ", b"- ", b"a", b"", b";", LONG),
+    of_parsing("a sum", b"int a; int x = ", b"a + ", b"a", b"", b";", LONG),
+    of_parsing("assignments", b"int a; void f(void) { ", b"a = ", b"a", b"", b"; }", LONG),
+    of_parsing("casts", b"typedef int t; int a; int x = ", b"(t)", b"a", b"", b";", LONG),
+    of_parsing("subscripts", b"int a; int x = a", b"[1]", b"", b"", b";", LONG),
+    of_parsing("indirections", b"int *p; int x = ", b"*", b"p", b"", b";", LONG),
+    of_parsing("labels", b"void f(void) { ", b"x: ", b";", b"", b" }", LONG),
+    of_parsing("?: to the right", b"int a; int x = ", b"a ? a : ", b"a", b"", b";", (40000, 400000)),
+    of_parsing("else if", b"void f(void) { ", b"if (1) ; else ", b";", b"", b" }", (30000, 300000)),
+    of_parsing("statements", b"void f(void) { ", b";", b"", b"", b" }", LONG),
+    of_parsing("declarators", b"int a", b", a", b"", b"", b";", LONG),
+    of_parsing("members", b"struct { int a", b", b", b"", b"", b"; } x;", LONG),
+    of_parsing("initializers", b"int x[] = { ", b"1, ", b"", b"", b"};", LONG),
+    of_parsing("string literals", b"char x[] = ", b'"" ', b'""', b"", b";", LONG),
+    of_parsing("parentheses", b"int x = ", b"(", b"1", b")", b";", (400, 4000)),
+    of_parsing("bodies", b"void f(void) ", b"{", b"", b"}", b"", (3000, 30000)),
+    of_parsing("declarators in one another", b"int ", b"(", b"x", b")", b";", (3000, 30000)),
+    of_parsing("lists in one another", b"int x = ", b"{", b"1", b"}", b";", (3000, 30000)),
+    of_parsing("structures in one another", b"", b"struct { ", b"int y;", b" } x;", b"", (1300, 13000)),
+    of_parsing("if in if", b"void f(void) { ", b"if (1) ", b";", b"", b" }", (6000, 60000)),
+    Family("parsing: enumerators", enumerators, (50000, 500000), words=(), status=2),
+    Family("parsing: words before declarators", words_before_declarators, (20000, 200000), words=(), status=2),
 )
 
 
@@ -681,31 +753,31 @@ def has_its_answer(workbench, extreme):
     return False
 
 
-def expansion_grows_in_step(program, expansion):
-    """Whether `-E` takes only so many times as long where its size is ten times as large, and the largest no longer than it may.
+def family_grows_in_step(program, family):
+    """Whether a run takes only so many times as long where its size is ten times as large, and the largest no longer than it may.
     Prints its lines.
     """
-    checker = Checker(expansion.name, [program, "-E"], (0,))
+    checker = Checker(family.name, [program, *family.words], (family.status,))
     seconds, passed = {}, True
-    for size in expansion.sizes:
-        text = expansion.make(size)
-        counted = expansion.make(COUNTED_USES) if size > COUNTED_USES else text
-        seconds[size] = print_rows([checker], expansion.name, text, None if isinstance(text, dict) else counted)
+    for size in family.sizes:
+        text = family.make(size)
+        counted = family.make(COUNTED_USES) if size > COUNTED_USES else text
+        seconds[size] = print_rows([checker], family.name, text, None if isinstance(text, dict) else counted)
         before = seconds.get(size // 10)
-        if before is not None and seconds[size] > expansion.most_ratio * max(before, LEAST_CALL_SECONDS):
+        if before is not None and seconds[size] > family.most_ratio * max(before, LEAST_CALL_SECONDS):
             passed = False
-    return passed and seconds[expansion.sizes[-1]] <= expansion.most_seconds
+    return passed and seconds[family.sizes[-1]] <= family.most_seconds
 
 
 def calls_pass(program, workbench, families):
-    """Whether `-E` and the calls of these families, or of all, take no more than they may. Prints their lines."""
+    """Whether runs and calls of these families, or of all, take no more than they may. Prints their lines."""
 
     def is_asked(name):
         return not families or name.split(":")[0] in families
 
     passed = True
-    for expansion in EXPANSIONS:
-        if is_asked(expansion.name) and not expansion_grows_in_step(program, expansion):
+    for family in FAMILIES:
+        if is_asked(family.name) and not family_grows_in_step(program, family):
             passed = False
     if is_asked(DOUBLED.name) and not doubles_in_time(workbench):
         passed = False

@@ -9,7 +9,7 @@ WORKBENCH := build/workbench
 # Names with spaces, which a program's own run reads, are none for make.
 SOURCES := $(shell find crates crates.txt HANDLES -name out -prune -o -type f ! -name '* *' -print)
 
-.PHONY: all run test edits believe names docs costs bench fuzz rows compare headers smoke install clean kit
+.PHONY: all run test edits believe names docs costs bench fuzz rows forms compare headers smoke install clean kit
 
 all: $(PROGRAM)
 
@@ -48,6 +48,10 @@ believe:
 
 names:
 	@$(PYTHON) scripts/names.py
+
+# Rows of the grammar that no fixture and no case chooses
+forms:
+	@$(PYTHON) scripts/unchosen_rows.py
 
 docs:
 	@$(PYTHON) scripts/docs.py

@@ -23,7 +23,7 @@ import tempfile
 
 import compilers
 import rules
-from fuzz_units import check_commands, check_headers, check_tools, preprocesses, run
+from fuzz_units import check_commands, check_headers, check_readings, check_tools, preprocesses, run
 from made_units import Maker
 from reference.commands import answer
 
@@ -201,6 +201,7 @@ def main():
         passed = (
             check_first_form(program, folder, chance, count, has_macros)
             and (not has_macros or check_commands(program, folder, chance, count))
+            and check_readings(program, folder, chance, count)
             and check_tools(workbench, folder, chance, count)
             and check_headers(workbench, folder, chance, count)
             and check_expansions(folder, chance, count // 4)

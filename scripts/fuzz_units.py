@@ -3,6 +3,7 @@ import os
 import shutil
 import subprocess
 
+import made_readings
 import workbench_answers
 from made_attributes import attribute_lists, context_statements
 from made_units import Maker
@@ -157,5 +158,13 @@ def check_headers(workbench, folder, chance, count):
         return True
     for _ in range(count):
         if not same_answer(workbench, [b"preprocess", b"t.c"], folder, Maker(chance).files(), wanted_of_tool):
+            return False
+    return True
+
+
+def check_readings(program, folder, chance, count):
+    """Compares so many checks of units by the grammar and with slips; true where all are alike."""
+    for _ in range(count):
+        if not same_answer(program, [b"t.c"], folder, {b"t.c": made_readings.unit(chance)}, wanted_of_command):
             return False
     return True

@@ -1,7 +1,7 @@
 """Words and files to what a command writes and its status."""
 import rules
 
-from . import parsing
+from . import reading
 from .macros import Passed
 from .preprocessing import NoSuchFile, Refusal, Unit, text_of
 from .scanning import IS_WORD, Place
@@ -69,13 +69,14 @@ def line(paths, place, text):
 
 
 def checked(unit, classes):
-    """The status of the check of a unit, and its warnings, or the line of what refuses it."""
+    """The status of the check of a unit, and its warnings or the line of its refusal."""
     try:
-        parsing.Parser(unit.tokens).parse()
-    except parsing.Refused as refusal:
-        return REFUSED, line(unit.paths, *refusal.args)
-    except parsing.Passed as passed:
+        refused = reading.refusal(unit.tokens)
+    except Passed as passed:
         return LIMIT, b"ksparse: limit: %b\n" % passed.args[0]
+    if refused is not None:
+        at, text = refused
+        return REFUSED, line(unit.paths, unit.tokens[at].place, text.encode("latin-1"))
     undefined = [(place, b"warning: undefined preprocessor identifier '%b'" % name) for place, name in unit.undefined]
     try:
         found = rules.Reader(unit.tokens).unit()

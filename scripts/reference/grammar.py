@@ -1,131 +1,244 @@
-"""The grammar as data: rows, looks, words and classes, taken out of the definitions of `meaning_grammar`."""
-import os
+"""The grammar of a unit (C11 6.5 to 6.9 with the GNU forms), a symbol a line, and the tokens with which each row may begin.
+
+A quoted word is a token; `-` is the empty row; a word in braces is something that the reader does there. Rows are tried in order:
+one is taken where the next token can begin it, an empty one where no other is; one that may be empty and has parts, where the next
+token can begin it or follow the symbol. A look in square brackets stands in place of that.
+"""
 import re
+from typing import NamedTuple
 
-SPECS = os.path.join(os.path.dirname(os.path.abspath(__file__)), "..", "..", "crates", "meaning_grammar", "specs")
+TEXT = """
+Unit = External Unit | -
+External = ';' | Assertion | {begin} Specifiers ExternalRest {end}
+ExternalRest = ';' | Declarator {bind} AttributeLists BodyOrMore
+BodyOrMore = {body} Body | Initial Further ';'
+Initial = '=' Initializer | -
+Further = ',' AttributeLists Declarator {bind} AttributeLists {note} Initial Further | -
+Specifiers = Storage Specifiers | Qualifier Specifiers | AttributeList Specifiers | TypeWord TypedSpecifiers
+    | Aggregate TypedSpecifiers | Enumeration TypedSpecifiers | Typeof TypedSpecifiers | tname TypedSpecifiers | -
+TypedSpecifiers = Storage TypedSpecifiers | Qualifier TypedSpecifiers | AttributeList TypedSpecifiers | TypeWord TypedSpecifiers | -
+Storage = 'typedef' {storage} | 'extern' {storage} | 'static' | 'auto' | 'register' | 'inline' | '_Noreturn'
+Qualifier = 'const' | 'volatile' | 'restrict'
+TypeWord = 'void' | 'char' | 'short' | 'int' | 'long' | 'signed' | 'unsigned' | '_Bool'
+Aggregate = 'struct' AttributeLists TagOrMembers | 'union' AttributeLists TagOrMembers
+TagOrMembers = name OptionalMembers | '{' Members '}'
+OptionalMembers = '{' Members '}' | -
+Members = Member Members | -
+Member = ';' | Assertion | {begin} Specifiers MemberDeclarators ';' {end}
+MemberDeclarators = MemberDeclarator FurtherMembers | -
+FurtherMembers = ',' MemberDeclarator FurtherMembers | -
+MemberDeclarator = ':' Conditional AttributeLists | Declarator {drop} Width AttributeLists
+Width = ':' Conditional | -
+Enumeration = 'enum' AttributeLists TagOrEnumerators
+TagOrEnumerators = name OptionalEnumerators | '{' Enumerator FurtherEnumerators '}'
+OptionalEnumerators = '{' Enumerator FurtherEnumerators '}' | -
+Enumerator = name {held} AttributeLists EnumeratorValue {enumerator}
+EnumeratorValue = '=' Conditional | -
+FurtherEnumerators = ',' NextEnumerator | -
+NextEnumerator = Enumerator FurtherEnumerators | -
+AttributeLists = AttributeList AttributeLists | -
+AttributeList = '__attribute__' '(' '(' Attribute FurtherAttributes ')' ')'
+FurtherAttributes = ',' Attribute FurtherAttributes | -
+Attribute = word AttributeArguments | -
+AttributeArguments = '(' {spare} Balanced {heed} ')' | -
+Balanced = '(' Balanced ')' Balanced | other Balanced | - [')']
+Typeof = 'typeof' '(' TypeofOperand ')'
+TypeofOperand = TypeName [START] | Expression
+TypeName = {begin} Specifiers AnyDeclarator {drop} {end}
+Declarator = {stars} Pointers Direct {declarator}
+Pointers = '*' PointerQualifiers {pointer} Pointers | -
+PointerQualifiers = Qualifier PointerQualifiers | AttributeList PointerQualifiers | -
+Direct = name {named} Suffixes | '(' AttributeLists Declarator ')' Suffixes
+Suffixes = '[' {bracket} ArraySize ']' {array} Suffixes | '(' {open} {list} Parameters ')' {ended} {function} Suffixes | -
+ArraySize = - [']'] | Assignment
+Parameters = - [')'] | Parameter FurtherParameters
+FurtherParameters = ',' NextParameter | -
+NextParameter = '...' | Parameter FurtherParameters
+Parameter = {count} {begin} Specifiers AnyDeclarator {parameter} AttributeLists {end}
+AnyDeclarator = {stars} Pointers AnyDirect {declarator}
+AnyDirect = name {named} Suffixes | {nameless} Suffixes [ANY] | '(' AttributeLists AnyDeclarator ')' Suffixes
+Initializer = '{' Initializers '}' | Assignment
+Initializers = InitializerItem FurtherInitializers | - ['}']
+FurtherInitializers = ',' Initializers | -
+InitializerItem = Designator FurtherDesignators '=' Initializer | Initializer
+Designator = '.' name | '[' Conditional {range} ']'
+FurtherDesignators = Designator FurtherDesignators | -
+Assertion = '_Static_assert' '(' Conditional ',' Strings ')' ';'
+Body = '{' {scope} Items '}' {leave}
+Items = Item Items | - ['}']
+Item = Statement [LABEL] | Assertion | Declaration [START] | Statement
+Declaration = {begin} Specifiers Declarators {end}
+Declarators = ';' | Declarator {bind} AttributeLists {note} Initial Further ';'
+Statement = name ':' Statement [LABEL] | 'case' Conditional {case} ':' Statement | 'default' ':' Statement | Body
+    | 'if' '(' Expression ')' Statement Else | 'switch' '(' Expression ')' Statement | 'while' '(' Expression ')' Statement
+    | 'do' Statement 'while' '(' Expression ')' ';' | 'for' {scope} '(' ForFirst OptionalExpression ';' OptionalExpression ')' Statement {leave}
+    | 'goto' {goto} name ';' | 'continue' ';' | 'break' ';' | 'return' OptionalExpression ';'
+    | '__context__' '(' {spare} Balanced {heed} ')' ';' | AttributeList AttributeLists ';' | OptionalExpression ';'
+Else = 'else' Statement | -
+ForFirst = Declaration [START] | OptionalExpression ';'
+OptionalExpression = - [';' ')'] | Expression
+Expression = Assignment CommaTail
+CommaTail = ',' Assignment CommaTail | -
+Assignment = Conditional AssignmentTail
+AssignmentTail = AssignmentOperator Assignment | -
+AssignmentOperator = '=' | '*=' | '/=' | '%=' | '+=' | '-=' | '<<=' | '>>=' | '&=' | '^=' | '|='
+Conditional = Or ConditionalTail
+ConditionalTail = '?' Middle ':' Conditional | -
+Middle = - [':'] | Expression
+Or = And OrTail
+OrTail = '||' And OrTail | -
+And = BitOr AndTail
+AndTail = '&&' BitOr AndTail | -
+BitOr = BitXor BitOrTail
+BitOrTail = '|' BitXor BitOrTail | -
+BitXor = BitAnd BitXorTail
+BitXorTail = '^' BitAnd BitXorTail | -
+BitAnd = Equality BitAndTail
+BitAndTail = '&' Equality BitAndTail | -
+Equality = Order EqualityTail
+EqualityTail = '==' Order EqualityTail | '!=' Order EqualityTail | -
+Order = Shift OrderTail
+OrderTail = '<' Shift OrderTail | '>' Shift OrderTail | '<=' Shift OrderTail | '>=' Shift OrderTail | -
+Shift = Sum ShiftTail
+ShiftTail = '<<' Sum ShiftTail | '>>' Sum ShiftTail | -
+Sum = Product SumTail
+SumTail = '+' Product SumTail | '-' Product SumTail | -
+Product = Cast ProductTail
+ProductTail = '*' Cast ProductTail | '/' Cast ProductTail | '%' Cast ProductTail | -
+Cast = '(' TypeName ')' CastOperand [TYPED] | Unary
+CastOperand = Braced PostfixTail | Cast
+Braced = '{' Initializers '}'
+Unary = '&' Cast | '*' Cast | '+' Cast | '-' Cast | '~' Cast | '!' Cast | '++' Unary | '--' Unary | 'sizeof' SizeofOperand
+    | '_Alignof' '(' TypeName ')' | Primary PostfixTail
+SizeofOperand = '(' TypeName ')' SizeofRest [TYPED] | Unary
+SizeofRest = Braced PostfixTail | -
+PostfixTail = '[' Expression ']' PostfixTail | '(' {list} Arguments ')' {ended} PostfixTail | '.' name PostfixTail | '->' name PostfixTail
+    | '++' PostfixTail | '--' PostfixTail | -
+Arguments = - [')'] | {count} Assignment FurtherArguments
+FurtherArguments = ',' {count} Assignment FurtherArguments | -
+Primary = ident {use} | number | character | Strings | '(' ParenthesizedRest
+    | '__builtin_expect' '(' Assignment ',' Assignment ')' | '__builtin_offsetof' '(' TypeName ',' name OffsetofTail ')'
+OffsetofTail = '.' name OffsetofTail | '[' Expression ']' OffsetofTail | -
+ParenthesizedRest = Body ')' | Expression ')'
+Strings = string FurtherStrings
+FurtherStrings = string FurtherStrings | -
+"""
+
+# Classes of tokens that no spelling is, and the end.
+END = "end"
+CLASSES = {"name", "ident", "tname", "word", "other", "number", "character", "string", END}
+ITEM = re.compile(r"'(?P<token>[^']+)'|\{(?P<action>\w+)\}|\[(?P<look>[^\]]*(?:'\]'[^\]]*)?)\](?!')|(?P<symbol>[A-Za-z]\w*)|(?P<empty>-)(?!>)")
 
 
-def definition(name):
-    """The text of a module without its comments."""
-    with open(os.path.join(SPECS, f"{name}.antt"), encoding="utf-8") as file:
-        return "".join(line for line in file if not line.strip().startswith("--"))
+class Row(NamedTuple):
+    """The items of a row: tokens and classes, symbols, and actions in braces; and its own look, where it has one."""
+
+    items: tuple
+    look: str
 
 
-def bare(text):
-    """The text without parentheses around all of it."""
-    text = text.strip()
-    while text.startswith("("):
-        depth = 0
-        for at, byte in enumerate(text):
-            depth += (byte == "(") - (byte == ")")
-            if not depth:
-                break
-        if at < len(text) - 1:
-            return text
-        text = text[1:-1].strip()
-    return text
-
-
-def listed(text):
-    """The elements of a list that is written with `∷`, without the empty list behind the last one."""
-    found, depth = [""], 0
-    for byte in text:
-        depth += (byte == "(") - (byte == ")")
-        if byte == "∷" and not depth:
-            found.append("")
-        else:
-            found[-1] += byte
-    return [it.strip() for it in found if it.strip() != "[]"]
-
-
-def equations(module, name):
-    """What a function of a symbol says of each symbol."""
-    found = {}
-    for symbol, one_line, lines in re.findall(rf"^{name} (\w+) =(?: (.+)|\n((?:    .*\n)+))", definition(module), re.MULTILINE):
-        found[symbol] = one_line or " ".join(lines.split())
-    return found
-
-
-def class_lists():
-    """The lists of classes by name."""
-    found = {}
-    for name, text in re.findall(r"^(\w+) = (.*)$", definition("ClassLists"), re.MULTILINE):
-        found[name] = classes_in(text, found)
-    return found
-
-
-def classes_in(text, named):
-    """The classes of a list, whose parts are classes and names of lists."""
+def rows_of(text):
     found = []
-    for word in re.findall(r"\w+", text):
-        found += named.get(word, [word])
+    for row in re.split(r" \| ", text):
+        items, look = [], None
+        for item in ITEM.finditer(row):
+            if item["token"]:
+                items.append(("token", item["token"]))
+            elif item["action"]:
+                items.append(("action", item["action"]))
+            elif item["look"] is not None:
+                look = item["look"].strip()
+            elif item["symbol"]:
+                items.append(("token" if item["symbol"] in CLASSES else "symbol", item["symbol"]))
+        found.append(Row(tuple(items), look))
     return found
 
 
-CLASSES = class_lists()
+def grammar():
+    """The rows of each symbol."""
+    lines = re.sub(r"\n    \| ", " | ", TEXT.strip()).split("\n")
+    return {symbol: rows_of(rows) for symbol, rows in (line.split(" = ", 1) for line in lines)}
 
 
-def item(text):
-    head, _, operand = bare(text).partition(" ")
-    return head, bare(operand)
+ROWS = grammar()
+assert all(name in ROWS for rows in ROWS.values() for row in rows for kind, name in row.items if kind == "symbol")
 
 
-def look(text):
-    """A look, as a test of the next two classes."""
-    head, _, operands = bare(text).partition(" ")
-    if head == "Either":
-        parts = re.match(r"(\((?:[^()]|\([^()]*\))*\)) (\(.*\))$", operands.strip())
-        one, other = look(parts[1]), look(parts[2])
-        return lambda first, second: one(first, second) or other(first, second)
-    if head in ("Then", "ThenNot"):
-        wanted, _, behind = operands.strip().partition(" ")
-        seconds, is_among = classes_in(behind, CLASSES), head == "Then"
-        return lambda first, second: first == wanted and (second in seconds) == is_among
-    among, is_among = classes_in(operands, CLASSES), head == "Begins"
-    return lambda first, second: (first in among) == is_among
+def parts(row):
+    return [item for item in row.items if item[0] != "action"]
 
 
-def rows():
-    """The rows of each symbol, each with its look."""
-    looks = {symbol: [look(it) for it in listed(text)] for symbol, text in equations("Looks", "looks").items()}
-    found = {}
-    for symbol, text in equations("Productions", "productions").items():
-        rows = [[] if it == "empty_row" else [item(part) for part in listed(bare(it))] for it in listed(text)]
-        found[symbol] = list(zip(looks[symbol], rows))
+def closed(step):
+    """What a step comes to that only adds to sets, once it adds no more."""
+    while step():
+        pass
+
+
+def nullable_symbols():
+    found = set()
+
+    def step():
+        before = len(found)
+        for symbol, rows in ROWS.items():
+            if any(all(kind == "symbol" and name in found for kind, name in parts(row)) for row in rows):
+                found.add(symbol)
+        return len(found) > before
+
+    closed(step)
     return found
 
 
-ROWS = rows()
+NULLABLE = nullable_symbols()
 
 
-def words():
-    """The class of each word that is more than a name, and the error that it is where it isn't supported."""
-    found, text = {}, definition("Words")
-    for class_, word in re.findall(r"\bkeyword (\w+) \(codes \"(\w+)\"\)", text):
-        found[word] = (class_, None)
-    for class_, word, alternate in re.findall(r"gnu_keyword (\w+) \(codes \"(\w+)\"\) \(codes \"(\w+)\"\)", text):
-        found.update((it, (class_, None)) for it in (word, f"__{alternate}", f"__{alternate}__"))
-    for class_, spellings in re.findall(r"words_spelled \(read_as (\w+)\) \((codes [^)]*)\)", text):
-        found.update((it, (class_, None)) for it in re.findall(r"\"(\w+)\"", spellings))
-    for error, spellings in re.findall(r"\+\+ unsupported (\w+) \(([^)]*)\)", text):
-        found.update((it, ("OtherToken", error)) for it in re.findall(r"\"(\w+)\"", spellings))
-    return {word.encode(): reading for word, reading in found.items()}
+def first_of(items, firsts):
+    """What items may begin with, and whether they may be empty."""
+    found = set()
+    for kind, name in items:
+        if kind == "token":
+            return found | {name}, False
+        found |= firsts[name]
+        if name not in NULLABLE:
+            return found, False
+    return found, True
 
 
-WORDS = words()
+def first_sets():
+    firsts = {symbol: set() for symbol in ROWS}
+
+    def step():
+        before = sum(map(len, firsts.values()))
+        for symbol, rows in ROWS.items():
+            for row in rows:
+                firsts[symbol] |= first_of(parts(row), firsts)[0]
+        return sum(map(len, firsts.values())) > before
+
+    closed(step)
+    return firsts
 
 
-def effects():
-    """How many values each action takes."""
-    found = {}
-    for action, takes in re.findall(r"^action_effect \(?(\w+).*= exchange (\[\]|\(.*?\)) ", definition("Sorts"), re.MULTILINE):
-        found[action] = len(listed(bare(takes))) if takes != "[]" else 0
-    return found
+FIRSTS = first_sets()
 
 
-TAKEN = effects()
+def follow_sets():
+    follows = {symbol: set() for symbol in ROWS}
+    follows["Unit"].add(END)
+
+    def step():
+        before = sum(map(len, follows.values()))
+        for symbol, rows in ROWS.items():
+            for row in rows:
+                items = parts(row)
+                for at, (kind, name) in enumerate(items):
+                    if kind == "symbol":
+                        behind, is_empty = first_of(items[at + 1 :], FIRSTS)
+                        follows[name] |= behind | (follows[symbol] if is_empty else set())
+        return sum(map(len, follows.values())) > before
+
+    closed(step)
+    return follows
 
 
-def choice(symbol, first, second):
-    """The row that two classes choose, or nothing."""
-    return next((row for holds, row in ROWS[symbol] if holds(first, second)), None)
+FOLLOWS = follow_sets()
+# What begins a type's specifiers.
+START = FIRSTS["Specifiers"]

@@ -34,7 +34,9 @@ fn unexpected(alloc: Global, token: &[u8]) -> Result<Vec<u8>, AllocError> {
 }
 
 const END_OF_FILE: Told = Told::Line("error[20]: syntax error: unexpected end of file");
+
 const UNEXPECTED_B: Told = Told::Line("error[20]: syntax error: unexpected 'b'");
+
 const B_IS_NOT_DECLARED: Told = Told::Line("error[21]: 'b' is not declared");
 
 // What a text with one byte in it is answered by.

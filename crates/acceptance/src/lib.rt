@@ -15,6 +15,8 @@ mod growth;
 #[cfg(test)]
 mod model;
 #[cfg(test)]
+mod nestings;
+#[cfg(test)]
 mod pairs;
 #[cfg(test)]
 mod run;

@@ -1,0 +1,384 @@
+"""What reading a unit's tokens by the grammar comes to: nothing, or the line of the token with which it doesn't go on."""
+import re
+
+from .grammar import CLASSES, END, FIRSTS, FOLLOWS, NULLABLE, ROWS, START, first_of, parts
+from .macros import Passed
+from .scanning import is_identifier, meant
+
+# Spellings with underscores that are taken for a keyword.
+GNU = ("const", "volatile", "restrict", "inline", "signed", "typeof", "attribute", "alignof")
+OF_GNU = {"attribute": "__attribute__", "alignof": "_Alignof"}
+ALIASES = {f"__{word}{end}".encode(): OF_GNU.get(word, word) for word in GNU for end in ("", "__")}
+
+UNSUPPORTED = {
+    30: (b"float", b"double"),
+    31: (b"asm", b"__asm", b"__asm__"),
+    35: (b"_Generic",),
+    36: (b"_Atomic",),
+    37: (b"_Complex",),
+    38: (b"_Thread_local",),
+    39: (b"__int128",),
+    40: (b"__label__",),
+    45: (b"__auto_type",),
+    46: (b"_Alignas",),
+    48: (b"_Pragma",),
+}
+NUMBER_OF_WORD = {word: number for number, words in UNSUPPORTED.items() for word in words}
+TEXTS = {
+    30: "floating type",
+    31: "inline assembly",
+    33: "nested function",
+    34: "computed goto",
+    35: "_Generic",
+    36: "_Atomic",
+    37: "_Complex",
+    38: "_Thread_local",
+    39: "__int128",
+    40: "__label__",
+    41: "universal character name",
+    42: "wide or UTF literal",
+    43: "case range",
+    44: "designator range",
+    45: "__auto_type",
+    46: "_Alignas",
+    47: "builtin",
+    48: "_Pragma",
+    49: "qualifier in array brackets",
+}
+TOKENS = {name for rows in ROWS.values() for row in rows for kind, name in row.items if kind == "token"} - CLASSES
+KEYWORDS = {word.encode() for word in TOKENS if re.fullmatch(r"[A-Za-z_]\w*", word)} | {b"_Imaginary"}
+IS_FLOATING = re.compile(rb"0[xX][0-9A-Fa-f]*[.pP].*|(?!0[xX]).*[.eE].*")
+
+
+# So many symbols may wait, and so many parameters or arguments may a list have.
+MOST_WAITING = 65536
+MOST_PARAMETERS = 255
+# Looks that ask for the token behind the next one as well.
+OF_TWO_TOKENS = ("LABEL", "TYPED", "ANY")
+
+
+class Unread(Exception):
+    """The reading ends here: the index of the token at which that stands, and the text."""
+
+
+def looks(symbol):
+    """For each row of a symbol the tokens before which it is taken; None: before any other."""
+    taken, found = set(), []
+    for row in ROWS[symbol]:
+        items = parts(row)
+        begins, is_empty = first_of(items, FIRSTS)
+        if row.look == "START":
+            wanted = START
+        elif row.look is not None and row.look.startswith("'"):
+            wanted = set(re.findall(r"'([^']+)'", row.look))
+        elif not items:
+            wanted = None
+        else:
+            wanted = begins | (FOLLOWS[symbol] if is_empty else set())
+        found.append(wanted if wanted is None else wanted - taken)
+        # where the second token matters, the first one may begin a later row too
+        if row.look not in OF_TWO_TOKENS:
+            taken |= wanted or set()
+    return found
+
+
+LOOKS = {symbol: looks(symbol) for symbol in ROWS}
+
+
+class Declarator:
+    """What was read of one: the token of its name, what stands next to the name, and what its own parameter list bound."""
+
+    def __init__(self, name):
+        self.name = name
+        self.first = None
+        self.parameters = {}
+
+
+class Reader:
+    """Reads tokens by the grammar, and knows what each name is bound to."""
+
+    def __init__(self, tokens):
+        self.last = len(tokens) - 1
+        self.places = [at for at, token in enumerate(tokens) if token.spelled != b"__extension__"]
+        self.tokens = [tokens[at] for at in self.places]
+        self.at = 0
+        self.is_spared = False
+        self.bodies = 0
+        self.scopes = [{}]
+        self.storage = []
+        self.stars = []
+        self.declarators = []
+        self.enumerators = []
+        self.bound = None
+        self.awaited = None
+        # each symbol with the number of a row that was chosen
+        self.chosen = set()
+        # how many parameters each open list has, and the token at which the first limit is passed, with its name
+        self.counts = []
+        self.limit = None
+
+    def found(self, name):
+        return next((scope[name] for scope in reversed(self.scopes) if name in scope), None)
+
+    def classes(self, at):
+        """The tokens of the grammar that this one is."""
+        if at >= len(self.tokens):
+            return {END}
+        token = self.tokens[at]
+        spelled = meant(token)
+        if spelled in (b"(", b")"):
+            return {spelled.decode()}
+        if re.fullmatch(rb"\.?[0-9].*", spelled, re.DOTALL):
+            return {"number", "other"}
+        if spelled.endswith((b"'", b'"')):
+            return {"character" if spelled.endswith(b"'") else "string", "other"}
+        if not is_identifier(token):
+            return {spelled.decode("latin-1"), "other"}
+        if spelled in ALIASES or spelled in KEYWORDS or self.unsupported(at) is not None:
+            return {ALIASES.get(spelled, spelled.decode()), "word", "other"}
+        return {"name", "word", "other", "tname" if self.found(spelled) == "typedef" else "ident"}
+
+    def unsupported(self, at):
+        """The number of the error if a token is a word or literal that no form takes."""
+        if at >= len(self.tokens):
+            return None
+        spelled = meant(self.tokens[at])
+        if spelled in NUMBER_OF_WORD:
+            return NUMBER_OF_WORD[spelled]
+        if spelled.endswith((b"'", b'"')):
+            return 42 if spelled[:1] not in b"'\"" else None
+        if re.fullmatch(rb"\.?[0-9].*", spelled, re.DOTALL):
+            return 30 if IS_FLOATING.fullmatch(spelled) else None
+        if is_identifier(self.tokens[at]):
+            if b"\\" in spelled:
+                return 41
+            if spelled.startswith(b"__builtin_") and spelled not in KEYWORDS:
+                return 47
+        return None
+
+    def stop(self, at, number, text=None):
+        place = self.places[at] if at < len(self.tokens) else self.last
+        raise Unread(place, f"error[{number}]: {text or 'unsupported: ' + TEXTS[number]}")
+
+    def heed_word(self, at):
+        """An unsupported word goes before all else that is decided at its token."""
+        number = None if self.is_spared else self.unsupported(at)
+        if number is not None:
+            self.stop(at, number)
+
+    def stop_at(self, at):
+        self.heed_word(at)
+        if at < len(self.tokens):
+            spelled = self.tokens[at].spelled.decode("latin-1")
+            self.stop(at, 20, f"syntax error: unexpected '{spelled}'")
+        self.stop(at, 20, "syntax error: unexpected end of file")
+
+    def begins(self, row, wanted, classes):
+        """Whether a row is taken before the next two tokens."""
+        behind = self.classes(self.at + 1)
+        if row.look == "LABEL":
+            return "name" in classes and ":" in behind
+        if row.look == "TYPED":
+            return "(" in classes and bool(START & behind)
+        if row.look == "ANY":
+            return "(" not in classes or bool((START - {"__attribute__"} | {")"}) & behind)
+        return wanted is None or bool(wanted & classes)
+
+    def choose(self, symbol):
+        classes = self.classes(self.at)
+        for number, (row, wanted) in enumerate(zip(ROWS[symbol], LOOKS[symbol])):
+            if self.begins(row, wanted, classes):
+                self.chosen.add((symbol, number))
+                return row
+        if "&&" in classes and any(wanted is not None and "!" in wanted for wanted in LOOKS[symbol]):
+            self.stop(self.at, 34)
+        # what a label begins with is taken, and reading ends at what stands in place of its colon
+        is_label = any(row.look == "LABEL" for row in ROWS[symbol]) and "name" in classes
+        return self.stop_at(self.at + 1 if is_label else self.at)
+
+    def pass_limit(self, name):
+        """A limit is told behind all that is decided at the next token."""
+        self.limit = self.limit or (self.at, name)
+
+    def read(self):
+        # what waits to be read; actions aren't counted
+        stack, waiting = [("symbol", "Unit")], 1
+        while stack:
+            kind, name = stack.pop()
+            if kind == "action":
+                getattr(self, "do_" + name)()
+                continue
+            if self.limit and self.at > self.limit[0]:
+                raise Passed(self.limit[1])
+            waiting -= 1
+            if kind == "symbol":
+                items = self.choose(name).items
+                stack.extend(reversed(items))
+                waiting += sum(kind != "action" for kind, _ in items)
+                if waiting > MOST_WAITING:
+                    self.pass_limit(b"parse stack")
+            else:
+                if name not in self.classes(self.at):
+                    self.stop_at(self.at)
+                self.heed_word(self.at)
+                self.at += 1
+        if self.at < len(self.tokens):
+            self.stop_at(self.at)
+        if self.limit:
+            raise Passed(self.limit[1])
+
+    def next_is(self, *spelled):
+        return self.at < len(self.tokens) and bool(self.classes(self.at) & set(spelled))
+
+    def stop_where(self, number, *spelled):
+        if self.next_is(*spelled):
+            self.stop(self.at, number)
+
+    # Specifiers: the words of storage in them.
+
+    def do_begin(self):
+        self.storage.append(set())
+
+    def do_end(self):
+        self.storage.pop()
+
+    def do_storage(self):
+        self.storage[-1].add(meant(self.tokens[self.at - 1]))
+
+    # Declarators: what stands next to the name is what is declared.
+
+    def do_stars(self):
+        self.stars.append(0)
+
+    def do_pointer(self):
+        self.stars[-1] += 1
+
+    def do_named(self):
+        self.declarators.append(Declarator(self.at - 1))
+
+    def do_nameless(self):
+        self.declarators.append(Declarator(None))
+
+    def do_bracket(self):
+        self.stop_where(49, "const", "volatile", "restrict", "static")
+
+    def do_array(self):
+        self.declarators[-1].first = self.declarators[-1].first or "array"
+
+    def do_open(self):
+        self.scopes.append({})
+
+    def do_function(self):
+        bound = self.scopes.pop()
+        declarator = self.declarators[-1]
+        if declarator.first is None:
+            declarator.first, declarator.parameters = "function", bound
+
+    def do_declarator(self):
+        if self.stars.pop() and self.declarators[-1].first is None:
+            self.declarators[-1].first = "pointer"
+
+    def do_drop(self):
+        self.declarators.pop()
+
+    # Lists of parameters and of arguments
+
+    def do_list(self):
+        self.counts.append(0)
+
+    def do_count(self):
+        self.counts[-1] += 1
+        if self.counts[-1] > MOST_PARAMETERS:
+            self.pass_limit(b"parameters")
+
+    def do_ended(self):
+        self.counts.pop()
+
+    # Names: in one scope a typedef may be declared again as one, and what has linkage as such.
+
+    def declare(self, at, kind):
+        name = meant(self.tokens[at])
+        old = self.scopes[-1].get(name)
+        if old is not None and (old != kind or kind not in ("typedef", "linked")):
+            self.stop(at, 22, f"'{name.decode('latin-1')}' redeclared")
+        self.scopes[-1][name] = kind
+
+    def do_bind(self):
+        self.bound = self.declarators.pop()
+        is_linked = len(self.scopes) == 1 or b"extern" in self.storage[-1] or self.bound.first == "function"
+        kind = "typedef" if b"typedef" in self.storage[-1] else "linked" if is_linked else "unlinked"
+        self.declare(self.bound.name, kind)
+
+    def do_parameter(self):
+        declarator = self.declarators.pop()
+        if declarator.name is not None:
+            self.declare(declarator.name, "unlinked")
+
+    def do_held(self):
+        self.enumerators.append(self.at - 1)
+
+    def do_enumerator(self):
+        self.declare(self.enumerators.pop(), "enumerator")
+
+    def do_use(self):
+        name = meant(self.tokens[self.at - 1])
+        if self.found(name) is None:
+            self.stop(self.at - 1, 21, f"'{name.decode('latin-1')}' is not declared")
+
+    # Bodies
+
+    def do_note(self):
+        if self.bodies and self.bound.first == "function":
+            self.stop_where(33, "{")
+
+    def do_body(self):
+        self.awaited = self.bound.parameters
+
+    def do_scope(self):
+        self.scopes.append(self.awaited or {})
+        self.awaited = None
+        self.bodies += 1
+
+    def do_leave(self):
+        self.scopes.pop()
+        self.bodies -= 1
+
+    # Forms that are told by what was expected
+
+    def do_goto(self):
+        self.stop_where(34, "*")
+
+    def do_case(self):
+        self.stop_where(43, "...")
+
+    def do_range(self):
+        self.stop_where(44, "...")
+
+    # The arguments of attributes and of contexts may hold any word.
+
+    def do_spare(self):
+        self.is_spared = True
+
+    def do_heed(self):
+        self.is_spared = False
+
+
+def refusal(tokens):
+    """The index of the token at which reading these ends, and the text of the error; None if they are read. A limit that is passed
+    is told as those of macros are.
+    """
+    try:
+        Reader(tokens).read()
+    except Unread as found:
+        return found.args
+    return None
+
+
+def chosen_rows(tokens):
+    """The rows that reading these chooses, each a symbol and the number of its row."""
+    reader = Reader(tokens)
+    try:
+        reader.read()
+    except (Unread, Passed):
+        pass
+    return reader.chosen

@@ -10,6 +10,7 @@ use Rattle.vocabulary.specs.declared.role.Role.TheVariants.{TypePart}
 use Rattle.vocabulary.specs.declared.limit.LimitKind.TheVariants.{Nodes}
 use Rattle.vocabulary.specs.declared.node_kind.NodeKind.TheVariants as kinds
 use Rattle.meaning_tree.specs.Trees.{SyntaxTree, Parts, NoParts, Part, with_parts}
+use Rattle.meaning_tree.proofs.Listing.{with_parts-NoParts}
 use Rattle.meaning_grammar.specs.Sorts.{Sort, AWord, AList, action_effect, effect}
 use Rattle.meaning_derivation.specs.Values.{Value, WordValue, TreeValue, ListValue, sort_of, sorts_of, value_at, token_of, text_of, parts_of, plain_tree, named_tree}
 use Rattle.meaning_derivation.specs.State.{State, Fault, PassesLimit, ActionOutcome, Goes, Refuses, made, made_as, made_list, most_nodes, with_value, with_values}
@@ -21,6 +22,7 @@ use Rattle.parse_state.specs.declared.fault.ActionFault.TheVariants.{Refused, Li
 use Rattle.parse_state.specs.Joining.{EndsInLists, word_at}
 use Rattle.parse_state.specs.Sources.{IsCovered, parts_given}
 use Rattle.parse_state.specs.Steps.{IsToldBy}
+use Rattle.parse_state.proofs.Covering.{covered}
 use Rattle.parse_state.proofs.Fitting.{fit}
 
 -- Values of the sorts that an action takes
@@ -189,20 +191,31 @@ leading_covers values finds = one_list values (two_lists values finds)
     one_list (WordValue token text ∷ stack) is = absurd (cc is)
     one_list (TreeValue tree ∷ stack) is = absurd (cc is)
 
+pub both_cover : (values : List Value) → IsSome (effect (Do AppendLeadingAttributes) (sorts_of values)) → IsCovered values 2 (AllTrees 1 ∷ AllTrees 0 ∷ [])
+both_cover values finds = covered values 2 (AList ∷ AList ∷ []) (AllTrees 1 ∷ AllTrees 0 ∷ []) (two_lists values finds) refl
+
+-- an empty list on another one leaves that one
 pub no_leading : (s : State) → IsSome (effect (Do AppendLeadingAttributes) (sorts_of s.values)) → part_count (parts_of (below s 0)) ≡ 0
-    → act AppendLeadingAttributes s ≡ Goes (with_values s (drop 1 s.values))
+    → act AppendLeadingAttributes s ≡ Goes (with_value s 2 (ListValue (parts_given s.values (AllTrees 1 ∷ AllTrees 0 ∷ []))))
 no_leading s finds none =
-    without (parts_of (below s 0)) none
-    ∙ ap (λ (values : List Value). Goes (with_values s values)) (second_first s.values (two_lists s.values finds))
+    without (parts_of (below s 0)) none ∙ ap (λ (list : Value). Goes (with_value s 2 list)) (list_is s.values (two_lists s.values finds) none)
   where
     without : (parts : Parts (List ℕ)) → part_count parts ≡ 0 → leading_attributes s (below s 1) parts ≡ Goes (with_value s 2 (below s 1))
     without NoParts is = refl
     without (Part role tree parts) is = absurd (omega (arith, is))
 
-    second_first : (stack : List Value) → take 2 (sorts_of stack) ≡ AList ∷ AList ∷ [] → value_at stack 1 ∷ drop 2 stack ≡ drop 1 stack
-    second_first [] is = absurd (cc is)
-    second_first (value ∷ []) is = absurd (cc is)
-    second_first (value ∷ other ∷ stack) is = refl
+    empty : (parts : Parts (List ℕ)) → part_count parts ≡ 0 → parts ≡ NoParts
+    empty NoParts is = refl
+    empty (Part role tree parts) is = absurd (omega (arith, is))
+
+    list_is : (stack : List Value) → take 2 (sorts_of stack) ≡ AList ∷ AList ∷ [] → part_count (parts_of (value_at stack 0)) ≡ 0
+        → value_at stack 1 ≡ ListValue (parts_given stack (AllTrees 1 ∷ AllTrees 0 ∷ []))
+    list_is [] is count = absurd (cc is)
+    list_is (value ∷ []) is count = absurd (cc is)
+    list_is (value ∷ WordValue token text ∷ stack) is count = absurd (cc is)
+    list_is (value ∷ TreeValue tree ∷ stack) is count = absurd (cc is)
+    list_is (value ∷ ListValue parts ∷ stack) is count =
+        ap ListValue (sym (ap (λ (behind : Parts (List ℕ)). with_parts parts behind) (empty (parts_of value) count) ∙ with_parts-NoParts parts))
 
 some_leading : (s : State) (list : Value) (parts : Parts (List ℕ)) → (part_count parts ≡ 0 → ⊥)
     → leading_attributes s list parts

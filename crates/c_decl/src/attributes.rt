@@ -31,7 +31,7 @@ pub fn append_leading_attributes(state: &mut ParseState<'_>) -> Result<(), Actio
     ensures names { state.new.names ≡ state.old.names }
 {
     if state.part_count(0) == 0 {
-        state.drop_top();
+        state.collect(2, &[Source::AllTrees(1), Source::AllTrees(0)])?;
         return Ok(());
     }
     let token = state.first_tree_token(0);

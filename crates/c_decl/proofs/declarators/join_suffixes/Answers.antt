@@ -2,5 +2,5 @@ use Rattle.parse_state.specs.Seen.{state_of}
 use Rattle.c_decl.proofs.Listing.{suffixes_end}
 use Rattle.c_decl.proofs.declarators.join_suffixes.Goals as goal
 
-pub put_suffixes-requires-clause-lists : goal.put_suffixes-requires-clause-lists
-put_suffixes-requires-clause-lists c = suffixes_end (state_of c.args.state.now).values c.requires.finds
+pub put_suffixes-requires : goal.put_suffixes-requires
+put_suffixes-requires c = suffixes_end (state_of c.args.state.now).values c.requires.finds

@@ -70,13 +70,13 @@ module _ (names : List (List ℕ)) (types : TypeTable) where
   -- one that is the same as the last is no first
   dropped : (last f : Failure) (fs : List Failure) (h : meaning.Failure) → order_of (seen last) (seen f) ≡ Equal
       → first_like h (seen last ∷ all_seen fs) ≡ first_like h (seen last ∷ seen f ∷ all_seen fs)
-  dropped last f fs h e = go (is_eq (order_of h (seen last))) refl
+  dropped last f fs h e = with_last (is_eq (order_of h (seen last))) refl
     where
-      go : (b : Bool) → is_eq (order_of h (seen last)) ≡ b
+      with_last : (b : Bool) → is_eq (order_of h (seen last)) ≡ b
           → cond b (Some (seen last)) (first_like h (all_seen fs))
           ≡ cond b (Some (seen last)) (cond (is_eq (order_of h (seen f))) (Some (seen f)) (first_like h (all_seen fs)))
-      go true i = refl
-      go false i = sym (ap (λ c. cond c (Some (seen f)) (first_like h (all_seen fs))) (sym (ap is_eq (alike_right total (seen last) (seen f) h e)) ∙ i))
+      with_last true i = refl
+      with_last false i = sym (ap (λ c. cond c (Some (seen f)) (first_like h (all_seen fs))) (sym (ap is_eq (alike_right total (seen last) (seen f) h e)) ∙ i))
 
   keeps_by : (o : Ordering) (last f : Failure) (fs : List Failure) → order_of (seen last) (seen f) ≡ o → is_gt o ≡ false
       → Keeps last fs → Keeps f fs → KeepsBy o last f fs
@@ -130,7 +130,7 @@ module _ (names : List (List ℕ)) (types : TypeTable) where
   -- one of them is one with this, or none is
   search_like : (h : meaning.Failure) (fs : List Failure) → ((f : Failure) × (order_of h (seen f) ≡ Equal)) ⊎ (first_like h (all_seen fs) ≡ None)
   search_like h [] = inr refl
-  search_like h (f ∷ fs) = go (order_of h (seen f)) refl (search_like h fs)
+  search_like h (f ∷ fs) = found_by (order_of h (seen f)) refl (search_like h fs)
     where
       passed : (o : Ordering) → order_of h (seen f) ≡ o → is_eq o ≡ false
           → ((g : Failure) × (order_of h (seen g) ≡ Equal)) ⊎ (first_like h (all_seen fs) ≡ None)
@@ -138,12 +138,12 @@ module _ (names : List (List ℕ)) (types : TypeTable) where
       passed o e other (inl found) = inl found
       passed o e other (inr none) = inr (ap (λ b. cond b (Some (seen f)) (first_like h (all_seen fs))) (ap is_eq e ∙ other) ∙ none)
 
-      go : (o : Ordering) → order_of h (seen f) ≡ o
+      found_by : (o : Ordering) → order_of h (seen f) ≡ o
           → ((g : Failure) × (order_of h (seen g) ≡ Equal)) ⊎ (first_like h (all_seen fs) ≡ None)
           → ((g : Failure) × (order_of h (seen g) ≡ Equal)) ⊎ (first_like h (all_seen (f ∷ fs)) ≡ None)
-      go Less e rest = passed Less e refl rest
-      go Equal e rest = inl (f, e)
-      go Greater e rest = passed Greater e refl rest
+      found_by Less e rest = passed Less e refl rest
+      found_by Equal e rest = inl (f, e)
+      found_by Greater e rest = passed Greater e refl rest
 
   stable-like : (found sorted : List Failure) (h : meaning.Failure) (f : Failure) → IsStableBy is_less found sorted → order_of h (seen f) ≡ Equal
       → first_like h (all_seen sorted) ≡ first_like h (all_seen found)
@@ -153,14 +153,14 @@ module _ (names : List (List ℕ)) (types : TypeTable) where
 
   stable-same : (found sorted : List Failure) (h : meaning.Failure) → IsStableBy is_less found sorted
       → first_like h (all_seen sorted) ≡ first_like h (all_seen found)
-  stable-same found sorted h stable = go (search_like h found) (search_like h sorted)
+  stable-same found sorted h stable = same_by (search_like h found) (search_like h sorted)
     where
-      go : ((f : Failure) × (order_of h (seen f) ≡ Equal)) ⊎ (first_like h (all_seen found) ≡ None)
+      same_by : ((f : Failure) × (order_of h (seen f) ≡ Equal)) ⊎ (first_like h (all_seen found) ≡ None)
           → ((f : Failure) × (order_of h (seen f) ≡ Equal)) ⊎ (first_like h (all_seen sorted) ≡ None)
           → first_like h (all_seen sorted) ≡ first_like h (all_seen found)
-      go (inl is) other = stable-like found sorted h is.0 stable is.1
-      go (inr none) (inl is) = stable-like found sorted h is.0 stable is.1
-      go (inr none) (inr neither) = neither ∙ sym none
+      same_by (inl is) other = stable-like found sorted h is.0 stable is.1
+      same_by (inr none) (inl is) = stable-like found sorted h is.0 stable is.1
+      same_by (inr none) (inr neither) = neither ∙ sym none
 
   kept-lists : (found sorted : List Failure) → IsSorted rank_order sorted → IsStableBy is_less found sorted
       → IsListing (all_seen found) (all_seen (kept_behind None sorted))

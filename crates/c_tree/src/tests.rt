@@ -62,6 +62,19 @@ fn add_assignment(rt: &impl Abort, alloc: Global, unit: &mut Unit) -> Result<Han
     add(rt, unit, NodeKind::Assignment, 2, children)
 }
 
+// A node over the last one.
+fn add_over_last(rt: &impl Abort, alloc: Global, unit: &mut Unit) -> Result<Handle, AllocError>
+    requires { unit.old.first ≡ 0 }
+    ensures { unit.new.first ≡ 0 }
+{
+    let count = unit.len();
+    let some_stand = count > 0;
+    assert!(rt; some_stand);
+    let mut children = TagList::new(alloc);
+    children.push(count - 1, Role::Evaluated.tag())?;
+    add(rt, unit, NodeKind::Parenthesized, 0, children)
+}
+
 fn has(unit: &Unit, handle: Handle, kind: NodeKind, token: u32, children: u32) -> bool
     requires { unit.now.first ≡ 0 }
 {
@@ -135,5 +148,17 @@ fn a_full_unit_hands_a_node_back(rt: HostRuntime) -> Result<(), Fail> {
     );
     assert_eq!(rt; (node.number, node.children.len()), (5, 0));
     assert_eq!(rt; unit.len(), 16_000_000);
+    Ok(())
+}
+
+// Were nodes released by way of their parents, the stack wouldn't suffice.
+#[test]
+fn a_deep_unit_is_released(rt: HostRuntime) -> Result<(), Fail> {
+    let mut unit = Unit::new(rt.alloc());
+    add_name(&rt, rt.alloc(), &mut unit, 0)?;
+    for _node in 0..500_000 {
+        add_over_last(&rt, rt.alloc(), &mut unit)?;
+    }
+    assert_eq!(rt; unit.len(), 500_001);
     Ok(())
 }

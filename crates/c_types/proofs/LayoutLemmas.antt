@@ -9,7 +9,7 @@ use Rattle.std.specs.Map.{lookup}
 use Rattle.indexmap.specs.IndexMap.{insert_entry}
 use Rattle.meaning_types.specs.Types.{TypeTree}
 use Rattle.meaning_layout.specs.Layouts.{Layout, LayoutFault}
-use Rattle.meaning_layout.specs.Telling.{ToldBody, layout_told, nothing_told, or_incomplete, tell, told_before, told_in_order}
+use Rattle.meaning_layout.specs.Telling.{layout_told, nothing_told, or_incomplete, tell, told_before, told_in_order}
 use Rattle.meaning_layout.proofs.TellingLemmas.{layout_told-counted, told_in_order-found, told_in_order-none, told_in_order-push}
 use Rattle.body_layout.specs.Seen.{IsNarrow}
 use Rattle.c_types.specs.declared.bodies.AggregateBody.{AggregateBody}

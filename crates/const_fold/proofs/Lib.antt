@@ -1,0 +1,6 @@
+pub mod NumberLemmas
+pub mod PartLemmas
+pub mod WayLemmas
+pub mod OutlineLemmas
+pub mod KnownLemmas
+pub mod MeasureLemmas

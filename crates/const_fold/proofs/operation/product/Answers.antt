@@ -1,0 +1,7 @@
+-- A product that wraps at 128 bits comes to the same.
+use Rattle.std.proofs.Common.{arith}
+use Rattle.const_fold.proofs.operation.product.Goals as goal
+use Rattle.const_fold.proofs.NumberLemmas.{wrapped-product}
+
+pub returns : goal.returns
+returns c = grind (arith, wrapped-product c.args.kind c.args.left c.args.right c.ranges.left c.ranges.right)

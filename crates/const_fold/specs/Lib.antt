@@ -1,0 +1,5 @@
+pub mod Ranges
+pub mod Seen
+pub mod Measured
+pub mod Outlined
+pub mod Known

@@ -12,6 +12,6 @@ returns c =
     IfOk-weaker c.error.result _ _
     (λ written is.
     is
-    ∙ error_told (paths_of names toks.files) (toks_of names toks.tokens) c.args.kind c.args.token c.path_in.result.now c.refusal_place.result c.named_word.result.now
-    c.path_in.ensures (c.refusal_place.ensures names) c.named_word.ensures)
+    ∙ error_told (paths_of names toks.files) (toks_of names toks.tokens) c.args.kind c.args.token c.path_in-path.result.now c.refusal_place-place.result c.named_word-word.result.now
+    c.path_in-path.ensures (c.refusal_place-place.ensures names) c.named_word-word.ensures)
     c.error.ensures

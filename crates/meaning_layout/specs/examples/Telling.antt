@@ -39,6 +39,11 @@ pub record TellingExamples : Type 0 where
   pub first_reason : told_in_order nothing_told ((1, told_body (member_of (array_of (plain kinds.Char) (Some 1099511627777)) ∷ member_of void ∷ [])) ∷ []) 1 false ≡ Some (Err TooLarge)
   -- a width at another type, and a written alignment of 0
   pub no_bit_field : told_in_order nothing_told ((1, told_body (record (field_of (pointer_to void) 3) { written = 0 } ∷ [])) ∷ []) 1 false ≡ Some (layout_with 8 8 (0 ∷ []))
+  -- which leaves a bit-field at the next bit, and a body at no multiple
+  pub field_with_0 :
+      told_in_order nothing_told ((1, told_body (field_of (plain kinds.Int) 3 ∷ record (field_of (plain kinds.Int) 3) { written = 0 } ∷ [])) ∷ []) 1 false
+      ≡ Some (layout_with 4 4 (0 ∷ 3 ∷ []))
+  pub body_with_0 : told_in_order nothing_told ((1, record (told_body []) { written = 0 }) ∷ []) 1 false ≡ Some (layout_with 0 1 [])
   pub offset : offset_in 1 (layout_in told (structure_at 2)) ≡ Ok (Some 1)
   pub no_aggregate : offset_in 0 (layout_in told (plain kinds.Int)) ≡ Err Incomplete
   pub field : field_in (Some 3) 1 (layout_in told (structure_at 2)) ≡ bits 8 3

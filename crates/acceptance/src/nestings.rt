@@ -1,8 +1,11 @@
 // The deepest nestings that are read, and chains and lists of half a million parts.
-use crate::run::{NOT_BUILT, assert_check};
+use crate::run::assert_check;
 use ksparse::Exit;
 use std::alloc::{AllocError, Global};
 use std::test::Fail;
+
+// The answer to what is read and isn't judged.
+const NOT_BUILT: &str = "t.c:1:1: error[29]: form not built\n";
 
 // A text that holds something so often, and ends it as often.
 struct Nested {

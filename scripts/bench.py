@@ -242,7 +242,7 @@ FAMILIES = (
     of_parsing("lists in one another", b"int x = ", b"{", b"1", b"}", b";", (3000, 30000)),
     of_parsing("structures in one another", b"", b"struct { ", b"int y;", b" } x;", b"", (1300, 13000)),
     of_parsing("if in if", b"void f(void) { ", b"if (1) ", b";", b"", b" }", (6000, 60000)),
-    Family("parsing: enumerators", texts.enumerators, (50000, 500000), words=(), status=2),
+    Family("parsing: enumerators", texts.enumerators, (50000, 500000), most_ratio=MOST_NAMES_RATIO, words=(), status=2),
     Family("parsing: words before declarators", texts.words_before_declarators, (20000, 200000), words=(), status=2),
 )
 

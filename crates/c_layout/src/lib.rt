@@ -10,3 +10,6 @@ mod sizes;
 pub use c_types::LayoutFault;
 pub use members::{FieldBits, field_bits, offset_of};
 pub use sizes::{align_of, size_of};
+
+#[cfg(test)]
+mod tests;

@@ -1,10 +1,8 @@
 -- Each piece adds its own bytes.
-use Rattle.std.proofs.Common.{◌≡◌, ◌+◌, true, List, ℕ, sym, ap, ◌∙◌}
+use Rattle.std.proofs.Common.{◌≡◌, ap, ◌∙◌}
 use Rattle.std.specs.List.{list_all}
-use Rattle.std.proofs.lemmas.Bool.{and_parts, ltb-true}
 use Rattle.meaning_tree.specs.Nodes.{end_of}
-use Rattle.meaning_tree.specs.Listed.{parts_at}
-use Rattle.meaning_derivation.specs.Literals.{piece_length, pieces_length}
+use Rattle.meaning_derivation.specs.Literals.{piece_length}
 use Rattle.meaning_literals.specs.Quoted.{string_of}
 use Rattle.parse_state.specs.Giving.{is_below}
 use Rattle.parse_state.specs.Seen.{spelled_trees}

@@ -1,8 +1,7 @@
 -- The pieces are those of the list so far below the top.
-use Rattle.std.proofs.Common.{◌≡◌, ◌+◌, Bool, true, List, length, reverse, slice_get, Some, None, IfOk, sym, ap, subst, ◌∙◌, arith}
+use Rattle.std.proofs.Common.{◌≡◌, length, reverse, slice_get, Some, None, IfOk, sym, ap, subst, ◌∙◌, arith}
 use Rattle.std.specs.List.{list_all}
 use Rattle.meaning_tree.specs.Nodes.{end_of}
-use Rattle.meaning_tree.specs.Listed.{parts_at}
 use Rattle.meaning_derivation.specs.Literals.{pieces_length}
 use Rattle.meaning_derivation.specs.Values.{parts_of, value_at}
 use Rattle.parse_state.specs.Asking.{list_in}

@@ -1,12 +1,10 @@
--- A parameter is bound by the name of its declarator, and a type name has none.
+-- A parameter is bound by the name of its declarator.
 use Rattle.std.proofs.Common.{◌≡◌, ℕ, List, [], ◌∷◌, Some, None, refl, sym, ap}
 use Rattle.std.proofs.lemmas.Option.{same_Some}
-use Rattle.vocabulary.specs.declared.error_kind.ErrorKind.TheVariants.{BadDeclaration}
 use Rattle.vocabulary.specs.declared.scope.Bound.TheVariants.{Unlinked}
 use Rattle.meaning_tree.specs.Trees.{Node, Parts, NoParts, Part}
 use Rattle.meaning_derivation.specs.Values.{Value}
-use Rattle.meaning_derivation.specs.State.{State, IsError, Goes, Refuses, made}
-use Rattle.meaning_derivation.specs.Lists.{type_name, type_name_tree}
+use Rattle.meaning_derivation.specs.State.{State, Goes}
 use Rattle.meaning_derivation.specs.Scoping.{declared_at, parameter_bound}
 use Rattle.parse_state.specs.Declaring.{first_name}
 
@@ -21,16 +19,3 @@ pub parameter_unnamed : (s : State) (specifiers : Value) (parts : Parts (List �
 parameter_unnamed s specifiers NoParts is = refl
 parameter_unnamed s specifiers (Part role (Node kind at [] number parts) others) is = refl
 parameter_unnamed s specifiers (Part role (Node kind at (byte ∷ bytes) number parts) others) is = absurd (cc is)
-
-pub type_name_named : (s : State) (specifiers : Value) (parts : Parts (List ℕ)) (name : List ℕ) (token : ℕ) → Some (name, token) ≡ first_name parts
-    → type_name s specifiers parts ≡ Refuses (IsError BadDeclaration) token
-type_name_named s specifiers NoParts name token is = absurd (cc is)
-type_name_named s specifiers (Part role (Node kind at [] number parts) others) name token is = absurd (cc is)
-type_name_named s specifiers (Part role (Node kind at (byte ∷ bytes) number parts) others) name token is =
-    ap (λ (told : List ℕ × ℕ). Refuses (IsError BadDeclaration) told.1) (sym (same_Some _ _ is))
-
-pub type_name_unnamed : (s : State) (specifiers : Value) (parts : Parts (List ℕ)) → None ≡ first_name parts
-    → type_name s specifiers parts ≡ made s 2 (type_name_tree specifiers parts)
-type_name_unnamed s specifiers NoParts is = refl
-type_name_unnamed s specifiers (Part role (Node kind at [] number parts) others) is = refl
-type_name_unnamed s specifiers (Part role (Node kind at (byte ∷ bytes) number parts) others) is = absurd (cc is)

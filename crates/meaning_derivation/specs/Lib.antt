@@ -8,6 +8,7 @@ pub mod Storage
 pub mod Lists
 pub mod Scoping
 pub mod Literals
+pub mod Contexts
 pub mod Actions
 pub mod Shapes
 pub mod plain

@@ -1,2 +1,3 @@
 -- Worked examples.
 pub mod Units
+pub mod Literals

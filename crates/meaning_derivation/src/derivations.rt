@@ -3,6 +3,7 @@ ghost use Rattle.meaning_derivation.specs.laws.Outcomes.{ItemsHaveOneOutcome, Un
 ghost use Rattle.meaning_derivation.specs.laws.Sorts.{ActionsAreSorted, ActionsLeadOn};
 ghost use Rattle.meaning_derivation.specs.laws.Shapes.{ShapesAreMade};
 ghost use Rattle.meaning_derivation.specs.laws.Storage.{ClassesHaveNumbers, SpecifiersHaveTheirClass};
+ghost use Rattle.meaning_derivation.specs.examples.Literals.{ContextExamples, LiteralExamples};
 ghost use Rattle.meaning_derivation.specs.examples.Units.{TreeExamples, BodyExamples, BindExamples, ChainExamples, RefusalExamples};
 
 /// A list of tokens has one outcome at most, whatever the actions do, and with those of C it has one: a tree or a refusal.
@@ -41,4 +42,6 @@ pub fn worked_examples()
     ensures binds { BindExamples }
     ensures chains { ChainExamples }
     ensures refusals { RefusalExamples }
+    ensures literals { LiteralExamples }
+    ensures contexts { ContextExamples }
 {}

@@ -11,7 +11,6 @@ use Rattle.meaning_tree.proofs.Lying.{run_is_laid}
 use Rattle.meaning_tree.proofs.Renaming.{stand_before-renamed}
 use Rattle.meaning_grammar.specs.Sorts.{ATree}
 use Rattle.meaning_derivation.specs.Values.{TreeValue, sorts_of}
-use Rattle.meaning_derivation.specs.Values as values
 use Rattle.sparse_model.specs.declared.ids.NameId.{NameId}
 use Rattle.c_tokens.specs.Seen.{text_of}
 use Rattle.parse_state.specs.declared.value.Value.{Value}

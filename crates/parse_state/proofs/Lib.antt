@@ -14,3 +14,4 @@ pub mod JoinedLists
 pub mod LiteralLengths
 pub mod DeclaredNames
 pub mod Finished
+pub mod HandedOn

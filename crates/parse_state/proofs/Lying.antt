@@ -9,7 +9,6 @@ use Rattle.meaning_tree.specs.Runs.{IsRun, AreRuns, no_runs, last_run}
 use Rattle.meaning_tree.proofs.Finding.{Grows-added, end_of-added}
 use Rattle.meaning_tree.proofs.Runs.{run-stays, runs-stay, run-added, run-alone, runs-before, runs-behind, runs-reversed}
 use Rattle.meaning_derivation.specs.Values.{sort_of, sorts_of}
-use Rattle.meaning_derivation.specs.Values as values
 use Rattle.sparse_model.specs.declared.ids.NameId.{NameId}
 use Rattle.vocabulary.specs.Roles.{role_tag}
 use Rattle.parse_state.specs.declared.value.Value.{Value}

@@ -14,3 +14,4 @@ pub mod Joining
 pub mod Storage
 pub mod Declaring
 pub mod Finished
+pub mod Strings

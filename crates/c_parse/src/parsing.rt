@@ -62,7 +62,7 @@ fn begin<'t>(alloc: Global, names: &'t Names, tokens: &'t [Token]) -> Result<Par
     let terminals = Terminals::new(alloc, names, tokens)?;
     let next = token_before(&terminals, last);
     Ok(Parser {
-        state: ParseState::new(alloc, names, next, last),
+        state: ParseState::new(alloc, names, tokens, next, last),
         terminals,
         pending: Pending::new(alloc, &UNIT),
         looks: None,

@@ -1,5 +1,5 @@
 -- Each action that goes on leaves values of the sorts that its effect says.
-use Rattle.std.proofs.Common.{◌≡◌, ℕ, zero, suc, ◌+◌, Bool, true, false, ◌&&◌, List, [], ◌∷◌, ◌++◌, drop, length, slice_get, Option, Some, None, refl, sym, ap, subst, ◌∙◌, arith, if◌then◌else◌, nat_lt}
+use Rattle.std.proofs.Common.{◌≡◌, ℕ, zero, suc, ◌+◌, Bool, true, false, ◌&&◌, List, [], ◌∷◌, ◌++◌, drop, length, slice_get, Option, Some, None, refl, sym, ap, subst, ◌∙◌, arith, if◌then◌else◌, nat_lt, Result, Ok, Err, ℤ}
 use Rattle.std.proofs.lemmas.List.{map-append}
 use Rattle.std.proofs.lemmas.Option.{same_Some, slice_get_within}
 use Rattle.vocabulary.specs.declared.error_kind.ErrorKind.TheVariants.{BadDeclaration}
@@ -8,16 +8,26 @@ use Rattle.vocabulary.specs.declared.scope.NameSpace.TheVariants.{Ordinary, Tags
 use Rattle.vocabulary.specs.declared.scope.Bound.{Bound}
 use Rattle.vocabulary.specs.declared.scope.Bound.TheVariants.{Enumerator, Unlinked}
 use Rattle.vocabulary.specs.declared.action.Action.{Action}
-use Rattle.vocabulary.specs.declared.action.Action.TheVariants.{Append, AppendAttribute, AppendDeclarator, AppendLeadingAttributes, AwaitBody, BeginAtNext, BeginDeclarators, BeginList, BindDeclarator, BindEnumerator, BindFurtherDeclarator, BindParameter, CloseParameters, CloseScope, CountParameter, DeclareTag, DefineTag, JoinAnyParts, JoinParts, JoinSuffixes, MakeBlockSpecifiers, MakeFileSpecifiers, MakeForPart, MakeMemberSpecifiers, MakeOptionalDeclarator, MakeParameterSpecifiers, MakeParenthesizedAttributes, MakeTypeName, MakeTypeNameSpecifiers, NoteFunctionDeclarator, OpenBody, OpenScope, RequireType, RequireTypeOrAttributes, UseName, UseTag, UseTypedefName, WithoutTag}
+use Rattle.vocabulary.specs.declared.action.Action.TheVariants.{Append, AppendAttribute, AppendDeclarator, AppendLeadingAttributes, AwaitBody, BeginAtNext, BeginDeclarators, BeginList, BindDeclarator, BindEnumerator, BindFurtherDeclarator, BindParameter, CloseParameters, CloseScope, CountParameter, DeclareTag, DefineTag, JoinAnyParts, JoinParts, JoinSuffixes, MakeBlockSpecifiers, MakeCharacterConstant, MakeContextStatement, MakeFileSpecifiers, MakeForPart, MakeIntegerConstant, MakeMemberSpecifiers, MakeOptionalDeclarator, MakeParameterSpecifiers, MakeParenthesizedAttributes, MakeStringLiteral, MakeTypeName, MakeTypeNameSpecifiers, NoteFunctionDeclarator, OpenBody, OpenScope, RequireType, RequireTypeOrAttributes, UseName, UseTag, UseTypedefName, WithoutTag}
+use Rattle.vocabulary.specs.declared.int_kind.IntKind.{IntKind}
+use Rattle.vocabulary.specs.declared.node_kind.NodeKind.{NodeKind}
+use Rattle.vocabulary.specs.declared.node_kind.NodeKind.TheVariants as kinds
 use Rattle.vocabulary.specs.declared.production_item.ProductionItem.{ProductionItem}
 use Rattle.vocabulary.specs.declared.production_item.ProductionItem.TheVariants.{Do}
+use Rattle.meaning_attributes.specs.Contexts.{ChangeFault, BadChange, ChangePassesLimit, change_of}
+use Rattle.meaning_literals.specs.Constants.{Constant, Fault}
+use Rattle.meaning_literals.specs.Integers.{integer_of}
+use Rattle.meaning_literals.specs.Quoted.{char_of}
 use Rattle.meaning_tree.specs.Trees.{Node, Parts, NoParts, Part}
 use Rattle.meaning_scopes.specs.Scopes.{Found, is_open}
 use Rattle.meaning_scopes.specs.Redeclaration.{bound_here, is_redeclared}
 use Rattle.meaning_grammar.specs.Sorts.{Sort, AWord, ATree, AList, is_same_sort, action_effect, exchanged, effect, effects}
 use Rattle.meaning_derivation.specs.Values.{Value, WordValue, TreeValue, ListValue, sort_of, sorts_of, value_at, token_of, text_of, parts_of, name_of}
-use Rattle.meaning_derivation.specs.State.{State, Fault, ActionOutcome, Goes, Refuses, made_as, most_nodes, with_limit}
+use Rattle.meaning_derivation.specs.State.{State, ActionOutcome, Goes, Refuses, made_as, most_nodes, with_limit}
 use Rattle.meaning_derivation.specs.Lists.{has_spelling, name_or, unnamed_declarator, attributes_list, leading_attributes, part_of_for, part_count, most_parameters, type_name}
+use Rattle.meaning_derivation.specs.State as states
+use Rattle.meaning_derivation.specs.Literals.{BadLiteral, bad_piece, constant_made, string_made}
+use Rattle.meaning_derivation.specs.Contexts.{in_parentheses, tokens_behind, context_made}
 use Rattle.meaning_derivation.specs.Scoping.{declared, bound, bound_as, last_handle, parameter_bound, tag_at, found_name, found_here, parts_below, ends_with_parameters, name_used, typedef_named, without_closed}
 use Rattle.meaning_derivation.specs.Specifiers.{is_bad_in_file, is_bad_in_block, is_bad_member, is_refused_parameter, parameter_error, held_where}
 use Rattle.meaning_derivation.specs.Actions.{below, specified}
@@ -109,13 +119,13 @@ reached goal next is = sym (ap (λ outcome. (state_or goal outcome).values) is)
 
 -- of one that is reached where a test passes, and of one where it doesn't
 reached_if :
-    (test : Bool) (goal next : State) (fault : Fault) (stands : ℕ) → (if test then Goes goal else Refuses fault stands) ≡ Goes next
+    (test : Bool) (goal next : State) (fault : states.Fault) (stands : ℕ) → (if test then Goes goal else Refuses fault stands) ≡ Goes next
     → next.values ≡ goal.values
 reached_if true goal next fault stands is = reached goal next is
 reached_if false goal next fault stands is = absurd (cc is)
 
 reached_unless :
-    (test : Bool) (goal next : State) (fault : Fault) (stands : ℕ) → (if test then Refuses fault stands else Goes goal) ≡ Goes next
+    (test : Bool) (goal next : State) (fault : states.Fault) (stands : ℕ) → (if test then Refuses fault stands else Goes goal) ≡ Goes next
     → next.values ≡ goal.values
 reached_unless true goal next fault stands is = absurd (cc is)
 reached_unless false goal next fault stands is = reached goal next is
@@ -236,6 +246,27 @@ typedef-sorted :
 typedef-sorted s next None word after is = absurd (cc is)
 typedef-sorted s next (Some declaration) word after is = made-sorted UseTypedefName 1 (TreeValue _) s next after is (λ rest. refl)
 
+constant-sorted :
+    (action : Action) (s next : State) (kind_of : IntKind → NodeKind) (word : Value) (found : Result Constant Fault) (after : List Sort)
+    → constant_made s kind_of word found ≡ Goes next
+    → ((rest : List Sort) → ATree ∷ drop 1 ((action_effect action).takes ++ rest) ≡ (action_effect action).leaves ++ rest)
+    → Finds action s after → sorts_of next.values ≡ after
+constant-sorted action s next kind_of word (Ok constant) after is = made-sorted action 1 (TreeValue _) s next after is
+constant-sorted action s next kind_of word (Err fault) after is = absurd (cc is)
+
+string-sorted :
+    (s next : State) (word list : Value) (bad : Option BadLiteral) (after : List Sort) → string_made s word list bad ≡ Goes next
+    → Finds MakeStringLiteral s after → sorts_of next.values ≡ after
+string-sorted s next word list None after is = made-sorted MakeStringLiteral 2 (TreeValue _) s next after is (λ rest. refl)
+string-sorted s next word list (Some bad) after is = absurd (cc is)
+
+context-sorted :
+    (s next : State) (word : Value) (change : Result ℤ ChangeFault) (after : List Sort) → context_made s word change ≡ Goes next
+    → Finds MakeContextStatement s after → sorts_of next.values ≡ after
+context-sorted s next word (Ok change) after is = made-sorted MakeContextStatement 1 (TreeValue _) s next after is (λ rest. refl)
+context-sorted s next word (Err BadChange) after is = absurd (cc is)
+context-sorted s next word (Err ChangePassesLimit) after is = absurd (cc is)
+
 -- Each action
 
 pub actions_are_sorted : ActionsAreSorted
@@ -301,6 +332,14 @@ actions_are_sorted CloseScope s next sorts is finds = kept-sorted CloseScope s n
 actions_are_sorted OpenBody s next sorts is finds = kept-sorted OpenBody s next sorts (reached _ next is) (λ rest. refl) finds
 actions_are_sorted MakeForPart s next sorts is finds = for_part-sorted s next (parts_of (below s 1)) (below s 0) sorts is finds
 actions_are_sorted UseName s next sorts is finds = name-sorted s next (found_name s Ordinary (text_of (below s 0))) (below s 0) sorts is finds
+actions_are_sorted MakeContextStatement s next sorts is finds =
+    context-sorted s next (below s 0) (change_of (in_parentheses (tokens_behind s (below s 0)))) sorts is finds
+actions_are_sorted MakeIntegerConstant s next sorts is finds =
+    constant-sorted MakeIntegerConstant s next kinds.IntegerConstant (below s 0) (integer_of (text_of (below s 0))) sorts is (λ rest. refl) finds
+actions_are_sorted MakeCharacterConstant s next sorts is finds =
+    constant-sorted MakeCharacterConstant s next kinds.CharacterConstant (below s 0) (char_of (text_of (below s 0))) sorts is (λ rest. refl) finds
+actions_are_sorted MakeStringLiteral s next sorts is finds =
+    string-sorted s next (below s 1) (below s 0) (bad_piece (parts_of (below s 0))) sorts is finds
 -- each other action puts one tree in the place of all that it takes
 actions_are_sorted action s next sorts is finds =
     made-sorted action (length (action_effect action).takes) (TreeValue _) s next sorts is (λ rest. refl) finds

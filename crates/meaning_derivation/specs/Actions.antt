@@ -1,5 +1,5 @@
 -- What each action does with what was read.
-use Rattle.std.specs.Prelude.{ℕ, ◌+◌, [], ◌∷◌}
+use Rattle.std.specs.Prelude.{ℕ, [], ◌∷◌}
 use Rattle.vocabulary.specs.declared.error_kind.ErrorKind.TheVariants.{BadDeclaration}
 use Rattle.vocabulary.specs.declared.role.Role.TheVariants.{Evaluated, Condition, TypePart}
 use Rattle.vocabulary.specs.declared.node_kind.NodeKind.TheVariants as kinds
@@ -7,6 +7,7 @@ use Rattle.vocabulary.specs.declared.scope.NameSpace.TheVariants.{Ordinary, Tags
 use Rattle.vocabulary.specs.declared.scope.Bound.TheVariants.{Enumerator}
 use Rattle.vocabulary.specs.declared.action.Action.{Action}
 use Rattle.vocabulary.specs.declared.action.Action.TheVariants.{Append, AppendAttribute, AppendDeclarator, AppendLeadingAttributes, AwaitBody, BeginAtNext, BeginDeclarators, BeginList, BindDeclarator, BindEnumerator, BindFurtherDeclarator, BindParameter, CloseParameters, CloseScope, CountParameter, DeclareTag, DefineTag, JoinAnyParts, JoinParts, JoinSuffixes, MakeAttributeList, MakeBinary, MakeBlockSpecifiers, MakeBuiltinOffsetof, MakeCall, MakeCharacterConstant, MakeCompoundStatement, MakeConditional, MakeContextStatement, MakeDeclaration, MakeDeclarator, MakeDoStatement, MakeEnumerator, MakeFileSpecifiers, MakeForPart, MakeForStatement, MakeFunctionDefinition, MakeIfStatement, MakeInitializerItem, MakeIntegerConstant, MakeLabelStatement, MakeLeaf, MakeLoneDeclaration, MakeMember, MakeMemberDeclaration, MakeMemberSpecifiers, MakeNamed, MakeOptionalDeclarator, MakeOver, MakeOverList, MakeOverTwo, MakeParameter, MakeParameterSpecifiers, MakeParenthesizedAttributes, MakePostfix, MakeSizeofType, MakeStringLiteral, MakeStringPiece, MakeTagged, MakeTranslationUnit, MakeTypeName, MakeTypeNameSpecifiers, NoteFunctionDeclarator, OpenBody, OpenScope, RequireType, RequireTypeOrAttributes, UseName, UseTag, UseTypedefName, WithoutTag}
+use Rattle.meaning_attributes.specs.Contexts.{change_of}
 use Rattle.meaning_literals.specs.Integers.{integer_of}
 use Rattle.meaning_literals.specs.Quoted.{char_of}
 use Rattle.meaning_tree.specs.Trees.{Node, NoParts, with_parts}
@@ -17,7 +18,8 @@ use Rattle.meaning_derivation.specs.Storage.{noted_class, specifiers_tree}
 use Rattle.meaning_derivation.specs.Specifiers.{Specified, specified_by, is_bad_in_file, is_bad_in_block, is_bad_member, is_refused_parameter, parameter_error, lacks_type, lacks_type_or_attributes, held_where}
 use Rattle.meaning_derivation.specs.Lists.{appended, joined, suffixed, name_or, declarator_values, optional_declarator, attributes_list, leading_attributes, with_parameter, part_of_for, type_name}
 use Rattle.meaning_derivation.specs.Scoping.{with_scopes, found_name, found_here, bound_as, declared, tag_at, place, with_first_keyword, name_used, typedef_named, parameter_bound, parts_below, function_noted, parameters_closed, without_closed, body_awaited, body_opened, takes_no_body}
-use Rattle.meaning_derivation.specs.Literals.{constant_tree, pieces_length}
+use Rattle.meaning_derivation.specs.Literals.{constant_tree, pieces_length, constant_made, bad_piece, string_made}
+use Rattle.meaning_derivation.specs.Contexts.{in_parentheses, tokens_behind, context_made}
 
 -- The value so far below the top of the stack. An action's comment names what it takes, the top on the right.
 abbrev pub below : State → ℕ → Value
@@ -130,7 +132,7 @@ act MakeForStatement s =
     made s 5
     (plain_tree kinds.ForStatement (token_of (below s 4))
     (before Evaluated (below s 3) (before Condition (below s 2) (before Evaluated (below s 1) (alone Evaluated (below s 0))))))
-act MakeContextStatement s = made s 1 (plain_tree kinds.ContextStatement (token_of (below s 0)) NoParts)
+act MakeContextStatement s = context_made s (below s 0) (change_of (in_parentheses (tokens_behind s (below s 0))))
 -- Expressions (6.5)
 act MakeConditional s =
     made s 4
@@ -139,11 +141,10 @@ act MakeConditional s =
 act MakeSizeofType s = made s 3 (plain_tree kinds.SizeofType (token_of (below s 2)) (alone TypePart (below s 0)))
 act MakeCall s = made s 3 (plain_tree kinds.Call (token_of (below s 1)) (before Evaluated (below s 2) (parts_of (below s 0))))
 act UseName s = name_used s (found_name s Ordinary (text_of (below s 0))) (below s 0)
-act MakeIntegerConstant s = made s 1 (constant_tree kinds.IntegerConstant (below s 0) (integer_of (text_of (below s 0))))
-act MakeCharacterConstant s = made s 1 (constant_tree kinds.CharacterConstant (below s 0) (char_of (text_of (below s 0))))
+act MakeIntegerConstant s = constant_made s kinds.IntegerConstant (below s 0) (integer_of (text_of (below s 0)))
+act MakeCharacterConstant s = constant_made s kinds.CharacterConstant (below s 0) (char_of (text_of (below s 0)))
 act MakeStringPiece s = made s 1 (named_tree kinds.StringPiece (token_of (below s 0)) (text_of (below s 0)) NoParts)
-act MakeStringLiteral s =
-    made s 2 (Node kinds.StringLiteral (token_of (below s 1)) [] (pieces_length (parts_of (below s 0)) + 1) (parts_of (below s 0)))
+act MakeStringLiteral s = string_made s (below s 1) (below s 0) (bad_piece (parts_of (below s 0)))
 act MakeBuiltinOffsetof s =
     made s 4
     (named_tree kinds.BuiltinOffsetof (token_of (below s 3)) (text_of (below s 1)) (before TypePart (below s 2) (parts_of (below s 0))))

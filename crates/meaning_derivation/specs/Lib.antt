@@ -9,6 +9,7 @@ pub mod Specifiers
 pub mod Lists
 pub mod Scoping
 pub mod Literals
+pub mod Contexts
 pub mod Actions
 pub mod Shapes
 pub mod plain

@@ -6,7 +6,7 @@ use Rattle.vocabulary.specs.declared.role.Role.TheVariants.{Evaluated, Condition
 use Rattle.vocabulary.specs.declared.node_kind.NodeKind.{NodeKind}
 use Rattle.vocabulary.specs.declared.node_kind.NodeKind.TheVariants as kinds
 use Rattle.vocabulary.specs.declared.action.Action.{Action}
-use Rattle.vocabulary.specs.declared.action.Action.TheVariants.{MakeAttributeList, MakeBinary, MakeBuiltinOffsetof, MakeCall, MakeCompoundStatement, MakeConditional, MakeContextStatement, MakeDeclaration, MakeDeclarator, MakeDoStatement, MakeEnumerator, MakeForStatement, MakeFunctionDefinition, MakeIfStatement, MakeInitializerItem, MakeLabelStatement, MakeLeaf, MakeLoneDeclaration, MakeMember, MakeMemberDeclaration, MakeNamed, MakeOver, MakeOverList, MakeOverTwo, MakeParameter, MakePostfix, MakeSizeofType, MakeStringPiece, MakeTagged, MakeTranslationUnit}
+use Rattle.vocabulary.specs.declared.action.Action.TheVariants.{MakeAttributeList, MakeBinary, MakeBuiltinOffsetof, MakeCall, MakeCompoundStatement, MakeConditional, MakeDeclaration, MakeDeclarator, MakeDoStatement, MakeEnumerator, MakeForStatement, MakeFunctionDefinition, MakeIfStatement, MakeInitializerItem, MakeLabelStatement, MakeLeaf, MakeLoneDeclaration, MakeMember, MakeMemberDeclaration, MakeNamed, MakeOver, MakeOverList, MakeOverTwo, MakeParameter, MakePostfix, MakeSizeofType, MakeStringPiece, MakeTagged, MakeTranslationUnit}
 use Rattle.meaning_tree.specs.Trees.{SyntaxTree, Node, Parts, NoParts, with_parts}
 use Rattle.meaning_derivation.specs.Values.{Value, value_at, token_of, text_of, parts_of, before, alone, stands_at}
 
@@ -118,7 +118,6 @@ shape_of MakeIfStatement = plain_shape 3 kinds.IfStatement (AtWord 2) (OneTree C
 shape_of MakeDoStatement = numbered_shape 4 kinds.DoStatement (AtWord 3) 1 (OneTree Evaluated 2 ∷ OneTree Condition 0 ∷ [])
 shape_of MakeForStatement =
     plain_shape 5 kinds.ForStatement (AtWord 4) (OneTree Evaluated 3 ∷ OneTree Condition 2 ∷ OneTree Evaluated 1 ∷ OneTree Evaluated 0 ∷ [])
-shape_of MakeContextStatement = plain_shape 1 kinds.ContextStatement (AtWord 0) []
 shape_of MakeConditional = plain_shape 4 kinds.Conditional (AtWord 2) (OneTree Condition 3 ∷ AllTrees 1 ∷ OneTree Evaluated 0 ∷ [])
 shape_of MakeSizeofType = plain_shape 3 kinds.SizeofType (AtWord 2) (OneTree TypePart 0 ∷ [])
 shape_of MakeCall = plain_shape 3 kinds.Call (AtWord 1) (OneTree Evaluated 2 ∷ AllTrees 0 ∷ [])

@@ -1,9 +1,10 @@
 -- What was read so far, and what comes of a step.
-use Rattle.std.specs.Prelude.{ℕ, ◌+◌, List, [], ◌∷◌, drop, nat_lt, Option, Some, None, if◌then◌else◌}
+use Rattle.std.specs.Prelude.{ℕ, ◌+◌, List, [], ◌∷◌, drop, length, nat_lt, Option, Some, None, if◌then◌else◌}
 use Rattle.vocabulary.specs.declared.error_kind.ErrorKind.{ErrorKind}
 use Rattle.vocabulary.specs.declared.limit.LimitKind.{LimitKind}
 use Rattle.vocabulary.specs.declared.limit.LimitKind.TheVariants.{Nodes, ParseStack}
 use Rattle.vocabulary.specs.declared.role.Role.{Role}
+use Rattle.meaning_text.specs.Tokens.{Tok}
 use Rattle.meaning_tree.specs.Trees.{SyntaxTree, NoParts, Part}
 use Rattle.meaning_scopes.specs.Scopes.{Entry, ScopeList}
 use Rattle.meaning_grammar.specs.Terminals.{Terminal}
@@ -46,19 +47,21 @@ pub record State : Type 0 where
   pub closed : List (ClosedList (List ℕ))
   -- where the parameter list of a function begins whose body comes next
   pub awaited : Option ℕ
+  -- the tokens of the unit, in order
+  pub tokens : List Tok
 
 -- the token of the first of these terminals, or what it is last
 abbrev pub token_before : (last_token : ℕ) → List Terminal → ℕ
 token_before last_token [] = last_token
 token_before last_token (terminal ∷ terminals) = terminal.index
 
--- before the first terminal of a unit whose end stands there
-abbrev pub state_at_start : (last_token : ℕ) → List Terminal → State
-state_at_start last_token terminals =
+-- before the first of these terminals, in a unit of these tokens
+abbrev pub state_at_start : List Tok → List Terminal → State
+state_at_start tokens terminals =
     record {
       taken = 0;
-      next_token = token_before last_token terminals;
-      last_token = last_token;
+      next_token = token_before (length tokens) terminals;
+      last_token = length tokens;
       values = [];
       scopes = [];
       nodes = 0;
@@ -67,6 +70,7 @@ state_at_start last_token terminals =
       function_end = None;
       closed = [];
       awaited = None;
+      tokens = tokens;
     }
 
 -- Why nothing goes on

@@ -1,5 +1,5 @@
 -- The outcome of a unit: the tree that its tokens derive, or what is told of it.
-use Rattle.std.specs.Prelude.{◌≡◌, ℕ, List, [], ◌∷◌, length}
+use Rattle.std.specs.Prelude.{◌≡◌, ℕ, List, [], ◌∷◌}
 use Rattle.vocabulary.specs.declared.action.Action.{Action}
 use Rattle.meaning_text.specs.Tokens.{Tok}
 use Rattle.meaning_tree.specs.Trees.{SyntaxTree}
@@ -9,9 +9,9 @@ use Rattle.meaning_derivation.specs.Values.{TreeValue}
 use Rattle.meaning_derivation.specs.State.{State, state_at_start, Fault, ActionOutcome, Outcome, Done, Fails}
 use Rattle.meaning_derivation.specs.Derivation.{DerivesAll}
 
--- before the first token of a unit, whose end stands behind its last token
+-- before the first token of a unit
 abbrev pub state_before : List Tok → State
-state_before tokens = state_at_start (length tokens) (terminals tokens)
+state_before tokens = state_at_start tokens (terminals tokens)
 
 -- what comes of the tokens of a unit
 abbrev pub HasOutcome : (Action → State → ActionOutcome) → List Tok → Outcome → Type 0

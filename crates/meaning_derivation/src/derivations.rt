@@ -3,6 +3,7 @@ ghost use Rattle.meaning_derivation.specs.laws.Outcomes.{ItemsHaveOneOutcome, Un
 ghost use Rattle.meaning_derivation.specs.laws.Sorts.{ActionsAreSorted, ActionsLeadOn};
 ghost use Rattle.meaning_derivation.specs.laws.Shapes.{ShapesAreMade};
 ghost use Rattle.meaning_derivation.specs.laws.Storage.{ClassesHaveNumbers, SpecifiersHaveTheirClass};
+ghost use Rattle.meaning_derivation.specs.examples.Literals.{ContextExamples, LiteralExamples};
 ghost use Rattle.meaning_derivation.specs.examples.Units.{TreeExamples, BodyExamples, BindExamples, ChainExamples, RefusalExamples};
 ghost use Rattle.meaning_derivation.specs.examples.Specifiers.{SetExamples, SpecifierExamples, PlaceExamples, FunctionExamples};
 
@@ -46,4 +47,6 @@ pub fn worked_examples()
     ensures specifiers { SpecifierExamples }
     ensures places { PlaceExamples }
     ensures functions { FunctionExamples }
+    ensures literals { LiteralExamples }
+    ensures contexts { ContextExamples }
 {}

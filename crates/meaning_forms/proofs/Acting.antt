@@ -1,5 +1,5 @@
 -- What each action leaves is known.
-use Rattle.std.proofs.Common.{◌≡◌, ℕ, Bool, true, false, ◌&&◌, List, [], ◌∷◌, ◌++◌, drop, Option, Some, None, IfSome, nat_lt, refl, sym, ap, subst, ◌∙◌, if◌then◌else◌}
+use Rattle.std.proofs.Common.{◌≡◌, ℕ, Bool, true, false, ◌&&◌, List, [], ◌∷◌, ◌++◌, drop, Option, Some, None, Result, Ok, Err, ℤ, IfSome, nat_lt, refl, sym, ap, subst, ◌∙◌, if◌then◌else◌}
 use Rattle.std.proofs.lemmas.Option.{same_Some}
 use Rattle.vocabulary.specs.declared.error_kind.ErrorKind.TheVariants.{BadDeclaration}
 use Rattle.vocabulary.specs.declared.role.Role.{Role}
@@ -8,18 +8,26 @@ use Rattle.vocabulary.specs.declared.scope.Bound.{Bound}
 use Rattle.vocabulary.specs.declared.scope.Bound.TheVariants.{Enumerator, Unlinked}
 use Rattle.vocabulary.specs.declared.scope.NameSpace.TheVariants.{Ordinary, Tags}
 use Rattle.vocabulary.specs.declared.limit.LimitKind.TheVariants.{Parameters}
+use Rattle.vocabulary.specs.declared.int_kind.IntKind.{IntKind}
+use Rattle.vocabulary.specs.declared.node_kind.NodeKind.{NodeKind}
 use Rattle.vocabulary.specs.declared.node_kind.NodeKind.TheVariants as kinds
 use Rattle.vocabulary.specs.declared.action.Action.{Action}
-use Rattle.vocabulary.specs.declared.action.Action.TheVariants.{Append, AppendAttribute, AppendDeclarator, AppendLeadingAttributes, AwaitBody, BeginAtNext, BeginDeclarators, BeginList, BindDeclarator, BindEnumerator, BindFurtherDeclarator, BindParameter, CloseParameters, CloseScope, CountParameter, DeclareTag, DefineTag, JoinAnyParts, JoinParts, JoinSuffixes, MakeBlockSpecifiers, MakeCharacterConstant, MakeFileSpecifiers, MakeForPart, MakeIntegerConstant, MakeMemberSpecifiers, MakeOptionalDeclarator, MakeParameterSpecifiers, MakeParenthesizedAttributes, MakeStringLiteral, MakeTypeName, MakeTypeNameSpecifiers, NoteFunctionDeclarator, OpenBody, OpenScope, RequireType, RequireTypeOrAttributes, UseName, UseTag, UseTypedefName, WithoutTag}
+use Rattle.vocabulary.specs.declared.action.Action.TheVariants.{Append, AppendAttribute, AppendDeclarator, AppendLeadingAttributes, AwaitBody, BeginAtNext, BeginDeclarators, BeginList, BindDeclarator, BindEnumerator, BindFurtherDeclarator, BindParameter, CloseParameters, CloseScope, CountParameter, DeclareTag, DefineTag, JoinAnyParts, JoinParts, JoinSuffixes, MakeBlockSpecifiers, MakeCharacterConstant, MakeContextStatement, MakeFileSpecifiers, MakeForPart, MakeIntegerConstant, MakeMemberSpecifiers, MakeOptionalDeclarator, MakeParameterSpecifiers, MakeParenthesizedAttributes, MakeStringLiteral, MakeTypeName, MakeTypeNameSpecifiers, NoteFunctionDeclarator, OpenBody, OpenScope, RequireType, RequireTypeOrAttributes, UseName, UseTag, UseTypedefName, WithoutTag}
 use Rattle.meaning_tree.specs.Trees.{SyntaxTree, Node, Parts, NoParts, Part, with_parts}
-use Rattle.meaning_tree.specs.Forms.{PartSort, LeadingLists, SpecifierList, ADeclarator, ADeclaratorPart, ASpecifier, AnExpression, AConstant, AString, attribute_lists, expressions, optional_expressions, IsOf, Slot, One, Perhaps, Each, slots_of, Fits, nothing, one, left_out, there, no_more, one_more, IsFormedTree, AreFormedTrees}
+use Rattle.meaning_tree.specs.Forms.{PartSort, LeadingLists, SpecifierList, ADeclarator, ADeclaratorPart, ASpecifier, AnExpression, AConstant, AString, attribute_lists, expressions, optional_expressions, IsOf, Slot, One, Perhaps, Each, slots_of, Fits, nothing, one, left_out, there, no_more, one_more, IsFormedTree, AreFormedTrees, AStatement}
 use Rattle.meaning_scopes.specs.Scopes.{Found, is_open}
+use Rattle.meaning_attributes.specs.Contexts.{ChangeFault, BadChange, ChangePassesLimit, change_of}
+use Rattle.meaning_literals.specs.Constants.{Constant, Fault}
+use Rattle.meaning_literals.specs.Integers.{integer_of}
+use Rattle.meaning_literals.specs.Quoted.{char_of}
 use Rattle.meaning_scopes.specs.Redeclaration.{bound_here, is_redeclared}
 use Rattle.meaning_derivation.specs.Values.{Value, WordValue, TreeValue, ListValue, value_at, token_of, text_of, parts_of, before, name_of, plain_tree}
 use Rattle.meaning_derivation.specs.State.{State, Goes, made_as, made, with_limit}
 use Rattle.meaning_derivation.specs.Lists.{reversed_before, part_count, most_parameters, appended, joined, suffixed, has_spelling, name_or, unnamed_declarator, attributes_list, leading_attributes, part_of_for, first_tree_token, type_name, type_name_tree}
 use Rattle.meaning_derivation.specs.Storage.{specifiers_tree}
 use Rattle.meaning_derivation.specs.Specifiers.{is_bad_in_file, is_bad_in_block, is_bad_member, is_refused_parameter, parameter_error, held_where}
+use Rattle.meaning_derivation.specs.Contexts.{in_parentheses, tokens_behind, context_made}
+use Rattle.meaning_derivation.specs.Literals.{BadLiteral, bad_piece, constant_made, constant_tree, string_made}
 use Rattle.meaning_derivation.specs.Scoping.{declared, bound, bound_as, last_handle, parameter_bound, tag_at, found_name, found_here, parts_below, ends_with_parameters, name_used, typedef_named, without_closed}
 use Rattle.meaning_derivation.specs.Shapes.{Shape, shape_of, shaped_tree}
 use Rattle.meaning_derivation.specs.Actions.{act, below, specified}
@@ -307,8 +315,32 @@ module _ (begun : Parts (List ℕ)) (s next : State) (rest : List Value) where
       replace list known after value left
       (reached _ next is ∙ ap (λ all. value_at all 1 ∷ drop 2 all) (top ∙ ap (λ all. WordValue token text ∷ all) under)) value_is (same_Some _ _ found) below_it
 
+  -- a constant that has a value
+  constant_acts :
+      (kind_of : IntKind → NodeKind) (found_value : Result Constant Fault) (sorts : List PartSort) (known after : List Known)
+      → constant_made s kind_of (below s 0) found_value ≡ Goes next
+      → ((constant : Constant) → IsFormedTree (constant_tree kind_of (below s 0) constant) × IsOf sorts (constant_tree kind_of (below s 0) constant))
+      → Some (ATree sorts ∷ known) ≡ Some after → Stands (AWord ∷ known) → Leaves after
+  constant_acts kind_of (Ok constant) sorts known after is formed found stand =
+      in_place_of_word _ sorts known after is (formed constant).0 (formed constant).1 found stand
+  constant_acts kind_of (Err fault) sorts known after is formed found stand = absurd (cc is)
+
+  -- a context statement that has a change
+  context_acts :
+      (change : Result ℤ ChangeFault) (known after : List Known) → context_made s (below s 0) change ≡ Goes next
+      → Some (ATree (AStatement ∷ []) ∷ known) ≡ Some after → Stands (AWord ∷ known) → Leaves after
+  context_acts (Ok change) known after is found stand = in_place_of_word _ (AStatement ∷ []) known after is (nothing, tt) refl found stand
+  context_acts (Err BadChange) known after is found stand = absurd (cc is)
+  context_acts (Err ChangePassesLimit) known after is found stand = absurd (cc is)
+
+  -- literals that have values
+  string_made_so :
+      (word list : Value) (bad : Option BadLiteral) → string_made s word list bad ≡ Goes next → string_made s word list None ≡ Goes next
+  string_made_so word list None is = is
+  string_made_so word list (Some bad) is = absurd (cc is)
+
   string_acts :
-      (slots : List Slot) (known after : List Known) → act MakeStringLiteral s ≡ Goes next
+      (slots : List Slot) (known after : List Known) → string_made s (below s 1) (below s 0) None ≡ Goes next
       → where_ (is_within slots (slots_of kinds.StringLiteral)) (ATree (AString ∷ []) ∷ known) ≡ Some after → Stands (AList slots ∷ AWord ∷ known) → Leaves after
   string_acts slots known after is found stand =
       let tests = where_holds (is_within slots (slots_of kinds.StringLiteral)) (ATree (AString ∷ []) ∷ known) after found in
@@ -464,11 +496,15 @@ module _ (begun : Parts (List ℕ)) (s next : State) (rest : List Value) where
   acts MakeForPart known after is found stand = absurd (cc found)
   acts UseName (AWord ∷ known) after is found stand = name_acts (found_name s Ordinary (text_of (below s 0))) (below s 0) known after is found stand
   acts UseName known after is found stand = absurd (cc found)
-  acts MakeIntegerConstant (AWord ∷ known) after is found stand = in_place_of_word _ (AConstant ∷ []) known after is (nothing, tt) refl found stand
+  acts MakeContextStatement (AWord ∷ known) after is found stand =
+      context_acts (change_of (in_parentheses (tokens_behind s (below s 0)))) known after is found stand
+  acts MakeContextStatement known after is found stand = absurd (cc found)
+  acts MakeIntegerConstant (AWord ∷ known) after is found stand = constant_acts kinds.IntegerConstant (integer_of (text_of (below s 0))) (AConstant ∷ []) known after is (λ constant. ((nothing, tt), refl)) found stand
   acts MakeIntegerConstant known after is found stand = absurd (cc found)
-  acts MakeCharacterConstant (AWord ∷ known) after is found stand = in_place_of_word _ (AnExpression ∷ []) known after is (nothing, tt) refl found stand
+  acts MakeCharacterConstant (AWord ∷ known) after is found stand = constant_acts kinds.CharacterConstant (char_of (text_of (below s 0))) (AnExpression ∷ []) known after is (λ constant. ((nothing, tt), refl)) found stand
   acts MakeCharacterConstant known after is found stand = absurd (cc found)
-  acts MakeStringLiteral (AList slots ∷ AWord ∷ known) after is found stand = string_acts slots known after is found stand
+  acts MakeStringLiteral (AList slots ∷ AWord ∷ known) after is found stand =
+      string_acts slots known after (string_made_so (below s 1) (below s 0) (bad_piece (parts_of (below s 0))) is) found stand
   acts MakeStringLiteral known after is found stand = absurd (cc found)
   -- each other one makes the node of its shape
   acts action known after is found stand = shape_acts action known after (shape_of action) (shapes_are_made action s) is found stand

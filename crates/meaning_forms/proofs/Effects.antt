@@ -7,11 +7,11 @@ use Rattle.vocabulary.specs.declared.token_class.TokenClass.TheVariants.{End}
 use Rattle.vocabulary.specs.declared.symbol.Symbol.{Symbol}
 use Rattle.vocabulary.specs.declared.symbol.Symbol.TheVariants.{AdditiveTail, AndTail, AnyDeclarator, AnyDirectDeclarator, Arguments, ArraySize, AssignmentTail, Attribute, AttributeArguments, AttributeList, AttributeLists, BalancedTokens, BlockItem, BlockItems, BodyOrDeclarators, BracedInitializer, CastOperand, CommaTail, CompoundStatement, ConditionalTail, Declaration, Declarator, DeclaratorSuffixes, Declarators, Designator, DirectDeclarator, EnumSpecifier, Enumerator, EnumeratorsBehindComma, EnumeratorsBehindTag, EqualityTail, ExclusiveOrTail, ExternalDeclaration, ExternalDeclarations, ExternalDeclarators, ForInitialization, FurtherArguments, FurtherAttributes, FurtherDeclarators, FurtherDesignators, FurtherEnumerators, FurtherInitializerItems, FurtherMemberDeclarators, FurtherParameters, FurtherStringLiterals, InclusiveOrTail, Initializer, InitializerItem, InitializerItems, LogicalAndTail, LogicalOrTail, MemberDeclaration, MemberDeclarations, MemberDeclarator, MemberDeclarators, MembersBehindTag, MiddleOperand, MultiplicativeTail, OffsetofDesignators, OptionalElse, OptionalEnumeratorValue, OptionalExpression, OptionalInitializer, OptionalWidth, Parameter, ParameterOrEllipsis, Parameters, ParenthesizedExpression, PointerQualifiers, Pointers, PostfixTail, RelationalTail, ShiftTail, SizeofOperand, SizeofTypeEnd, Specifiers, SpecifiersBehindType, Statement, StaticAssertion, StorageClassSpecifier, StringLiterals, StructOrUnionSpecifier, TagOrEnumerators, TagOrMembers, TypeName, TypeQualifier, TypeWord, TypeofOperand, TypeofSpecifier}
 use Rattle.vocabulary.specs.declared.action.Action.{Action}
-use Rattle.vocabulary.specs.declared.action.Action.TheVariants.{Append, AppendAttribute, AppendDeclarator, AppendLeadingAttributes, AwaitBody, BeginAtNext, BeginDeclarators, BeginList, BindDeclarator, BindEnumerator, BindFurtherDeclarator, BindParameter, CloseParameters, CloseScope, CountParameter, DeclareTag, DefineTag, JoinAnyParts, JoinParts, JoinSuffixes, MakeBlockSpecifiers, MakeCharacterConstant, MakeFileSpecifiers, MakeForPart, MakeIntegerConstant, MakeMemberSpecifiers, MakeOptionalDeclarator, MakeParameterSpecifiers, MakeParenthesizedAttributes, MakeStringLiteral, MakeTypeName, MakeTypeNameSpecifiers, NoteFunctionDeclarator, OpenBody, OpenScope, RequireType, RequireTypeOrAttributes, UseName, UseTag, UseTypedefName, WithoutTag}
+use Rattle.vocabulary.specs.declared.action.Action.TheVariants.{Append, AppendAttribute, AppendDeclarator, AppendLeadingAttributes, AwaitBody, BeginAtNext, BeginDeclarators, BeginList, BindDeclarator, BindEnumerator, BindFurtherDeclarator, BindParameter, CloseParameters, CloseScope, CountParameter, DeclareTag, DefineTag, JoinAnyParts, JoinParts, JoinSuffixes, MakeBlockSpecifiers, MakeCharacterConstant, MakeContextStatement, MakeFileSpecifiers, MakeForPart, MakeIntegerConstant, MakeMemberSpecifiers, MakeOptionalDeclarator, MakeParameterSpecifiers, MakeParenthesizedAttributes, MakeStringLiteral, MakeTypeName, MakeTypeNameSpecifiers, NoteFunctionDeclarator, OpenBody, OpenScope, RequireType, RequireTypeOrAttributes, UseName, UseTag, UseTypedefName, WithoutTag}
 use Rattle.vocabulary.specs.declared.production_item.ProductionItem.{ProductionItem}
 use Rattle.vocabulary.specs.declared.production_item.ProductionItem.TheVariants.{Token, Passed, PassedAny, Name, LabelName, AttributeWord, CaseColon, DesignatorEnd, Nonterminal, Do}
 use Rattle.vocabulary.specs.declared.node_kind.NodeKind.TheVariants as kinds
-use Rattle.meaning_tree.specs.Forms.{ADeclaration, LeadingLists, SpecifierList, ASpecifier, AQualifier, AMemberList, AWidth, AnEnumerator, ADeclarator, ADeclaratorPart, AParameter, AnEllipsis, ATypeName, AnAttribute, AnInitializer, Braces, AnItem, ADesignator, ACompoundStatement, AStringPiece, AString, AConstant, AnExpression, AnAssertion, sort_of_kind, expressions, statements, block_items, external_declarations, members, qualifiers, specifiers, initial_values, optional_expressions, attribute_lists, Slot, One, Perhaps, Each, DeclaratorSlots, MemberSlots, slots_of}
+use Rattle.meaning_tree.specs.Forms.{ADeclaration, LeadingLists, SpecifierList, ASpecifier, AQualifier, AMemberList, AWidth, AnEnumerator, ADeclarator, ADeclaratorPart, AParameter, AnEllipsis, ATypeName, AnAttribute, AnInitializer, Braces, AnItem, ADesignator, ACompoundStatement, AStringPiece, AString, AConstant, AnExpression, AnAssertion, AStatement, sort_of_kind, expressions, statements, block_items, external_declarations, members, qualifiers, specifiers, initial_values, optional_expressions, attribute_lists, Slot, One, Perhaps, Each, DeclaratorSlots, MemberSlots, slots_of}
 use Rattle.meaning_grammar.specs.Classes.{is_same}
 use Rattle.meaning_derivation.specs.Shapes.{AtTree, Source, OneTree, AllTrees, Shape, shape_of}
 use Rattle.meaning_forms.proofs.Slots.{is_within}
@@ -306,6 +306,8 @@ behind_known MakeForPart (AWord ∷ AList slots ∷ known) =
 behind_known MakeForPart known = None
 behind_known UseName (AWord ∷ known) = Some (ATree (AnExpression ∷ []) ∷ known)
 behind_known UseName known = None
+behind_known MakeContextStatement (AWord ∷ known) = Some (ATree (AStatement ∷ []) ∷ known)
+behind_known MakeContextStatement known = None
 behind_known MakeIntegerConstant (AWord ∷ known) = Some (ATree (AConstant ∷ []) ∷ known)
 behind_known MakeIntegerConstant known = None
 behind_known MakeCharacterConstant (AWord ∷ known) = Some (ATree (AnExpression ∷ []) ∷ known)

@@ -15,3 +15,4 @@ pub mod LiteralLengths
 pub mod DeclaredNames
 pub mod Finished
 pub mod SpecifiedKinds
+pub mod HandedOn

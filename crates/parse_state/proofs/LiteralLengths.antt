@@ -1,18 +1,21 @@
 -- How many bytes string literals have, by the nodes of which they are the names.
-use Rattle.std.proofs.Common.{◌≡◌, ℕ, zero, suc, ◌+◌, ◌-◌, ◌<◌, Bool, true, List, [], ◌∷◌, map, reverse, length, slice_get, Option, Some, None, refl, sym, ap, ◌∙◌, arith}
+use Rattle.std.proofs.Common.{◌≡◌, ℕ, zero, suc, ◌+◌, ◌-◌, ◌<◌, Bool, true, List, [], ◌∷◌, map, reverse, length, slice_get, Option, Some, None, Result, Ok, Err, refl, sym, ap, subst, ◌∙◌, arith}
 use Rattle.std.specs.List.{list_all}
 use Rattle.std.proofs.lemmas.Bool.{and_parts, ltb-true}
 use Rattle.std.proofs.lemmas.Option.{same_Some}
 use Rattle.vocabulary.specs.declared.role.Role.{Role}
 use Rattle.vocabulary.specs.Roles.{role_of}
+use Rattle.meaning_literals.specs.Constants.{Fault}
 use Rattle.meaning_literals.specs.Quoted.{string_of}
 use Rattle.meaning_tree.specs.Trees.{SyntaxTree, Node, Parts, Part}
 use Rattle.meaning_tree.specs.Nodes.{TreeNode, NodeList, HasNode, ChildrenStandBefore}
 use Rattle.meaning_tree.specs.Listed.{tree_at, parts_at}
-use Rattle.meaning_derivation.specs.Literals.{piece_length, pieces_length}
+use Rattle.meaning_derivation.specs.Literals.{BadLiteral, bad_piece, first_bad, piece_length, pieces_length}
 use Rattle.meaning_derivation.specs.Values as values
 use Rattle.sparse_model.specs.declared.ids.NameId.{NameId}
 use Rattle.c_tokens.specs.Seen.{text_of}
+use Rattle.parse_state.specs.declared.fault.ActionFault.{ActionFault}
+use Rattle.parse_state.specs.declared.fault.ActionFault.TheVariants.{Refused, Limit, Memory}
 use Rattle.parse_state.specs.declared.value.Value.{Value}
 use Rattle.parse_state.specs.declared.value.Value.TheVariants.{Word, Tree}
 use Rattle.parse_state.specs.declared.value.Value.TheVariants as kinds
@@ -20,6 +23,7 @@ use Rattle.parse_state.specs.Asking.{list_in}
 use Rattle.parse_state.specs.Giving.{is_below, has_handles_below}
 use Rattle.parse_state.specs.Seen.{spelled_trees, value_of}
 use Rattle.parse_state.specs.Soundness.{is_known}
+use Rattle.parse_state.specs.Strings.{IsOfBad}
 use Rattle.parse_state.proofs.Parts.{node_seen}
 use Rattle.parse_state.proofs.Seeing.{seen, value_at-seen}
 use Rattle.parse_state.proofs.Stacks.{all-reverse}
@@ -28,6 +32,27 @@ use Rattle.parse_state.proofs.Stacks.{all-reverse}
 pub pieces_length-first : (role : Role) (tree : SyntaxTree) (others : Parts (List ℕ))
     → pieces_length (Part role tree others) ≡ piece_length (string_of (values.name_of (values.TreeValue tree))) + pieces_length others
 pieces_length-first role (Node kind token name number parts) others = refl
+
+pub bad_piece-first : (role : Role) (tree : SyntaxTree) (others : Parts (List ℕ))
+    → bad_piece (Part role tree others)
+    ≡ first_bad (string_of (values.name_of (values.TreeValue tree))) (values.stands_at (values.TreeValue tree)) (bad_piece others)
+bad_piece-first role (Node kind token name number parts) others = refl
+
+-- a literal that isn't bad says nothing of those behind it, and a bad one says what it is
+pub first_bad-none : (found : Result (List ℕ) Fault) (token : ℕ) (behind : Option BadLiteral) → first_bad found token None ≡ None → first_bad found token behind ≡ behind
+first_bad-none (Ok bytes) token behind is = refl
+first_bad-none (Err fault) token behind is = absurd (cc is)
+
+pub first_bad-some : (found : Result (List ℕ) Fault) (token : ℕ) (behind : Option BadLiteral) (bad : BadLiteral) → first_bad found token None ≡ Some bad → first_bad found token behind ≡ Some bad
+first_bad-some (Ok bytes) token behind bad is = absurd (cc is)
+first_bad-some (Err fault) token behind bad is = is
+
+-- what is told of the first piece is told of all
+pub IsOfBad-first : (found : Result (List ℕ) Fault) (token : ℕ) (behind : Option BadLiteral) (fault : ActionFault)
+    → IsOfBad (first_bad found token None) fault → IsOfBad (first_bad found token behind) fault
+IsOfBad-first found token behind (Refused kind at) is = first_bad-some found token behind _ is
+IsOfBad-first found token behind (Limit limit at) is = absurd is
+IsOfBad-first found token behind Memory is = tt
 
 -- The list so far below the top
 
@@ -43,6 +68,29 @@ module _ (names : List (List ℕ)) (trees : List SyntaxTree) where
       → pieces_length (values.parts_of (values.value_at (map (value_of names trees) stack) depth)) ≡ pieces_length (parts_at trees pieces)
   length-seen stack depth pieces is =
       ap (λ value. pieces_length (values.parts_of value)) (value_at-seen (value_of names trees) stack depth) ∙ length_found (slice_get stack depth) pieces is
+
+  bad_found : (found : Option Value) (pieces : List (ℕ × ℕ)) → list_in found ≡ Some pieces
+      → bad_piece (values.parts_of (seen (value_of names trees) found)) ≡ bad_piece (parts_at trees pieces)
+  bad_found None pieces is = absurd (cc is)
+  bad_found (Some (Word token name)) pieces is = absurd (cc is)
+  bad_found (Some (Tree handle)) pieces is = absurd (cc is)
+  bad_found (Some (kinds.List children)) pieces is = ap (λ one. bad_piece (parts_at trees one)) (same_Some _ _ is)
+
+  pub bad-seen : (stack : List Value) (depth : ℕ) (pieces : List (ℕ × ℕ)) → list_in (slice_get stack depth) ≡ Some pieces
+      → bad_piece (values.parts_of (values.value_at (map (value_of names trees) stack) depth)) ≡ bad_piece (parts_at trees pieces)
+  bad-seen stack depth pieces is =
+      ap (λ value. bad_piece (values.parts_of value)) (value_at-seen (value_of names trees) stack depth) ∙ bad_found (slice_get stack depth) pieces is
+
+  bad_of_none : (found : Option Value) → list_in found ≡ None → bad_piece (values.parts_of (seen (value_of names trees) found)) ≡ None
+  bad_of_none None is = refl
+  bad_of_none (Some (Word token name)) is = refl
+  bad_of_none (Some (Tree handle)) is = refl
+  bad_of_none (Some (kinds.List children)) is = absurd (cc is)
+
+  pub no_bad-seen : (stack : List Value) (depth : ℕ) → list_in (slice_get stack depth) ≡ None
+      → bad_piece (values.parts_of (values.value_at (map (value_of names trees) stack) depth)) ≡ None
+  no_bad-seen stack depth is =
+      ap (λ value. bad_piece (values.parts_of value)) (value_at-seen (value_of names trees) stack depth) ∙ bad_of_none (slice_get stack depth) is
 
   length_of_none : (found : Option Value) → list_in found ≡ None → pieces_length (values.parts_of (seen (value_of names trees) found)) ≡ 0
   length_of_none None is = refl
@@ -106,6 +154,36 @@ module _ (trees : List SyntaxTree) where
       ap (λ pieces. pieces_length (parts_at trees pieces)) front in
       let first = pieces_length-first (role_of piece.1) (tree_at trees piece.0) (parts_at trees rest) in
       omega (arith, all, first, so_far, one, more)
+
+  -- what is bad in the pieces that are left, by the first of them
+  bad_of_first : (left rest : List (ℕ × ℕ)) (piece : ℕ × ℕ) (text : List ℕ) (token : ℕ) → left ≡ piece ∷ rest
+      → text ≡ values.name_of (values.TreeValue (tree_at trees piece.0)) → token ≡ values.stands_at (values.TreeValue (tree_at trees piece.0))
+      → first_bad (string_of text) token (bad_piece (parts_at trees rest)) ≡ bad_piece (parts_at trees left)
+  bad_of_first left rest piece text token front spelled stands =
+      ap (λ name. first_bad (string_of name) token (bad_piece (parts_at trees rest))) spelled
+      ∙ ap (λ at. first_bad (string_of (values.name_of (values.TreeValue (tree_at trees piece.0)))) at (bad_piece (parts_at trees rest))) stands
+      ∙ sym (bad_piece-first (role_of piece.1) (tree_at trees piece.0) (parts_at trees rest))
+      ∙ sym (ap (λ pieces. bad_piece (parts_at trees pieces)) front)
+
+  -- the first of the pieces that are left isn't bad, so the first bad one is behind it
+  pub unbroken_more : (whole : Option BadLiteral) (left rest : List (ℕ × ℕ)) (piece : ℕ × ℕ) (text : List ℕ) (token : ℕ) → left ≡ piece ∷ rest
+      → bad_piece (parts_at trees left) ≡ whole → text ≡ values.name_of (values.TreeValue (tree_at trees piece.0))
+      → token ≡ values.stands_at (values.TreeValue (tree_at trees piece.0)) → first_bad (string_of text) token None ≡ None → bad_piece (parts_at trees rest) ≡ whole
+  unbroken_more whole left rest piece text token front so_far spelled stands good =
+      sym (first_bad-none (string_of text) token (bad_piece (parts_at trees rest)) good)
+      ∙ bad_of_first left rest piece text token front spelled stands ∙ so_far
+
+  -- it is bad, and so the first bad one of all
+  pub broken_here : (whole : Option BadLiteral) (left rest : List (ℕ × ℕ)) (piece : ℕ × ℕ) (text : List ℕ) (token : ℕ) (fault : ActionFault) → left ≡ piece ∷ rest
+      → bad_piece (parts_at trees left) ≡ whole → text ≡ values.name_of (values.TreeValue (tree_at trees piece.0))
+      → token ≡ values.stands_at (values.TreeValue (tree_at trees piece.0)) → IsOfBad (first_bad (string_of text) token None) fault → IsOfBad whole fault
+  broken_here whole left rest piece text token fault front so_far spelled stands bad =
+      subst (λ found. IsOfBad found fault) (bad_of_first left rest piece text token front spelled stands ∙ so_far)
+      (IsOfBad-first (string_of text) token (bad_piece (parts_at trees rest)) fault bad)
+
+  -- none is left, so none is bad
+  pub unbroken_all : (whole : Option BadLiteral) (left : List (ℕ × ℕ)) → left ≡ [] → bad_piece (parts_at trees left) ≡ whole → whole ≡ None
+  unbroken_all whole left none so_far = sym so_far ∙ ap (λ pieces. bad_piece (parts_at trees pieces)) none
 
   pub counted_all : (length whole : ℕ) (left : List (ℕ × ℕ)) → left ≡ [] → length + pieces_length (parts_at trees left) ≡ whole → length ≡ whole
   counted_all length whole left none so_far =

@@ -15,3 +15,4 @@ pub mod Storage
 pub mod Declaring
 pub mod Finished
 pub mod Specifying
+pub mod Strings

@@ -9,7 +9,8 @@ use Rattle.meaning_derivation.specs.Values as values
 use Rattle.meaning_derivation.specs.State.{ClosedList, State, Passed, Held}
 use Rattle.meaning_derivation.specs.Shapes as shapes
 use Rattle.sparse_model.specs.declared.ids.NameId.{NameId}
-use Rattle.c_tokens.specs.Seen.{text_of}
+use Rattle.c_tokens.specs.Seen.{text_of, toks_of}
+use Rattle.c_tokens.specs.declared.token.Token.{Token}
 use Rattle.c_scope.specs.Seen.{entry_of}
 use Rattle.parse_state.specs.declared.value.Value.{Value}
 use Rattle.parse_state.specs.declared.value.Value.TheVariants as kinds
@@ -67,6 +68,8 @@ pub record Read : Type 0 where
   pub function_end : Option ℕ
   pub closed : List (ClosedList NameId)
   pub awaited : Option ℕ
+  -- the tokens of the unit, by ids
+  pub tokens : List Token
 
 -- the state of a derivation that it is
 abbrev pub state_of : Read → State
@@ -83,6 +86,7 @@ state_of read =
       function_end = read.function_end;
       closed = map (closed_of read.names) read.closed;
       awaited = read.awaited;
+      tokens = toks_of read.names read.tokens;
     }
 
 -- where parts come from

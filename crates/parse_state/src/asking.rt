@@ -5,6 +5,7 @@ ghost use Rattle.parse_state.specs.Asking.{count_in, handle_in, name_in, name_in
 use crate::children::value_at;
 use crate::state::ParseState;
 use crate::value::Value;
+use c_tokens::{Names, Token};
 use c_tree::Handle;
 use sparse_model::NameId;
 
@@ -61,7 +62,29 @@ pub(crate) fn name_of_word(values: &[Value], depth: Option<usize>) -> NameId
 impl<'t> ParseState<'t> {
     ghost use Rattle.meaning_derivation.specs.Values.{text_of, token_of, value_at as value_below};
     ghost use Rattle.meaning_derivation.specs.Lists.{has_spelling};
+    ghost use Rattle.meaning_derivation.specs.Contexts.{tokens_behind};
+    ghost use Rattle.c_tokens.specs.Seen.{toks_of};
     ghost use Rattle.parse_state.specs.Seen.{state_of};
+
+    /// The table of spellings.
+    pub fn names(&self) -> &Names
+        ensures { result.now ≡ self.now.names }
+    {
+        self.names
+    }
+
+    /// The tokens of the unit behind that of a word.
+    pub fn tokens_behind(&self, depth: usize) -> &[Token]
+        ensures { toks_of self.now.names result.now ≡ tokens_behind (state_of self.now) (value_below (state_of self.now).values depth) }
+    {
+        let from = self.token(depth) as usize + 1;
+        if from <= self.tokens.len() {
+            let (_, behind) = self.tokens.split_at(from);
+            behind
+        } else {
+            &[]
+        }
+    }
 
     /// The index of the token of a word.
     pub fn token(&self, depth: usize) -> u32

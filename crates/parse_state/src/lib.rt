@@ -29,7 +29,7 @@ mod unwrapping;
 mod value;
 
 pub use declaring::DeclaredName;
-pub use fault::ActionFault;
+pub use fault::{ActionFault, fault_of_literal};
 pub use marks::{HeldError, PassedLimit};
 pub use row::{Place, Row};
 pub use shape::{Shape, Source};

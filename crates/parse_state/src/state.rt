@@ -2,7 +2,7 @@
 use crate::marks::{ClosedParameters, HeldError, PassedLimit};
 use crate::value::Value;
 use c_scope::Scopes;
-use c_tokens::Names;
+use c_tokens::{Names, Token};
 use c_tree::Unit;
 use std::alloc::Global;
 use std::marker::Model;
@@ -26,6 +26,7 @@ pub struct ParseState<'t> {
     pub(crate) function_end: Option<u32>,
     pub(crate) closed: Vec<ClosedParameters>,
     pub(crate) awaited: Option<u32>,
+    pub(crate) tokens: &'t [Token],
 }
 
 impl<'t> Model for ParseState<'t> {
@@ -48,6 +49,7 @@ impl<'t> Model for ParseState<'t> {
       function_end = s.function_end;
       closed = map closed_seen s.closed.items;
       awaited = s.awaited;
+      tokens = s.tokens.now;
     } };
 
     ghost invariant = { λ s. IsSound s.names.now s.unit s.values.items s.scopes (map closed_seen s.closed.items) };
@@ -55,12 +57,19 @@ impl<'t> Model for ParseState<'t> {
 
 impl<'t> ParseState<'t> {
     ghost use Rattle.std.specs.Prelude.{◌≡◌, [], None};
+    ghost use Rattle.c_tokens.specs.Seen.{toks_of};
     ghost use Rattle.parse_state.specs.Seen.{state_of};
 
-    /// The state before the first terminal, which is the token with this index. It takes no memory.
-    pub fn new(alloc: Global, names: &'t Names, next_token: u32, last_token: u32) -> ParseState<'t>
+    /// The state before the first terminal of these tokens, which is the one with the first index. It takes no memory.
+    pub fn new(
+        alloc: Global,
+        names: &'t Names,
+        tokens: &'t [Token],
+        next_token: u32,
+        last_token: u32,
+    ) -> ParseState<'t>
         ensures names { result.names ≡ names.now }
-        ensures state { state_of result ≡ record { taken = 0; next_token = next_token; last_token = last_token; values = []; scopes = []; nodes = 0; passed = None; held = None; function_end = None; closed = []; awaited = None } }
+        ensures state { state_of result ≡ record { taken = 0; next_token = next_token; last_token = last_token; values = []; scopes = []; nodes = 0; passed = None; held = None; function_end = None; closed = []; awaited = None; tokens = toks_of names.now tokens.now } }
     {
         names.apart();
         ParseState {
@@ -77,6 +86,7 @@ impl<'t> ParseState<'t> {
             function_end: None,
             closed: Vec::new(alloc),
             awaited: None,
+            tokens,
         }
     }
 }

@@ -15,9 +15,10 @@ use Rattle.meaning_text.specs.Places.{main_file}
 use Rattle.meaning_text.specs.Tokens.{Tok}
 use Rattle.meaning_text.specs.Lexing.{Lexed, Tokens, Refused, lexed_file}
 use Rattle.meaning_tree.specs.Trees.{SyntaxTree, Node, Parts, NoParts, Part}
-use Rattle.meaning_grammar.specs.Terminals.{Terminal, terminals}
+use Rattle.meaning_grammar.specs.Terminals.{terminals}
 use Rattle.meaning_derivation.specs.Values.{Value, TreeValue, plain_tree, named_tree}
-use Rattle.meaning_derivation.specs.State.{Fault, IsError, PassesLimit, Outcome, Done, Fails, state_at_start}
+use Rattle.meaning_derivation.specs.State.{Fault, IsError, PassesLimit, Outcome, Done, Fails}
+use Rattle.meaning_derivation.specs.Units.{state_before}
 use Rattle.meaning_derivation.specs.Actions.{act}
 use Rattle.meaning_derivation.specs.plain.Deriving.{derive_all, derived_outcome}
 
@@ -222,21 +223,22 @@ pub record ChainExamples : Type 0 where
   pub either : chained (codes "||") ≡ from_the_left kinds.LogicalOr Condition
 
 -- what comes of an expression and a semicolon where so many symbols wait
-abbrev pub waiting : ℕ → List Terminal → Shown
-waiting pending terminals =
-    shown (derive_all act 100 (Nonterminal Expression ∷ items.Passed Semicolon ∷ []) pending (state_at_start 1 terminals) terminals)
+abbrev pub waiting : ℕ → List ℕ → Shown
+waiting pending text =
+    let tokens = tokens_of text in
+    shown (derive_all act 100 (Nonterminal Expression ∷ items.Passed Semicolon ∷ []) pending (state_before tokens) (terminals tokens))
 
 pub record RefusalExamples : Type 0 where
   -- one of each kind: a word, an action, a syntax error, a limit
   pub word : unit (codes "double d;") ≡ IsTold (IsError FloatingType) 0 0
   pub action : unit (codes "int x; typedef int x;") ≡ IsTold (IsError Redeclared) 5 5
   pub syntax : unit (codes "int x int") ≡ IsTold (IsError SyntaxError) 2 2
-  pub limit : waiting 65521 (terminals (tokens_of (codes "1;"))) ≡ IsTold (PassesLimit ParseStack) 0 0
+  pub limit : waiting 65521 (codes "1;") ≡ IsTold (PassesLimit ParseStack) 0 0
   -- with one symbol less the limit is reached and not passed
-  pub no_limit : waiting 65520 (terminals (tokens_of (codes "1;"))) ≡ IsLeft (TreeValue (Node (kinds.IntegerConstant Int) 0 [] 1 NoParts) ∷ [])
+  pub no_limit : waiting 65520 (codes "1;") ≡ IsLeft (TreeValue (Node (kinds.IntegerConstant Int) 0 [] 1 NoParts) ∷ [])
   -- what is wrong at the terminal that passes the limit goes before it, what is wrong behind that doesn't
-  pub action_at_limit : waiting 65521 (terminals (tokens_of (codes "y;"))) ≡ IsTold (IsError NotDeclared) 0 0
-  pub syntax_behind_limit : waiting 65521 (terminals (tokens_of (codes "(;"))) ≡ IsTold (PassesLimit ParseStack) 0 0
+  pub action_at_limit : waiting 65521 (codes "y;") ≡ IsTold (IsError NotDeclared) 0 0
+  pub syntax_behind_limit : waiting 65521 (codes "(;") ≡ IsTold (PassesLimit ParseStack) 0 0
   -- at the end of the file it stands behind the last token, which the grammar needn't see
   pub end : unit (codes "int x") ≡ IsTold (IsError SyntaxError) 2 2
   pub behind_extension : unit (codes "int x __extension__") ≡ IsTold (IsError SyntaxError) 2 3

@@ -152,3 +152,40 @@ returns-clause-functions c = record {
   later = refl;
   behind_initializer = refl;
 }
+
+pub returns-clause-literals : goal.returns-clause-literals
+unfolding opened
+returns-clause-literals c = record {
+  unsigned_long = refl;
+  character = refl;
+  string = refl;
+  bad_digit = refl;
+  bad_suffix = refl;
+  too_large = refl;
+  too_large_signed = refl;
+  empty = refl;
+  two_characters = refl;
+  above_a_byte = refl;
+  leftmost = refl;
+  unsupported_first = refl;
+  not_in_the_row = refl;
+  floating = refl;
+  universal = refl;
+  literal_first = refl;
+}
+
+pub returns-clause-contexts : goal.returns-clause-contexts
+unfolding opened
+returns-clause-contexts c = record {
+  alone = refl;
+  with_words = refl;
+  down = refl;
+  up = refl;
+  empty = refl;
+  words_alone = refl;
+  bad_number = refl;
+  unended = refl;
+  greatest = refl;
+  too_great = refl;
+  too_far_down = refl;
+}

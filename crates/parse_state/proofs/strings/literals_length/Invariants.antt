@@ -3,7 +3,7 @@ use Rattle.std.proofs.Common.{◌≡◌, ◌+◌, true}
 use Rattle.std.specs.List.{list_all}
 use Rattle.meaning_tree.specs.Listed.{parts_at}
 use Rattle.meaning_tree.specs.Nodes.{end_of}
-use Rattle.meaning_derivation.specs.Literals.{pieces_length}
+use Rattle.meaning_derivation.specs.Literals.{bad_piece, pieces_length}
 use Rattle.parse_state.specs.Giving.{is_below}
 use Rattle.parse_state.specs.Seen.{spelled_trees}
 use Rattle.parse_state.proofs.strings.literals_length.Given as goal
@@ -15,4 +15,5 @@ invariant-loop-piece l =
       counted :
           l.length + pieces_length (parts_at (spelled_trees l.names l.unit) l.piece-iterator)
           ≡ pieces_length (parts_at (spelled_trees l.names l.unit) l.pieces);
+      unbroken : bad_piece (parts_at (spelled_trees l.names l.unit) l.piece-iterator) ≡ bad_piece (parts_at (spelled_trees l.names l.unit) l.pieces);
     }

@@ -42,6 +42,7 @@ returns-clause-ok c =
       function_end = c.self.inside.function_end;
       closed = map closed_seen c.self.inside.closed.items;
       awaited = c.self.inside.awaited;
+      tokens = c.self.inside.tokens.now;
     } in
     let name : NameId = name_in (slice_get (reverse c.self.inside.values.items) c.args.depth) in
     let here : c.name_at-name.result ≡ name = c.name_at-name.ensures ∙ ap (λ stack. name_in (slice_get (reverse stack) c.args.depth)) c.deref.ensures.value in

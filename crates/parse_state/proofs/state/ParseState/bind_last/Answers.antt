@@ -38,6 +38,7 @@ returns-clause-ok c =
       function_end = c.self.inside.function_end;
       closed = map closed_seen c.self.inside.closed.items;
       awaited = c.self.inside.awaited;
+      tokens = c.self.inside.tokens.now;
     } in
     let first = c.self.invariant.first in
     let count = c.len.ensures.value in

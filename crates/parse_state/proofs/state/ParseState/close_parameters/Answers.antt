@@ -30,6 +30,7 @@ returns-then-not-is_open-clause-state c =
       function_end = c.self.inside.function_end;
       closed = map closed_seen c.self.inside.closed.items;
       awaited = c.self.inside.awaited;
+      tokens = c.self.inside.tokens.now;
     } in
     let none : is_open c.self.inside.scopes ≡ false = sym c.is_open.ensures ∙ c.if-not-is_open.true in
     closed_within read c.args.token c.new.result (no_scope c.self.inside.scopes none) (c.new.ensures ∙ sym (without_scope-none c.self.inside.scopes none))
@@ -57,6 +58,7 @@ returns-then-is_open-clause-state c =
       function_end = c.self.inside.function_end;
       closed = map closed_seen c.self.inside.closed.items;
       awaited = c.self.inside.awaited;
+      tokens = c.self.inside.tokens.now;
     } in
     closed_within read c.args.token c.keep.new.self
     (more_scopes c.self.inside.scopes (ap is_open (sym c.in_ok-bindings.ensures.ok) ∙ sym c.is_open-2.ensures ∙ c.if-is_open.true)) c.in_ok-bindings.ensures.ok
@@ -93,6 +95,7 @@ returns-clause-state c =
       function_end = c.self.inside.function_end;
       closed = map closed_seen c.self.inside.closed.items;
       awaited = c.self.inside.awaited;
+      tokens = c.self.inside.tokens.now;
     } in
     ap (λ (closed : List (ClosedList NameId)). state_of (record read { scopes = c.keep.new.self; closed = closed }))
     (closed_more c.self.inside.closed.items c.push.new.self.items _ (reverse (innermost c.self.inside.scopes)) c.in_ok-push.ensures.items c.in_ok-bindings.ensures.kept)

@@ -39,6 +39,7 @@ returns-else-is_err-clause-list c =
       function_end = c.self.inside.function_end;
       closed = map closed_seen c.self.inside.closed.items;
       awaited = c.self.inside.awaited;
+      tokens = c.self.inside.tokens.now;
     } in
     let from : c.saturating_sub-from.result ≡ length c.self.inside.values.items - c.args.takes = omega arith in
     on_ok_weaker c.put_list-collected.result

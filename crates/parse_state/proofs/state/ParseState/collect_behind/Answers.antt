@@ -48,6 +48,7 @@ returns-else-is_err-clause-list c =
       function_end = c.self.inside.function_end;
       closed = map closed_seen c.self.inside.closed.items;
       awaited = c.self.inside.awaited;
+      tokens = c.self.inside.tokens.now;
     } in
     let token : c.token_at-token.result ≡ token_in (slice_get (reverse c.self.inside.values.items) c.args.word) =
     c.token_at-token.ensures ∙ ap (λ stack. token_in (slice_get (reverse stack) c.args.word)) c.deref.ensures.value in

@@ -34,6 +34,7 @@ returns-clause-state c =
       function_end = c.self.inside.function_end;
       closed = map closed_seen c.self.inside.closed.items;
       awaited = c.self.inside.awaited;
+      tokens = c.self.inside.tokens.now;
     } in
     let from : c.saturating_sub.result ≡ length c.self.inside.values.items - 1 = omega arith in
     ap (λ (items : List Value). state_of (with_stack read items)) (c.truncate.ensures.items ∙ ap (λ (count : ℕ). take count c.self.inside.values.items) from)

@@ -38,6 +38,7 @@ returns-in-None-clause-found c =
       function_end = c.self.inside.function_end;
       closed = map closed_seen c.self.inside.closed.items;
       awaited = c.self.inside.awaited;
+      tokens = c.self.inside.tokens.now;
     } in
     let none : only_in (slice_get (reverse c.self.inside.values.items) c.args.depth) ≡ None =
     sym (c.in-None.ensures ∙ ap (λ stack. only_in (slice_get (reverse stack) c.args.depth)) c.deref.ensures.value) in
@@ -60,6 +61,7 @@ returns-in-None-clause-state c =
       function_end = c.self.inside.function_end;
       closed = map closed_seen c.self.inside.closed.items;
       awaited = c.self.inside.awaited;
+      tokens = c.self.inside.tokens.now;
     } in
     let none : only_in (slice_get (reverse c.self.inside.values.items) c.args.depth) ≡ None =
     sym (c.in-None.ensures ∙ ap (λ stack. only_in (slice_get (reverse stack) c.args.depth)) c.deref.ensures.value) in
@@ -82,6 +84,7 @@ returns-else-is_err-clause-found c =
       function_end = c.self.inside.function_end;
       closed = map closed_seen c.self.inside.closed.items;
       awaited = c.self.inside.awaited;
+      tokens = c.self.inside.tokens.now;
     } in
     let here : only_in (slice_get (reverse c.self.inside.values.items) c.args.depth) ≡ Some c.in-Some.tree =
     sym (c.in-Some.ensures ∙ ap (λ stack. only_in (slice_get (reverse stack) c.args.depth)) c.deref.ensures.value) in
@@ -104,6 +107,7 @@ returns-else-is_err-clause-state c =
       function_end = c.self.inside.function_end;
       closed = map closed_seen c.self.inside.closed.items;
       awaited = c.self.inside.awaited;
+      tokens = c.self.inside.tokens.now;
     } in
     let here : only_in (slice_get (reverse c.self.inside.values.items) c.args.depth) ≡ Some c.in-Some.tree =
     sym (c.in-Some.ensures ∙ ap (λ stack. only_in (slice_get (reverse stack) c.args.depth)) c.deref.ensures.value) in

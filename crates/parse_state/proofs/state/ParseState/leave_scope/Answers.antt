@@ -36,6 +36,7 @@ returns-then-is_open-clause-state c =
       function_end = c.self.inside.function_end;
       closed = map closed_seen c.self.inside.closed.items;
       awaited = c.self.inside.awaited;
+      tokens = c.self.inside.tokens.now;
     } in
     left_is read c.leave.new.self c.leave.ensures ∙ ap (λ (seen : Read). with_scopes (state_of seen) (without_scope (state_of seen).scopes)) c.self.view_is
 
@@ -55,6 +56,7 @@ returns-else-is_open-clause-state c =
       function_end = c.self.inside.function_end;
       closed = map closed_seen c.self.inside.closed.items;
       awaited = c.self.inside.awaited;
+      tokens = c.self.inside.tokens.now;
     } in
     left_is read c.new.result (c.new.ensures ∙ sym (without_scope-none c.self.inside.scopes (sym c.is_open.ensures ∙ c.if-is_open.false)))
     ∙ ap (λ (seen : Read). with_scopes (state_of seen) (without_scope (state_of seen).scopes)) c.self.view_is

@@ -52,6 +52,7 @@ returns-clause-goes c =
       function_end = c.self.inside.function_end;
       closed = map closed_seen c.self.inside.closed.items;
       awaited = c.self.inside.awaited;
+      tokens = c.self.inside.tokens.now;
     } in
     let shape = c.args.shape.now in
     let items = c.self.inside.values.items in

@@ -42,6 +42,7 @@ returns-clause-state c =
       function_end = c.self.inside.function_end;
       closed = map closed_seen c.self.inside.closed.items;
       awaited = c.self.inside.awaited;
+      tokens = c.self.inside.tokens.now;
     } in
     let entries : List (Entry NameId) = awaited_entries (map closed_seen c.self.inside.closed.items) c.self.inside.awaited in
     let bound : map entry_of c.awaited_bindings.result.now ≡ entries =

@@ -29,6 +29,7 @@ returns-clause-list c =
       function_end = c.self.inside.function_end;
       closed = map closed_seen c.self.inside.closed.items;
       awaited = c.self.inside.awaited;
+      tokens = c.self.inside.tokens.now;
     } in
     ap (λ (items : List Value). state_of (with_stack read items)) c.in_ok-push.ensures.items
     ∙ pushed_is read (kinds.List c.new-list.result)

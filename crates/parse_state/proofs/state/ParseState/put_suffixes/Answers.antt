@@ -36,6 +36,7 @@ returns-else-is_err-clause-list c =
       function_end = c.self.inside.function_end;
       closed = map closed_seen c.self.inside.closed.items;
       awaited = c.self.inside.awaited;
+      tokens = c.self.inside.tokens.now;
     } in
     on_ok_weaker c.turn_before-put.result
     (λ items_are.

@@ -12,6 +12,7 @@ mod definitions;
 mod expansions;
 mod lines;
 mod scopes;
+mod texts;
 mod tool;
 mod types;
 mod units;

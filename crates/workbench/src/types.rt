@@ -16,11 +16,11 @@ use std::str;
 
 /// Qualifiers and flags that wait for the next type.
 #[derive(Clone, Copy)]
-struct Waiting {
-    is_const: bool,
-    is_volatile: bool,
-    noderef: bool,
-    space: Space,
+pub(crate) struct Waiting {
+    pub is_const: bool,
+    pub is_volatile: bool,
+    pub noderef: bool,
+    pub space: Space,
 }
 
 const NONE_WAITING: Waiting = Waiting {
@@ -33,13 +33,13 @@ const NONE_WAITING: Waiting = Waiting {
 /// Types under commands: those that were made and not taken yet, the last one at the end, the members that
 /// no aggregate has yet, and what was answered.
 #[derive(Drop)]
-struct Session {
-    alloc: Global,
-    types: Types,
-    made: Vec<TypeId>,
-    members: Vec<Member>,
-    waiting: Waiting,
-    shown: Vec<u8>,
+pub(crate) struct Session {
+    pub alloc: Global,
+    pub types: Types,
+    pub made: Vec<TypeId>,
+    pub members: Vec<Member>,
+    pub waiting: Waiting,
+    pub shown: Vec<u8>,
 }
 
 /// The answers to commands, which take types from those that were made last and leave what they make.
@@ -63,14 +63,7 @@ pub fn type_answers(alloc: Global, text: &[u8]) -> Result<Vec<u8>, AllocError>
     let Ok(tokens) = lex(alloc, &mut names, 1, text) else {
         return Err(AllocError);
     };
-    let mut session = Session {
-        alloc,
-        types: Types::new(alloc)?,
-        made: Vec::new(alloc),
-        members: Vec::new(alloc),
-        waiting: NONE_WAITING,
-        shown: Vec::new(alloc),
-    };
+    let mut session = Session::new(alloc)?;
     for token in tokens.as_slice() {
         session.command(word_of(&names, token.name), token.name)?;
     }
@@ -78,8 +71,20 @@ pub fn type_answers(alloc: Global, text: &[u8]) -> Result<Vec<u8>, AllocError>
 }
 
 impl Session {
-    // Does what a word says.
-    fn command(&mut self, word: &[u8], name: NameId) -> Result<(), AllocError> {
+    /// The types of integers, and none made yet.
+    pub fn new(alloc: Global) -> Result<Session, AllocError> {
+        Ok(Session {
+            alloc,
+            types: Types::new(alloc)?,
+            made: Vec::new(alloc),
+            members: Vec::new(alloc),
+            waiting: NONE_WAITING,
+            shown: Vec::new(alloc),
+        })
+    }
+
+    /// Does what a word says.
+    pub fn command(&mut self, word: &[u8], name: NameId) -> Result<(), AllocError> {
         if let Some(base) = leaf(word) {
             return self.make(base);
         }
@@ -140,8 +145,8 @@ impl Session {
         }
     }
 
-    // The last type, which is taken.
-    fn take(&mut self) -> Option<TypeId>
+    /// The last type, which is taken.
+    pub fn take(&mut self) -> Option<TypeId>
         ensures known { IfSome result (IsTypeId self.new.types) }
         ensures same { self.new.types ≡ self.old.types }
     {
@@ -153,8 +158,8 @@ impl Session {
         }
     }
 
-    // Makes a type, with the marks that wait.
-    fn make(&mut self, base: ShapeBase) -> Result<(), AllocError>
+    /// Makes a type, with the marks that wait.
+    pub fn make(&mut self, base: ShapeBase) -> Result<(), AllocError>
         requires { IsShapeOver (types_in self.old.types) base }
     {
         let waiting = self.waiting;
@@ -405,7 +410,8 @@ impl Session {
         Ok(())
     }
 
-    fn refuse(&mut self) -> Result<(), AllocError> {
+    /// Says that a command missed something.
+    pub fn refuse(&mut self) -> Result<(), AllocError> {
         self.shown.extend_from_slice(b"refused\n")
     }
 }
@@ -540,8 +546,8 @@ fn verb_of(word: &[u8]) -> Option<Verb> {
     None
 }
 
-// A word with a number behind its last underscore.
-fn numbered(word: &[u8]) -> Option<(&[u8], u32)> {
+/// A word with a number behind its last underscore.
+pub(crate) fn numbered(word: &[u8]) -> Option<(&[u8], u32)> {
     let place = word.iter().rposition(|&byte| byte == b'_')?;
     let (verb, digits) = word.split_at(place);
     let number = str::from_utf8(digits.get(1..)?).ok()?.parse::<u32>().ok()?;

@@ -3,9 +3,9 @@ use crate::scopes::word_of;
 use crate::types::{Session, numbered};
 use c_preproc::UnitTokens;
 use c_tokens::Names;
-use c_types::{Named, ShapeBase};
+use c_types::Named;
 use sparse_model::{
-    Class, ClassSet, ErrorKind, Failure, FailureList, IntKind, NameId, Place, Restrict, RuleCode,
+    Class, ClassSet, ErrorKind, Failure, FailureList, NameId, Place, Restrict, RuleCode,
     Space,
 };
 use std::alloc::{AllocError, Global};
@@ -49,9 +49,9 @@ struct Texts {
 /// The texts that commands ask for: the tokens of a unit behind the first one that is spelled `commands`. Those before it are
 /// what failures and errors stand at.
 ///
-/// Types are made as by the tool `types`, and besides `restricted_int_N` makes a restricted one of unsigned int, `named_space`
-/// marks the next type with the space of the name that was told last, and `tag_is_N` and `identity_is_N` give that name to a tag
-/// or an identity. `called` tells the word behind it as a name, and `nameless` none. `text` writes the last type.
+/// Types are made as by the tool `types`. `called` tells the word behind it as a name, and `nameless` none; `named_space` marks
+/// the next type with the space of that name, and `tag_is_N` and `identity_is_N` give it to a tag or an identity. `text` writes
+/// the last type.
 ///
 /// `at_N` tells a token, `part_N` a part, `number_N`, `minus_N` and `wanted_N` the two numbers, and `first` and `second` take the
 /// last type. A rule, as `A1`, makes a failure of what was told; the next one is at the same token and has the same name.
@@ -167,9 +167,6 @@ impl Texts {
                 Ok(())
             }
             Verb::Name(named) => self.session.types.set_name(named.with(number), self.next.name),
-            Verb::Restricted => self
-                .session
-                .make(ShapeBase::Integer(IntKind::UInt, Some(Restrict(number)))),
             Verb::Text => self.write_type(names, unit),
             Verb::Warning => self.write_last(names, unit),
             Verb::Warnings => self.write_all(names, unit),
@@ -308,7 +305,6 @@ impl Naming {
 enum Verb {
     Tell(Told),
     Name(Naming),
-    Restricted,
     Text,
     Warning,
     Warnings,
@@ -316,7 +312,7 @@ enum Verb {
 }
 
 /// The words, each as far as a number stands behind it.
-const VERBS: [(&[u8], Verb); 19] = [
+const VERBS: [(&[u8], Verb); 18] = [
     (b"called", Verb::Tell(Told::Called)),
     (b"nameless", Verb::Tell(Told::Nameless)),
     (b"on", Verb::Tell(Told::On)),
@@ -331,7 +327,6 @@ const VERBS: [(&[u8], Verb); 19] = [
     (b"second", Verb::Tell(Told::Second)),
     (b"tag_is", Verb::Name(Naming::Tag)),
     (b"identity_is", Verb::Name(Naming::Identity)),
-    (b"restricted_int", Verb::Restricted),
     (b"text", Verb::Text),
     (b"warning", Verb::Warning),
     (b"warnings", Verb::Warnings),

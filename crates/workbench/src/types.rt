@@ -45,7 +45,7 @@ pub(crate) struct Session {
 /// The answers to commands, which take types from those that were made last and leave what they make.
 ///
 /// `const`, `volatile`, `noderef` and `space_N` mark the next type that is made. `void`, a word of a kind as
-/// `unsigned_short`, `restricted_N`, `struct_N` and `union_N` make a type; `pointer`, `array_N`, `open`,
+/// `unsigned_short`, `restricted_N`, `restricted_int_N`, `struct_N` and `union_N` make a type; `pointer`, `array_N`, `open`,
 /// `function_N` and `variadic_N` make one of the last ones, a function of its result and N parameters behind
 /// it, the last one first. `again` leaves the last one once more, `drop` takes it. `pointers_N`, `arrays_N`
 /// and `functions_N` do so N times, with arrays of 1 and functions of two pointers; `agains_N`, `members_N`
@@ -567,6 +567,8 @@ fn leaf(word: &[u8]) -> Option<ShapeBase>
     let (verb, number) = numbered(word)?;
     if verb == b"restricted".as_slice() {
         Some(ShapeBase::Integer(IntKind::UShort, Some(Restrict(number))))
+    } else if verb == b"restricted_int".as_slice() {
+        Some(ShapeBase::Integer(IntKind::UInt, Some(Restrict(number))))
     } else if verb == b"struct".as_slice() {
         Some(ShapeBase::Aggregate(number, false))
     } else if verb == b"union".as_slice() {
@@ -649,7 +651,7 @@ fn push_base(shown: &mut Vec<u8>, base: OuterBase) -> Result<(), AllocError> {
     }
 }
 
-fn kind_word(kind: IntKind) -> &'static [u8] {
+pub(crate) fn kind_word(kind: IntKind) -> &'static [u8] {
     match kind {
         IntKind::Bool => b"bool",
         IntKind::Char => b"char",

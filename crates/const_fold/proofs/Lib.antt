@@ -4,4 +4,3 @@ pub mod WayLemmas
 pub mod OutlineLemmas
 pub mod KnownLemmas
 pub mod MeasureLemmas
-pub mod SizedLemmas

@@ -1,9 +1,8 @@
 -- The constant of a node by the layouts of a table of types. How far a member lies is told besides, since a table knows members by
 -- their numbers.
-use Rattle.std.specs.Prelude.{ℕ, Bool, true, false, List, Option, Some, None, Result, Ok, Err}
+use Rattle.std.specs.Prelude.{ℕ, Bool, true, false, List, Option, Some, None}
 use Rattle.sparse_model.specs.declared.ids.NameId.{NameId}
 use Rattle.meaning_tree.specs.Nodes.{TreeNode, NodeList}
-use Rattle.meaning_layout.specs.Layouts.{LayoutFault}
 use Rattle.c_types.specs.declared.nodes.NodeType.{NodeType}
 use Rattle.c_types.specs.declared.outline.Outline.{Outline}
 use Rattle.c_types.specs.declared.outline.Outline.TheVariants as outlines
@@ -31,8 +30,3 @@ abbrev pub has_one_byte : Outline → Bool
 has_one_byte outlines.Void = true
 has_one_byte outlines.Function = true
 has_one_byte outline = false
-
--- a number, unless there is a reason that there is none
-abbrev pub number_if_any : Result ℕ LayoutFault → Option ℕ
-number_if_any (Ok number) = Some number
-number_if_any (Err fault) = None

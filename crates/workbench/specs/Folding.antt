@@ -12,8 +12,8 @@ pub record IsFolding (table : TypeTable) (unit : NodeList NameId) (kept : List (
   pub known : All (IsKnownNode table) kept
 
 -- the handle is that of a node
-abbrev pub IsMade : NodeList NameId → ℕ → Type 0
-IsMade unit handle = (unit.first ≤ handle) × (handle < end_of unit)
+abbrev pub IsHandleIn : NodeList NameId → ℕ → Type 0
+IsHandleIn unit handle = (unit.first ≤ handle) × (handle < end_of unit)
 
-abbrev pub AreMade : NodeList NameId → List (ℕ × ℕ) → Type 0
-AreMade unit children = All (λ child. IsMade unit child.0) children
+abbrev pub AreHandlesIn : NodeList NameId → List (ℕ × ℕ) → Type 0
+AreHandlesIn unit children = All (λ child. IsHandleIn unit child.0) children

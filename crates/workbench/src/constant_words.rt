@@ -1,6 +1,6 @@
 // The words of commands on nodes.
+use crate::words::with_number;
 use sparse_model::{IntKind, NodeKind};
-use std::str;
 
 /// What goes on many times.
 #[derive(Clone, Copy)]
@@ -108,9 +108,7 @@ pub fn verb_of(word: &[u8]) -> Option<(Verb, u64)> {
     if let Some(verb) = spelled(word) {
         return Some((verb, 0));
     }
-    let place = word.iter().rposition(|&byte| byte == b'_')?;
-    let (stem, digits) = word.split_at(place);
-    let number = str::from_utf8(digits.get(1..)?).ok()?.parse::<u64>().ok()?;
+    let (stem, number) = with_number(word)?;
     Some((spelled(stem)?, number))
 }
 

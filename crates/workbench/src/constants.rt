@@ -1,6 +1,6 @@
 // Nodes of a unit under commands, and the constant of each.
 ghost use Rattle.std.specs.Prelude.{◌≡◌, ◌^◌, ◌<◌, ◌++◌, ◌∷◌, [], IfOk, IfSome, length};
-ghost use Rattle.workbench.specs.Folding.{AreMade, IsFolding, IsMade};
+ghost use Rattle.workbench.specs.Folding.{AreHandlesIn, IsFolding, IsHandleIn};
 
 use crate::constant_words::{Chain, Verb, verb_of};
 use crate::scopes::word_of;
@@ -130,7 +130,7 @@ impl Folding {
                 ..self.next
             }),
             Some((Verb::Width, number)) => self.tell(Next {
-                width: Some(number as u32),
+                width: u32::try_from(number).ok(),
                 ..self.next
             }),
             Some((Verb::Offset, number)) => self.tell(Next {
@@ -203,7 +203,7 @@ impl Folding {
     // The last node that is no part of another one, which is taken.
     fn take(&mut self) -> Option<Handle>
         requires { IsFolding self.old.types self.old.unit self.old.kept }
-        ensures made { IfSome result (IsMade self.new.unit) }
+        ensures made { IfSome result (IsHandleIn self.new.unit) }
         ensures few { IfSome result (λ handle. handle < 2 ^ 30) }
         ensures unit { self.new.unit ≡ self.old.unit }
         ensures folding { IsFolding self.new.types self.new.unit self.new.kept }
@@ -219,7 +219,7 @@ impl Folding {
     // Adds a node with these parts, and folds it.
     fn add(&mut self, kind: NodeKind, number: u64, children: TagList) -> Result<(), AllocError>
         requires folding { IsFolding self.old.types self.old.unit self.old.kept }
-        requires children { AreMade self.old.unit children }
+        requires children { AreHandlesIn self.old.unit children }
         ensures { IsFolding self.new.types self.new.unit self.new.kept }
     {
         let node = Node {
@@ -448,7 +448,7 @@ fn push_constant(shown: &mut Vec<u8>, constant: IntConst) -> Result<(), AllocErr
     shown.push(b' ')?;
     let mut buffer = Buffer::new();
     if has_sign(kind) || (bits(kind) < 64 && number > u64::from(u32::MAX)) {
-        shown.extend_from_slice(buffer.format(number as i64).as_bytes())?;
+        shown.extend_from_slice(buffer.format(number.cast_signed()).as_bytes())?;
     } else {
         shown.extend_from_slice(buffer.format(number).as_bytes())?;
     }

@@ -19,6 +19,7 @@ mod tool;
 mod types;
 mod units;
 mod values;
+mod words;
 
 pub use asked::Asked;
 pub use attributes::{Between, attribute_lines};

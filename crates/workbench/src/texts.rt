@@ -1,6 +1,7 @@
 // Types, failures and errors under commands, and their texts.
 use crate::scopes::word_of;
-use crate::types::{Session, numbered};
+use crate::types::Session;
+use crate::words::with_number;
 use c_preproc::UnitTokens;
 use c_tokens::Names;
 use c_types::Named;
@@ -183,7 +184,7 @@ impl Texts {
             Told::Off => self.wanted = Some(Wanted::Switch(false)),
             Told::Space => self.session.waiting.space = Space::Named(self.next.name),
             Told::At => self.next.token = number,
-            Told::Part => self.next.part = number as u16,
+            Told::Part => self.next.part = u16::try_from(number).unwrap_or(0),
             Told::Number => self.next.number = i128::from(number),
             Told::Minus => self.next.number = -i128::from(number),
             Told::Wanted => self.next.wanted = i128::from(number),
@@ -335,10 +336,10 @@ const VERBS: [(&[u8], Verb); 18] = [
 
 // What a word does, and the number behind it.
 fn verb_of(word: &[u8]) -> Option<(Verb, u32)> {
-    let (stem, number) = numbered(word).unwrap_or((word, 0));
+    let (stem, number) = with_number(word).unwrap_or((word, 0));
     for (spelled, verb) in VERBS {
         if stem == spelled {
-            return Some((verb, number));
+            return Some((verb, u32::try_from(number).ok()?));
         }
     }
     None

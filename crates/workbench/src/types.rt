@@ -45,7 +45,7 @@ pub(crate) struct Session {
 /// The answers to commands, which take types from those that were made last and leave what they make.
 ///
 /// `const`, `volatile`, `noderef` and `space_N` mark the next type that is made. `void`, a word of a kind as
-/// `unsigned_short`, `restricted_N`, `restricted_int_N`, `struct_N` and `union_N` make a type; `pointer`, `array_N`, `open`,
+/// `unsigned_short`, `restricted_N` and `restricted_unsigned_N`, `struct_N` and `union_N` make a type; `pointer`, `array_N`, `open`,
 /// `function_N` and `variadic_N` make one of the last ones, a function of its result and N parameters behind
 /// it, the last one first. `again` leaves the last one once more, `drop` takes it. `pointers_N`, `arrays_N`
 /// and `functions_N` do so N times, with arrays of 1 and functions of two pointers; `agains_N`, `members_N`
@@ -546,8 +546,8 @@ fn verb_of(word: &[u8]) -> Option<Verb> {
     None
 }
 
-/// A word with a number behind its last underscore.
-pub(crate) fn numbered(word: &[u8]) -> Option<(&[u8], u32)> {
+// A word with a number behind its last underscore.
+fn numbered(word: &[u8]) -> Option<(&[u8], u32)> {
     let place = word.iter().rposition(|&byte| byte == b'_')?;
     let (verb, digits) = word.split_at(place);
     let number = str::from_utf8(digits.get(1..)?).ok()?.parse::<u32>().ok()?;
@@ -567,7 +567,7 @@ fn leaf(word: &[u8]) -> Option<ShapeBase>
     let (verb, number) = numbered(word)?;
     if verb == b"restricted".as_slice() {
         Some(ShapeBase::Integer(IntKind::UShort, Some(Restrict(number))))
-    } else if verb == b"restricted_int".as_slice() {
+    } else if verb == b"restricted_unsigned".as_slice() {
         Some(ShapeBase::Integer(IntKind::UInt, Some(Restrict(number))))
     } else if verb == b"struct".as_slice() {
         Some(ShapeBase::Aggregate(number, false))

@@ -326,3 +326,19 @@ def doubled_name(levels):
 def long_argument(tokens):
     """A call whose one argument has so many tokens."""
     return defined([b"f(a) a"], b"f(" + b"x " * tokens + b")")
+
+
+def spelled_levels(word):
+    """A type of so many levels of one kind, which is spelled."""
+    return lambda count: b"commands int %b_%d text\n" % (word, count)
+
+
+def failures(count):
+    """So many failures at other tokens, found in the order of a card that is shuffled, and told in the order of their tokens."""
+    order = sorted(range(count), key=lambda number: number * 7919 % 99991)
+    return b"commands called n on S1 " + b"".join(b"at_%d S1 " % token for token in order) + b"warnings\n"
+
+
+def folded_chain(front, link):
+    """A chain of so many links over a literal, each folded."""
+    return lambda count: b"int nodes int %b %b_%d show\n" % (front, link, count)

@@ -16,11 +16,11 @@ use std::str;
 
 /// Qualifiers and flags that wait for the next type.
 #[derive(Clone, Copy)]
-struct Waiting {
-    is_const: bool,
-    is_volatile: bool,
-    noderef: bool,
-    space: Space,
+pub(crate) struct Waiting {
+    pub is_const: bool,
+    pub is_volatile: bool,
+    pub noderef: bool,
+    pub space: Space,
 }
 
 const NONE_WAITING: Waiting = Waiting {
@@ -33,19 +33,19 @@ const NONE_WAITING: Waiting = Waiting {
 /// Types under commands: those that were made and not taken yet, the last one at the end, the members that
 /// no aggregate has yet, and what was answered.
 #[derive(Drop)]
-struct Session {
-    alloc: Global,
-    types: Types,
-    made: Vec<TypeId>,
-    members: Vec<Member>,
-    waiting: Waiting,
-    shown: Vec<u8>,
+pub(crate) struct Session {
+    pub alloc: Global,
+    pub types: Types,
+    pub made: Vec<TypeId>,
+    pub members: Vec<Member>,
+    pub waiting: Waiting,
+    pub shown: Vec<u8>,
 }
 
 /// The answers to commands, which take types from those that were made last and leave what they make.
 ///
 /// `const`, `volatile`, `noderef` and `space_N` mark the next type that is made. `void`, a word of a kind as
-/// `unsigned_short`, `restricted_N`, `struct_N` and `union_N` make a type; `pointer`, `array_N`, `open`,
+/// `unsigned_short`, `restricted_N` and `restricted_unsigned_N`, `struct_N` and `union_N` make a type; `pointer`, `array_N`, `open`,
 /// `function_N` and `variadic_N` make one of the last ones, a function of its result and N parameters behind
 /// it, the last one first. `again` leaves the last one once more, `drop` takes it. `pointers_N`, `arrays_N`
 /// and `functions_N` do so N times, with arrays of 1 and functions of two pointers; `agains_N`, `members_N`
@@ -63,14 +63,7 @@ pub fn type_answers(alloc: Global, text: &[u8]) -> Result<Vec<u8>, AllocError>
     let Ok(tokens) = lex(alloc, &mut names, 1, text) else {
         return Err(AllocError);
     };
-    let mut session = Session {
-        alloc,
-        types: Types::new(alloc)?,
-        made: Vec::new(alloc),
-        members: Vec::new(alloc),
-        waiting: NONE_WAITING,
-        shown: Vec::new(alloc),
-    };
+    let mut session = Session::new(alloc)?;
     for token in tokens.as_slice() {
         session.command(word_of(&names, token.name), token.name)?;
     }
@@ -78,8 +71,20 @@ pub fn type_answers(alloc: Global, text: &[u8]) -> Result<Vec<u8>, AllocError>
 }
 
 impl Session {
-    // Does what a word says.
-    fn command(&mut self, word: &[u8], name: NameId) -> Result<(), AllocError> {
+    /// The types of integers, and none made yet.
+    pub fn new(alloc: Global) -> Result<Session, AllocError> {
+        Ok(Session {
+            alloc,
+            types: Types::new(alloc)?,
+            made: Vec::new(alloc),
+            members: Vec::new(alloc),
+            waiting: NONE_WAITING,
+            shown: Vec::new(alloc),
+        })
+    }
+
+    /// Does what a word says.
+    pub fn command(&mut self, word: &[u8], name: NameId) -> Result<(), AllocError> {
         if let Some(base) = leaf(word) {
             return self.make(base);
         }
@@ -140,8 +145,8 @@ impl Session {
         }
     }
 
-    // The last type, which is taken.
-    fn take(&mut self) -> Option<TypeId>
+    /// The last type, which is taken.
+    pub fn take(&mut self) -> Option<TypeId>
         ensures known { IfSome result (IsTypeId self.new.types) }
         ensures same { self.new.types ≡ self.old.types }
     {
@@ -153,8 +158,8 @@ impl Session {
         }
     }
 
-    // Makes a type, with the marks that wait.
-    fn make(&mut self, base: ShapeBase) -> Result<(), AllocError>
+    /// Makes a type, with the marks that wait.
+    pub fn make(&mut self, base: ShapeBase) -> Result<(), AllocError>
         requires { IsShapeOver (types_in self.old.types) base }
     {
         let waiting = self.waiting;
@@ -405,7 +410,8 @@ impl Session {
         Ok(())
     }
 
-    fn refuse(&mut self) -> Result<(), AllocError> {
+    /// Says that a command missed something.
+    pub fn refuse(&mut self) -> Result<(), AllocError> {
         self.shown.extend_from_slice(b"refused\n")
     }
 }
@@ -561,6 +567,8 @@ fn leaf(word: &[u8]) -> Option<ShapeBase>
     let (verb, number) = numbered(word)?;
     if verb == b"restricted".as_slice() {
         Some(ShapeBase::Integer(IntKind::UShort, Some(Restrict(number))))
+    } else if verb == b"restricted_unsigned".as_slice() {
+        Some(ShapeBase::Integer(IntKind::UInt, Some(Restrict(number))))
     } else if verb == b"struct".as_slice() {
         Some(ShapeBase::Aggregate(number, false))
     } else if verb == b"union".as_slice() {
@@ -643,7 +651,7 @@ fn push_base(shown: &mut Vec<u8>, base: OuterBase) -> Result<(), AllocError> {
     }
 }
 
-fn kind_word(kind: IntKind) -> &'static [u8] {
+pub(crate) fn kind_word(kind: IntKind) -> &'static [u8] {
     match kind {
         IntKind::Bool => b"bool",
         IntKind::Char => b"char",

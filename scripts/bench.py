@@ -150,6 +150,11 @@ def of_types(name, make, most_ratio=MOST_NAMES_RATIO):
     return Call("types: " + name, ["types"], [], make, CALL_TOKENS, most_ratio)
 
 
+def of_layouts(name, make, most_ratio=MOST_NAMES_RATIO):
+    """The same on what types take."""
+    return Call("layouts: " + name, ["types"], [], make, CALL_TOKENS, most_ratio)
+
+
 class Extreme(NamedTuple):
     """A text of macros that is as deep or as long as a stranger's may be, and its answer: the status, and the first line."""
 
@@ -203,6 +208,10 @@ CALLS = (
     of_types("aggregates", texts.aggregates),
     of_types("identities", texts.identities),
     of_types("repeats", texts.repeated_types, MOST_CALL_RATIO),
+    of_layouts("one structure", texts.measured_structure),
+    of_layouts("structures", texts.measured_structures),
+    of_layouts("levels of arrays", texts.measured_levels),
+    of_layouts("uses of one size", texts.measured_often, MOST_CALL_RATIO),
 )
 
 

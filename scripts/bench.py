@@ -160,6 +160,11 @@ def of_constants(name, make, sizes):
     return Call("constants: " + name, ["constants"], [], make, sizes, MOST_CALL_RATIO)
 
 
+def of_layouts(name, make, most_ratio=MOST_NAMES_RATIO):
+    """The same on what types take."""
+    return Call("layouts: " + name, ["types"], [], make, CALL_TOKENS, most_ratio)
+
+
 class Extreme(NamedTuple):
     """A text of macros that is as deep or as long as a stranger's may be, and its answer: the status, and the first line."""
 
@@ -221,6 +226,10 @@ CALLS = (
     of_constants("?: to the right", texts.folded_chain(b"literal_3", b"arms"), (40000, 400000)),
     of_constants("parentheses", texts.folded_chain(b"literal_7", b"parentheses"), (4000, 40000, 400000)),
     of_constants("enumerators", texts.folded_chain(b"literal_0 enumerator", b"enumerators"), (6000, 60000)),
+    of_layouts("one structure", texts.measured_structure),
+    of_layouts("structures", texts.measured_structures),
+    of_layouts("levels of arrays", texts.measured_levels),
+    of_layouts("uses of one size", texts.measured_often, MOST_CALL_RATIO),
 )
 
 

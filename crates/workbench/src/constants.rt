@@ -4,7 +4,8 @@ ghost use Rattle.workbench.specs.Folding.{AreHandlesIn, IsFolding, IsHandleIn};
 
 use crate::constant_words::{Chain, Verb, verb_of};
 use crate::scopes::word_of;
-use crate::types::{Session, kind_word};
+use crate::shown_types::kind_word;
+use crate::types::Session;
 use c_tokens::{Names, Token, lex};
 use c_tree::{Handle, Node, Unit};
 use c_types::{NodeType, NodeTypes, NodeValue, Outline, Types, bits, has_sign};

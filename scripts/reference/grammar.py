@@ -9,23 +9,24 @@ from typing import NamedTuple
 
 TEXT = """
 Unit = External Unit | -
-External = ';' | Assertion | {begin} Specifiers ExternalRest {end}
-ExternalRest = ';' | Declarator {bind} AttributeLists BodyOrMore
+External = ';' | Assertion | {begin} Specifiers {of_file} ExternalRest {end}
+ExternalRest = {alone} ';' | {typed} Declarator {bind} AttributeLists BodyOrMore
 BodyOrMore = {body} Body | Initial Further ';'
 Initial = '=' Initializer | -
 Further = ',' AttributeLists Declarator {bind} AttributeLists {note} Initial Further | -
-Specifiers = Storage Specifiers | Qualifier Specifiers | AttributeList Specifiers | TypeWord TypedSpecifiers
-    | Aggregate TypedSpecifiers | Enumeration TypedSpecifiers | Typeof TypedSpecifiers | tname TypedSpecifiers | -
-TypedSpecifiers = Storage TypedSpecifiers | Qualifier TypedSpecifiers | AttributeList TypedSpecifiers | TypeWord TypedSpecifiers | -
-Storage = 'typedef' {storage} | 'extern' {storage} | 'static' | 'auto' | 'register' | 'inline' | '_Noreturn'
+Specifiers = Storage {specifier} Specifiers | Qualifier {specifier} Specifiers | AttributeList Specifiers | TypeWord {specifier} TypedSpecifiers
+    | Aggregate {whole} TypedSpecifiers | Enumeration {whole} TypedSpecifiers | Typeof {whole} TypedSpecifiers | tname {whole} TypedSpecifiers | -
+TypedSpecifiers = Storage {specifier} TypedSpecifiers | Qualifier {specifier} TypedSpecifiers | AttributeList TypedSpecifiers
+    | TypeWord {specifier} TypedSpecifiers | -
+Storage = 'typedef' | 'extern' | 'static' | 'auto' | 'register' | 'inline' | '_Noreturn'
 Qualifier = 'const' | 'volatile' | 'restrict'
 TypeWord = 'void' | 'char' | 'short' | 'int' | 'long' | 'signed' | 'unsigned' | '_Bool'
 Aggregate = 'struct' AttributeLists TagOrMembers | 'union' AttributeLists TagOrMembers
 TagOrMembers = name OptionalMembers | '{' Members '}'
 OptionalMembers = '{' Members '}' | -
 Members = Member Members | -
-Member = ';' | Assertion | {begin} Specifiers MemberDeclarators ';' {end}
-MemberDeclarators = MemberDeclarator FurtherMembers | -
+Member = ';' | Assertion | {begin} Specifiers {without_storage} MemberDeclarators ';' {end}
+MemberDeclarators = {typed} MemberDeclarator FurtherMembers | {alone}
 FurtherMembers = ',' MemberDeclarator FurtherMembers | -
 MemberDeclarator = ':' Conditional AttributeLists | Declarator {drop} Width AttributeLists
 Width = ':' Conditional | -
@@ -44,7 +45,7 @@ AttributeArguments = '(' {spare} Balanced {heed} ')' | -
 Balanced = '(' Balanced ')' Balanced | other Balanced | - [')']
 Typeof = 'typeof' '(' TypeofOperand ')'
 TypeofOperand = TypeName [START] | Expression
-TypeName = {begin} Specifiers AnyDeclarator {drop} {end}
+TypeName = {begin} Specifiers {without_storage} {typed} AnyDeclarator {unnamed} {end}
 Declarator = {stars} Pointers Direct {declarator}
 Pointers = '*' PointerQualifiers {pointer} Pointers | -
 PointerQualifiers = Qualifier PointerQualifiers | AttributeList PointerQualifiers | -
@@ -54,7 +55,7 @@ ArraySize = - [']'] | Assignment
 Parameters = - [')'] | Parameter FurtherParameters
 FurtherParameters = ',' NextParameter | -
 NextParameter = '...' | Parameter FurtherParameters
-Parameter = {count} {begin} Specifiers AnyDeclarator {parameter} AttributeLists {end}
+Parameter = {count} {begin} Specifiers {of_parameter} AnyDeclarator {parameter} AttributeLists {end}
 AnyDeclarator = {stars} Pointers AnyDirect {declarator}
 AnyDirect = name {named} Suffixes | {nameless} Suffixes [ANY] | '(' AttributeLists AnyDeclarator ')' Suffixes
 Initializer = '{' Initializers '}' | Assignment
@@ -67,8 +68,8 @@ Assertion = '_Static_assert' '(' Conditional ',' Strings ')' ';'
 Body = '{' {scope} Items '}' {leave}
 Items = Item Items | - ['}']
 Item = Statement [LABEL] | Assertion | Declaration [START] | Statement
-Declaration = {begin} Specifiers Declarators {end}
-Declarators = ';' | Declarator {bind} AttributeLists {note} Initial Further ';'
+Declaration = {begin} Specifiers {of_block} Declarators {end}
+Declarators = {alone} ';' | {typed} Declarator {bind} AttributeLists {note} Initial Further ';'
 Statement = name ':' Statement [LABEL] | 'case' Conditional {case} ':' Statement | 'default' ':' Statement | Body
     | 'if' '(' Expression ')' Statement Else | 'switch' '(' Expression ')' Statement | 'while' '(' Expression ')' Statement
     | 'do' Statement 'while' '(' Expression ')' ';' | 'for' {scope} '(' ForFirst OptionalExpression ';' OptionalExpression ')' Statement {leave}

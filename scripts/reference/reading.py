@@ -29,6 +29,7 @@ NUMBER_OF_WORD = {word: number for number, words in UNSUPPORTED.items() for word
 TEXTS = {
     30: "floating type",
     31: "inline assembly",
+    32: "parameter without a type",
     33: "nested function",
     34: "computed goto",
     35: "_Generic",
@@ -51,6 +52,18 @@ TOKENS = {name for rows in ROWS.values() for row in rows for kind, name in row.i
 KEYWORDS = {word.encode() for word in TOKENS if re.fullmatch(r"[A-Za-z_]\w*", word)} | {b"_Imaginary"}
 IS_FLOATING = re.compile(rb"0[xX][0-9A-Fa-f]*[.pP].*|(?!0[xX]).*[.eE].*")
 
+
+# Each set of type words that is a type (C11 6.7.2 p2) but the floating ones, in one order of its words; `type` is one by itself.
+SETS = (
+    "type", "void", "char", "char signed", "char unsigned", "short", "short signed", "int short", "int short signed",
+    "short unsigned", "int short unsigned", "int", "signed", "int signed", "unsigned", "int unsigned", "long", "long signed", "int long",
+    "int long signed", "long unsigned", "int long unsigned", "long long", "long long signed", "int long long",
+    "int long long signed", "long long unsigned", "int long long unsigned", "_Bool",
+)
+STORAGE = ("typedef", "extern", "static", "auto", "register")
+BESIDE_TYPES = STORAGE + ("inline", "_Noreturn", "const", "volatile", "restrict")
+
+BAD = "bad declaration"
 
 # So many symbols may wait, and so many parameters or arguments may a list have.
 MOST_WAITING = 65536
@@ -96,6 +109,25 @@ class Declarator:
         self.parameters = {}
 
 
+class Specifiers:
+    """The words of specifiers, and the token at which they begin."""
+
+    def __init__(self, first):
+        self.first = first
+        self.words = []
+
+    def has(self, *words):
+        return any(word in words for word in self.words)
+
+    def types(self):
+        return sorted(word for word in self.words if word not in BESIDE_TYPES)
+
+    def is_bad(self, *refused):
+        """Whether they are no set that is allowed anywhere, or one of these words is among them."""
+        is_no_type = bool(self.types()) and " ".join(self.types()) not in SETS
+        return is_no_type or sum(word in STORAGE for word in self.words) > 1 or self.has(*refused)
+
+
 class Reader:
     """Reads tokens by the grammar, and knows what each name is bound to."""
 
@@ -107,7 +139,9 @@ class Reader:
         self.is_spared = False
         self.bodies = 0
         self.scopes = [{}]
-        self.storage = []
+        self.specifiers = []
+        # what is told when the next token is taken: a token and the number of the error
+        self.held = None
         self.stars = []
         self.declarators = []
         self.enumerators = []
@@ -233,6 +267,8 @@ class Reader:
                 if name not in self.classes(self.at):
                     self.stop_at(self.at)
                 self.heed_word(self.at)
+                if self.held:
+                    self.stop(*self.held)
                 self.at += 1
         if self.at < len(self.tokens):
             self.stop_at(self.at)
@@ -246,16 +282,47 @@ class Reader:
         if self.next_is(*spelled):
             self.stop(self.at, number)
 
-    # Specifiers: the words of storage in them.
+    # Specifiers: the words in them.
 
     def do_begin(self):
-        self.storage.append(set())
+        self.specifiers.append(Specifiers(self.at))
 
     def do_end(self):
-        self.storage.pop()
+        self.specifiers.pop()
 
-    def do_storage(self):
-        self.storage[-1].add(meant(self.tokens[self.at - 1]))
+    def do_specifier(self):
+        spelled = meant(self.tokens[self.at - 1])
+        self.specifiers[-1].words.append(ALIASES.get(spelled, spelled.decode()))
+
+    def do_whole(self):
+        self.specifiers[-1].words.append("type")
+
+    def hold(self, at, number, *text):
+        self.held = self.held or (at, number, *text)
+
+    def hold_bad(self, is_bad):
+        if is_bad:
+            self.hold(self.specifiers[-1].first, 28, BAD)
+
+    def do_of_file(self):
+        self.hold_bad(self.specifiers[-1].is_bad("auto", "register"))
+
+    def do_of_block(self):
+        self.hold_bad(self.specifiers[-1].is_bad())
+
+    def do_without_storage(self):
+        self.hold_bad(self.specifiers[-1].is_bad(*STORAGE, "inline", "_Noreturn"))
+
+    def do_of_parameter(self):
+        if not self.specifiers[-1].types():
+            self.hold(self.specifiers[-1].first, 32)
+        self.hold_bad(self.specifiers[-1].is_bad("typedef", "extern", "static", "auto", "inline", "_Noreturn"))
+
+    def do_typed(self):
+        self.hold_bad(not self.specifiers[-1].types())
+
+    def do_alone(self):
+        self.hold_bad(self.specifiers[-1].words and not self.specifiers[-1].types())
 
     # Declarators: what stands next to the name is what is declared.
 
@@ -293,6 +360,11 @@ class Reader:
     def do_drop(self):
         self.declarators.pop()
 
+    def do_unnamed(self):
+        name = self.declarators.pop().name
+        if name is not None:
+            self.stop(name, 28, BAD)
+
     # Lists of parameters and of arguments
 
     def do_list(self):
@@ -317,8 +389,8 @@ class Reader:
 
     def do_bind(self):
         self.bound = self.declarators.pop()
-        is_linked = len(self.scopes) == 1 or b"extern" in self.storage[-1] or self.bound.first == "function"
-        kind = "typedef" if b"typedef" in self.storage[-1] else "linked" if is_linked else "unlinked"
+        is_linked = len(self.scopes) == 1 or self.specifiers[-1].has("extern") or self.bound.first == "function"
+        kind = "typedef" if self.specifiers[-1].has("typedef") else "linked" if is_linked else "unlinked"
         self.declare(self.bound.name, kind)
 
     def do_parameter(self):
@@ -376,6 +448,8 @@ class Reader:
             self.stop_where(33, "{")
 
     def do_body(self):
+        if self.bound.first != "function" or self.specifiers[-1].has("typedef"):
+            self.hold(self.at, 28, BAD)
         self.awaited = self.bound.parameters
 
     def do_scope(self):

@@ -13,13 +13,19 @@ use crate::attributes::{
     append_attribute, append_leading_attributes, make_parenthesized_attributes,
 };
 use crate::binding::{bind_declarator, bind_enumerator, bind_parameter};
-use crate::declarators::{join_any_parts, join_parts, join_suffixes, make_optional_declarator};
+use crate::declarators::{
+    join_any_parts, join_parts, join_suffixes, make_optional_declarator, make_type_name,
+};
 use crate::functions::{
-    append_declarator, begin_declarators, close_parameters, note_function_declarator, open_body,
+    append_declarator, await_body, begin_declarators, close_parameters, note_function_declarator,
+    open_body,
 };
 use crate::names::{put_no_tag, use_typedef_name};
 use crate::nodes::make_node;
-use crate::specifiers::{make_file_specifiers, make_specifiers};
+use crate::specifiers::{
+    make_block_specifiers, make_file_specifiers, make_member_specifiers, make_parameter_specifiers,
+    make_type_name_specifiers, require_type, require_type_or_attributes,
+};
 use crate::tags::{define_tag, use_tag};
 use parse_state::{ActionFault, ParseState};
 use vocabulary::Action;
@@ -40,7 +46,7 @@ pub fn act(state: &mut ParseState<'_>, action: Action) -> Result<(), ActionFault
             Ok(())
         }
         Action::AwaitBody => {
-            state.await_body(1);
+            await_body(state);
             Ok(())
         }
         Action::BindDeclarator => bind_declarator(state, 1),
@@ -48,14 +54,20 @@ pub fn act(state: &mut ParseState<'_>, action: Action) -> Result<(), ActionFault
         Action::BindEnumerator => bind_enumerator(state),
         Action::BindParameter => bind_parameter(state),
         Action::MakeFileSpecifiers => make_file_specifiers(state),
-        Action::MakeBlockSpecifiers
-        | Action::MakeMemberSpecifiers
-        | Action::MakeParameterSpecifiers
-        | Action::MakeTypeNameSpecifiers => make_specifiers(state),
+        Action::MakeBlockSpecifiers => make_block_specifiers(state),
+        Action::MakeMemberSpecifiers => make_member_specifiers(state),
+        Action::MakeParameterSpecifiers => make_parameter_specifiers(state),
+        Action::MakeTypeNameSpecifiers => make_type_name_specifiers(state),
         Action::CloseParameters => close_parameters(state),
         Action::OpenBody => open_body(state),
-        Action::RequireType => Ok(()),
-        Action::RequireTypeOrAttributes => Ok(()),
+        Action::RequireType => {
+            require_type(state);
+            Ok(())
+        }
+        Action::RequireTypeOrAttributes => {
+            require_type_or_attributes(state);
+            Ok(())
+        }
         Action::DeclareTag => Ok(()),
         Action::UseTypedefName => use_typedef_name(state),
         Action::WithoutTag => put_no_tag(state),
@@ -71,6 +83,7 @@ pub fn act(state: &mut ParseState<'_>, action: Action) -> Result<(), ActionFault
         Action::JoinAnyParts => join_any_parts(state),
         Action::JoinSuffixes => join_suffixes(state),
         Action::MakeOptionalDeclarator => make_optional_declarator(state),
+        Action::MakeTypeName => make_type_name(state),
         _ => make_node(state, action),
     }
 }

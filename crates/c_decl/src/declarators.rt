@@ -1,6 +1,6 @@
 // Declarators (C11 6.7.6): their parts stand from the specified type outwards, so lists of them are joined and turned round.
 ghost use Rattle.std.specs.Prelude.{◌≡◌, ◌||◌, if◌then◌else◌, nat_lt, IfErr, IsSome, OnOk};
-ghost use Rattle.vocabulary.specs.declared.action.Action.TheVariants.{JoinAnyParts, JoinParts, JoinSuffixes, MakeOptionalDeclarator};
+ghost use Rattle.vocabulary.specs.declared.action.Action.TheVariants.{JoinAnyParts, JoinParts, JoinSuffixes, MakeOptionalDeclarator, MakeTypeName};
 ghost use Rattle.vocabulary.specs.declared.production_item.ProductionItem.TheVariants.{Do};
 ghost use Rattle.vocabulary.specs.declared.role.Role.TheVariants.{TypePart};
 ghost use Rattle.meaning_grammar.specs.Sorts.{effect};
@@ -14,7 +14,7 @@ ghost use Rattle.parse_state.specs.Sources.{IsCovered, row_shape};
 ghost use Rattle.parse_state.specs.Steps.{IsToldBy};
 
 use parse_state::{ActionFault, ParseState, Place, Row, Source};
-use vocabulary::{NodeKind, Role};
+use vocabulary::{ErrorKind, NodeKind, Role};
 
 /// The parts of what is in parentheses, or of the direct declarator, behind the pointers or attributes before it.
 pub fn join_parts(state: &mut ParseState<'_>) -> Result<(), ActionFault>
@@ -98,4 +98,24 @@ pub fn make_listed(state: &mut ParseState<'_>, row: &Row<'_>) -> Result<(), Acti
     state.make_row(row)?;
     state.collect(1, &[Source::OneTree(Role::TypePart, 0)])?;
     Ok(())
+}
+
+/// A type name, in which no name is declared (6.7.7 p1).
+pub fn make_type_name(state: &mut ParseState<'_>) -> Result<(), ActionFault>
+    requires finds { IsSome (effect (Do MakeTypeName) (sorts_of (state_of state.old).values)) }
+    ensures goes { OnOk result (act MakeTypeName (state_of state.old) ≡ Goes (state_of state.new)) }
+    ensures told { IfErr result (IsToldBy (act MakeTypeName (state_of state.old))) }
+    ensures names { state.new.names ≡ state.old.names }
+{
+    match state.first_name(0) {
+        Some(named) => Err(ActionFault::Refused(ErrorKind::BadDeclaration, named.token)),
+        None => state.make_row(&Row {
+            takes: 2,
+            kind: NodeKind::TypeName,
+            place: Place::AtTree(1),
+            name: None,
+            number: None,
+            sources: &[Source::OneTree(Role::TypePart, 1), Source::AllTrees(0)],
+        }),
+    }
 }

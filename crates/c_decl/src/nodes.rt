@@ -98,14 +98,6 @@ pub fn make_node(state: &mut ParseState<'_>, action: Action) -> Result<(), Actio
             number: None,
             sources: &[Source::AllTrees(0)],
         }),
-        Action::MakeTypeName => state.make_row(&Row {
-            takes: 2,
-            kind: NodeKind::TypeName,
-            place: Place::AtTree(1),
-            name: None,
-            number: None,
-            sources: &[Source::OneTree(Role::TypePart, 1), Source::AllTrees(0)],
-        }),
         Action::MakeParameter => state.make_row(&Row {
             takes: 2,
             kind: NodeKind::Parameter,

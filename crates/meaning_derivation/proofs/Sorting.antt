@@ -1,13 +1,14 @@
 -- Each action that goes on leaves values of the sorts that its effect says.
-use Rattle.std.proofs.Common.{◌≡◌, ℕ, zero, suc, ◌+◌, Bool, true, false, List, [], ◌∷◌, ◌++◌, drop, length, slice_get, Option, Some, None, Result, Ok, Err, ℤ, refl, sym, ap, subst, ◌∙◌, arith, if◌then◌else◌, nat_lt}
+use Rattle.std.proofs.Common.{◌≡◌, ℕ, zero, suc, ◌+◌, Bool, true, false, ◌&&◌, List, [], ◌∷◌, ◌++◌, drop, length, slice_get, Option, Some, None, refl, sym, ap, subst, ◌∙◌, arith, if◌then◌else◌, nat_lt, Result, Ok, Err, ℤ}
 use Rattle.std.proofs.lemmas.List.{map-append}
 use Rattle.std.proofs.lemmas.Option.{same_Some, slice_get_within}
+use Rattle.vocabulary.specs.declared.error_kind.ErrorKind.TheVariants.{BadDeclaration}
 use Rattle.vocabulary.specs.declared.limit.LimitKind.TheVariants.{Parameters}
 use Rattle.vocabulary.specs.declared.scope.NameSpace.TheVariants.{Ordinary, Tags}
 use Rattle.vocabulary.specs.declared.scope.Bound.{Bound}
 use Rattle.vocabulary.specs.declared.scope.Bound.TheVariants.{Enumerator, Unlinked}
 use Rattle.vocabulary.specs.declared.action.Action.{Action}
-use Rattle.vocabulary.specs.declared.action.Action.TheVariants.{Append, AppendAttribute, AppendDeclarator, AppendLeadingAttributes, AwaitBody, BeginAtNext, BeginDeclarators, BeginList, BindDeclarator, BindEnumerator, BindFurtherDeclarator, BindParameter, CloseParameters, CloseScope, CountParameter, DeclareTag, DefineTag, JoinAnyParts, JoinParts, JoinSuffixes, MakeCharacterConstant, MakeContextStatement, MakeFileSpecifiers, MakeForPart, MakeIntegerConstant, MakeOptionalDeclarator, MakeParenthesizedAttributes, MakeStringLiteral, NoteFunctionDeclarator, OpenBody, OpenScope, RequireType, RequireTypeOrAttributes, UseName, UseTag, UseTypedefName, WithoutTag}
+use Rattle.vocabulary.specs.declared.action.Action.TheVariants.{Append, AppendAttribute, AppendDeclarator, AppendLeadingAttributes, AwaitBody, BeginAtNext, BeginDeclarators, BeginList, BindDeclarator, BindEnumerator, BindFurtherDeclarator, BindParameter, CloseParameters, CloseScope, CountParameter, DeclareTag, DefineTag, JoinAnyParts, JoinParts, JoinSuffixes, MakeBlockSpecifiers, MakeCharacterConstant, MakeContextStatement, MakeFileSpecifiers, MakeForPart, MakeIntegerConstant, MakeMemberSpecifiers, MakeOptionalDeclarator, MakeParameterSpecifiers, MakeParenthesizedAttributes, MakeStringLiteral, MakeTypeName, MakeTypeNameSpecifiers, NoteFunctionDeclarator, OpenBody, OpenScope, RequireType, RequireTypeOrAttributes, UseName, UseTag, UseTypedefName, WithoutTag}
 use Rattle.vocabulary.specs.declared.int_kind.IntKind.{IntKind}
 use Rattle.vocabulary.specs.declared.node_kind.NodeKind.{NodeKind}
 use Rattle.vocabulary.specs.declared.node_kind.NodeKind.TheVariants as kinds
@@ -18,17 +19,18 @@ use Rattle.meaning_literals.specs.Constants.{Constant, Fault}
 use Rattle.meaning_literals.specs.Integers.{integer_of}
 use Rattle.meaning_literals.specs.Quoted.{char_of}
 use Rattle.meaning_tree.specs.Trees.{Node, Parts, NoParts, Part}
-use Rattle.meaning_scopes.specs.Scopes.{Found}
+use Rattle.meaning_scopes.specs.Scopes.{Found, is_open}
 use Rattle.meaning_scopes.specs.Redeclaration.{bound_here, is_redeclared}
 use Rattle.meaning_grammar.specs.Sorts.{Sort, AWord, ATree, AList, is_same_sort, action_effect, exchanged, effect, effects}
-use Rattle.meaning_derivation.specs.Values.{Value, WordValue, TreeValue, ListValue, sort_of, sorts_of, value_at, text_of, parts_of, name_of}
-use Rattle.meaning_derivation.specs.State as states
+use Rattle.meaning_derivation.specs.Values.{Value, WordValue, TreeValue, ListValue, sort_of, sorts_of, value_at, token_of, text_of, parts_of, name_of}
 use Rattle.meaning_derivation.specs.State.{State, ActionOutcome, Goes, Refuses, made_as, most_nodes, with_limit}
-use Rattle.meaning_derivation.specs.Lists.{has_spelling, name_or, unnamed_declarator, attributes_list, leading_attributes, part_of_for, part_count, most_parameters}
+use Rattle.meaning_derivation.specs.Lists.{has_spelling, name_or, unnamed_declarator, attributes_list, leading_attributes, part_of_for, part_count, most_parameters, type_name}
+use Rattle.meaning_derivation.specs.State as states
 use Rattle.meaning_derivation.specs.Literals.{BadLiteral, bad_piece, constant_made, string_made}
 use Rattle.meaning_derivation.specs.Contexts.{in_parentheses, tokens_behind, context_made}
 use Rattle.meaning_derivation.specs.Scoping.{declared, bound, bound_as, last_handle, parameter_bound, tag_at, found_name, found_here, parts_below, ends_with_parameters, name_used, typedef_named, without_closed}
-use Rattle.meaning_derivation.specs.Actions.{below}
+use Rattle.meaning_derivation.specs.Specifiers.{is_bad_in_file, is_bad_in_block, is_bad_member, is_refused_parameter, parameter_error, held_where}
+use Rattle.meaning_derivation.specs.Actions.{below, specified}
 use Rattle.meaning_derivation.specs.laws.Sorts.{ActionsAreSorted, ActionsLeadOn}
 
 -- Stacks of sorts
@@ -157,6 +159,14 @@ optional-sorted true s next named place parts after is =
     made-sorted MakeOptionalDeclarator 2 (ListValue named) s next after is (λ rest. refl)
 optional-sorted false s next named place parts after is = unnamed-sorted s next place parts after is
 
+type_name-sorted :
+    (s next : State) (specifiers : Value) (parts : Parts (List ℕ)) (after : List Sort) → type_name s specifiers parts ≡ Goes next
+    → Finds MakeTypeName s after → sorts_of next.values ≡ after
+type_name-sorted s next specifiers NoParts after is = made-sorted MakeTypeName 2 (TreeValue _) s next after is (λ rest. refl)
+type_name-sorted s next specifiers (Part role (Node kind token [] number parts) others) after is =
+    made-sorted MakeTypeName 2 (TreeValue _) s next after is (λ rest. refl)
+type_name-sorted s next specifiers (Part role (Node kind token (byte ∷ bytes) number parts) others) after is = absurd (cc is)
+
 attributes-sorted :
     (s next : State) (word : Value) (parts : Parts (List ℕ)) (after : List Sort) → attributes_list s word parts ≡ Goes next
     → Finds MakeParenthesizedAttributes s after → sorts_of next.values ≡ after
@@ -272,10 +282,19 @@ actions_are_sorted BindFurtherDeclarator s next sorts is finds =
     kept-sorted BindFurtherDeclarator s next sorts (declared-values s next (below s 0) (bound_as s (below s 2) (below s 0)) is) (λ rest. refl) finds
 actions_are_sorted NoteFunctionDeclarator s next sorts is finds =
     kept-sorted NoteFunctionDeclarator s next sorts
-    (reached _ next is ∙ noted-values (ends_with_parameters (parts_below (below s 1))) s (record s { function_end = Some s.taken }) refl) (λ rest. refl) finds
+    (reached _ next is ∙ noted-values (is_open s.scopes && ends_with_parameters (parts_below (below s 1))) s (record s { function_end = Some s.taken }) refl) (λ rest. refl) finds
 actions_are_sorted AwaitBody s next sorts is finds = kept-sorted AwaitBody s next sorts (reached _ next is) (λ rest. refl) finds
 actions_are_sorted MakeFileSpecifiers s next sorts is finds =
-    made-sorted MakeFileSpecifiers 2 (TreeValue _) (without_closed s) next sorts is (λ rest. refl) finds
+    made-sorted MakeFileSpecifiers 2 (TreeValue _) (held_where (is_bad_in_file (specified s)) BadDeclaration (token_of (below s 1)) (without_closed s)) next sorts is (λ rest. refl) finds
+actions_are_sorted MakeBlockSpecifiers s next sorts is finds =
+    made-sorted MakeBlockSpecifiers 2 (TreeValue _) (held_where (is_bad_in_block (specified s)) BadDeclaration (token_of (below s 1)) s) next sorts is (λ rest. refl) finds
+actions_are_sorted MakeMemberSpecifiers s next sorts is finds =
+    made-sorted MakeMemberSpecifiers 2 (TreeValue _) (held_where (is_bad_member (specified s)) BadDeclaration (token_of (below s 1)) s) next sorts is (λ rest. refl) finds
+actions_are_sorted MakeParameterSpecifiers s next sorts is finds =
+    made-sorted MakeParameterSpecifiers 2 (TreeValue _)
+    (held_where (is_refused_parameter (specified s)) (parameter_error (specified s)) (token_of (below s 1)) s) next sorts is (λ rest. refl) finds
+actions_are_sorted MakeTypeNameSpecifiers s next sorts is finds =
+    made-sorted MakeTypeNameSpecifiers 2 (TreeValue _) (held_where (is_bad_member (specified s)) BadDeclaration (token_of (below s 1)) s) next sorts is (λ rest. refl) finds
 actions_are_sorted RequireType s next sorts is finds = kept-sorted RequireType s next sorts (reached _ next is) (λ rest. refl) finds
 actions_are_sorted RequireTypeOrAttributes s next sorts is finds =
     kept-sorted RequireTypeOrAttributes s next sorts (reached _ next is) (λ rest. refl) finds
@@ -301,6 +320,7 @@ actions_are_sorted JoinAnyParts s next sorts is finds =
 actions_are_sorted JoinSuffixes s next sorts is finds = replaced JoinSuffixes 2 (_ ∷ []) s next sorts (reached _ next is) (λ rest. refl) finds
 actions_are_sorted MakeParenthesizedAttributes s next sorts is finds = attributes-sorted s next (below s 1) (parts_of (below s 0)) sorts is finds
 actions_are_sorted MakeOptionalDeclarator s next sorts is finds = optional-sorted (has_spelling (below s 1)) s next _ (below s 1) (parts_of (below s 0)) sorts is finds
+actions_are_sorted MakeTypeName s next sorts is finds = type_name-sorted s next (below s 1) (parts_of (below s 0)) sorts is finds
 actions_are_sorted CountParameter s next sorts is finds =
     kept-sorted CountParameter s next sorts
     (reached _ next is ∙ limited-values (nat_lt (part_count (parts_of (below s 0))) most_parameters) s (with_limit Parameters s) refl) (λ rest. refl) finds

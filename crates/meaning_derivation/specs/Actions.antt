@@ -1,6 +1,6 @@
--- What each action does with what was read. The conditions under which some of them refuse what they are given stand with
--- the rules of their forms; here each makes its node.
+-- What each action does with what was read.
 use Rattle.std.specs.Prelude.{ℕ, [], ◌∷◌}
+use Rattle.vocabulary.specs.declared.error_kind.ErrorKind.TheVariants.{BadDeclaration}
 use Rattle.vocabulary.specs.declared.role.Role.TheVariants.{Evaluated, Condition, TypePart}
 use Rattle.vocabulary.specs.declared.node_kind.NodeKind.TheVariants as kinds
 use Rattle.vocabulary.specs.declared.scope.NameSpace.TheVariants.{Ordinary, Tags}
@@ -14,15 +14,24 @@ use Rattle.meaning_tree.specs.Trees.{Node, NoParts, with_parts}
 use Rattle.meaning_scopes.specs.Scopes.{Opened, without_scope}
 use Rattle.meaning_derivation.specs.Values.{Value, ListValue, value_at, token_of, text_of, parts_of, before, alone, stands_at, plain_tree, named_tree}
 use Rattle.meaning_derivation.specs.State.{State, ActionOutcome, Goes, pushed, with_value, made}
-use Rattle.meaning_derivation.specs.Storage.{specifiers_tree}
-use Rattle.meaning_derivation.specs.Lists.{appended, joined, suffixed, name_or, declarator_values, optional_declarator, attributes_list, leading_attributes, with_parameter, part_of_for}
-use Rattle.meaning_derivation.specs.Scoping.{with_scopes, found_name, found_here, bound_as, declared, tag_at, place, with_first_keyword, name_used, typedef_named, parameter_bound, function_noted, parameters_closed, without_closed, body_awaited, body_opened}
-use Rattle.meaning_derivation.specs.Literals.{constant_made, bad_piece, string_made}
+use Rattle.meaning_derivation.specs.Storage.{noted_class, specifiers_tree}
+use Rattle.meaning_derivation.specs.Specifiers.{Specified, specified_by, is_bad_in_file, is_bad_in_block, is_bad_member, is_refused_parameter, parameter_error, lacks_type, lacks_type_or_attributes, held_where}
+use Rattle.meaning_derivation.specs.Lists.{appended, joined, suffixed, name_or, declarator_values, optional_declarator, attributes_list, leading_attributes, with_parameter, part_of_for, type_name}
+use Rattle.meaning_derivation.specs.Scoping.{with_scopes, found_name, found_here, bound_as, declared, tag_at, place, with_first_keyword, name_used, typedef_named, parameter_bound, parts_below, function_noted, parameters_closed, without_closed, body_awaited, body_opened, takes_no_body}
+use Rattle.meaning_derivation.specs.Literals.{constant_tree, pieces_length, constant_made, bad_piece, string_made}
 use Rattle.meaning_derivation.specs.Contexts.{in_parentheses, tokens_behind, context_made}
 
 -- The value so far below the top of the stack. An action's comment names what it takes, the top on the right.
 abbrev pub below : State → ℕ → Value
 below s depth = value_at s.values depth
+
+-- what the list of specifiers on top comes to
+abbrev pub specified : State → Specified
+specified s = specified_by (parts_of (below s 0))
+
+-- so does the node of specifiers there
+abbrev pub specified_tree : State → Specified
+specified_tree s = specified_by (parts_below (below s 0))
 
 abbrev pub act : Action → State → ActionOutcome
 -- Lists, and places of tokens
@@ -57,15 +66,24 @@ act AppendLeadingAttributes s = leading_attributes s (below s 1) (parts_of (belo
 act BindDeclarator s = declared s (below s 0) (bound_as s (below s 1) (below s 0))
 act BindFurtherDeclarator s = declared s (below s 0) (bound_as s (below s 2) (below s 0))
 act NoteFunctionDeclarator s = Goes (function_noted s (below s 1))
-act AwaitBody s = Goes (body_awaited s (below s 1))
+act AwaitBody s =
+    Goes (held_where (takes_no_body (noted_class (below s 2)) (below s 1)) BadDeclaration s.next_token (body_awaited s (below s 1)))
 -- Specifiers (6.7.1 to 6.7.4)
-act MakeFileSpecifiers s = made (without_closed s) 2 (specifiers_tree (below s 1) (below s 0))
-act MakeBlockSpecifiers s = made s 2 (specifiers_tree (below s 1) (below s 0))
-act MakeMemberSpecifiers s = made s 2 (specifiers_tree (below s 1) (below s 0))
-act MakeParameterSpecifiers s = made s 2 (specifiers_tree (below s 1) (below s 0))
-act MakeTypeNameSpecifiers s = made s 2 (specifiers_tree (below s 1) (below s 0))
-act RequireType s = Goes s
-act RequireTypeOrAttributes s = Goes s
+act MakeFileSpecifiers s =
+    made (held_where (is_bad_in_file (specified s)) BadDeclaration (token_of (below s 1)) (without_closed s)) 2
+    (specifiers_tree (below s 1) (below s 0))
+act MakeBlockSpecifiers s =
+    made (held_where (is_bad_in_block (specified s)) BadDeclaration (token_of (below s 1)) s) 2 (specifiers_tree (below s 1) (below s 0))
+act MakeMemberSpecifiers s =
+    made (held_where (is_bad_member (specified s)) BadDeclaration (token_of (below s 1)) s) 2 (specifiers_tree (below s 1) (below s 0))
+act MakeParameterSpecifiers s =
+    made (held_where (is_refused_parameter (specified s)) (parameter_error (specified s)) (token_of (below s 1)) s) 2
+    (specifiers_tree (below s 1) (below s 0))
+act MakeTypeNameSpecifiers s =
+    made (held_where (is_bad_member (specified s)) BadDeclaration (token_of (below s 1)) s) 2 (specifiers_tree (below s 1) (below s 0))
+act RequireType s = Goes (held_where (lacks_type (specified_tree s)) BadDeclaration (stands_at (below s 0)) s)
+act RequireTypeOrAttributes s =
+    Goes (held_where (lacks_type_or_attributes (specified_tree s)) BadDeclaration (stands_at (below s 0)) s)
 act DeclareTag s = Goes s
 act UseTypedefName s = typedef_named s (found_name s Ordinary (text_of (below s 0))) (below s 0)
 act DefineTag s = tag_at s (found_here (found_name s Tags (text_of (below s 0)))) (text_of (below s 0)) (token_of (below s 2))
@@ -88,7 +106,7 @@ act JoinSuffixes s = Goes (with_value s 2 (suffixed (below s 0) (below s 1)))
 act MakeParenthesizedAttributes s = attributes_list s (below s 1) (parts_of (below s 0))
 act MakeDeclarator s = made s 2 (named_tree kinds.Declarator (token_of (below s 1)) (text_of (below s 1)) (parts_of (below s 0)))
 act MakeOptionalDeclarator s = optional_declarator s (below s 1) (below s 0)
-act MakeTypeName s = made s 2 (plain_tree kinds.TypeName (stands_at (below s 1)) (before TypePart (below s 1) (parts_of (below s 0))))
+act MakeTypeName s = type_name s (below s 1) (parts_of (below s 0))
 act CountParameter s = with_parameter s (parts_of (below s 0))
 act BindParameter s = parameter_bound s (below s 1) (parts_of (below s 0))
 act MakeParameter s = made s 2 (plain_tree kinds.Parameter (stands_at (below s 1)) (before TypePart (below s 1) (parts_of (below s 0))))

@@ -5,6 +5,7 @@ pub mod Derivation
 pub mod Leading
 pub mod Units
 pub mod Storage
+pub mod Specifiers
 pub mod Lists
 pub mod Scoping
 pub mod Literals

@@ -1,12 +1,13 @@
 -- Lists of parts that grow while a form is read, and are put in the order of the tree when it ends.
 use Rattle.std.specs.Prelude.{ℕ, ◌+◌, Bool, true, false, nat_lt, List, [], ◌∷◌, drop, if◌then◌else◌}
+use Rattle.vocabulary.specs.declared.error_kind.ErrorKind.TheVariants.{BadDeclaration}
 use Rattle.vocabulary.specs.declared.role.Role.{Role}
 use Rattle.vocabulary.specs.declared.role.Role.TheVariants.{TypePart}
 use Rattle.vocabulary.specs.declared.node_kind.NodeKind.TheVariants as kinds
 use Rattle.vocabulary.specs.declared.limit.LimitKind.TheVariants.{Parameters}
-use Rattle.meaning_tree.specs.Trees.{Node, Parts, NoParts, Part, with_parts}
-use Rattle.meaning_derivation.specs.Values.{Value, WordValue, TreeValue, ListValue, token_of, text_of, parts_of, alone, plain_tree, named_tree}
-use Rattle.meaning_derivation.specs.State.{State, ActionOutcome, Goes, with_values, with_value, made, made_as, made_list, with_limit}
+use Rattle.meaning_tree.specs.Trees.{SyntaxTree, Node, Parts, NoParts, Part, with_parts}
+use Rattle.meaning_derivation.specs.Values.{Value, WordValue, TreeValue, ListValue, token_of, text_of, parts_of, alone, before, stands_at, plain_tree, named_tree}
+use Rattle.meaning_derivation.specs.State.{State, IsError, ActionOutcome, Goes, Refuses, with_values, with_value, made, made_as, made_list, with_limit}
 
 -- parts the other way round, before others
 abbrev pub reversed_before : Parts (List ℕ) → Parts (List ℕ) → Parts (List ℕ)
@@ -55,6 +56,15 @@ abbrev pub optional_declarator : State → (name list : Value) → ActionOutcome
 optional_declarator s name list =
     if has_spelling name then made_list s 2 TypePart (named_tree kinds.Declarator (token_of name) (text_of name) (parts_of list))
     else unnamed_declarator s name (parts_of list)
+
+-- Type names (6.7.7), in which no name is declared
+
+abbrev pub type_name_tree : (specifiers : Value) → Parts (List ℕ) → SyntaxTree
+type_name_tree specifiers parts = plain_tree kinds.TypeName (stands_at specifiers) (before TypePart specifiers parts)
+
+abbrev pub type_name : State → (specifiers : Value) → Parts (List ℕ) → ActionOutcome
+type_name s specifiers (Part role (Node kind token (byte ∷ bytes) number parts) others) = Refuses (IsError BadDeclaration) token
+type_name s specifiers parts = made s 2 (type_name_tree specifiers parts)
 
 -- a list of one node over these attribute lists at this place, or of nothing where there are none
 abbrev pub attributes_list : State → Value → Parts (List ℕ) → ActionOutcome

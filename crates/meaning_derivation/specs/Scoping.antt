@@ -1,5 +1,5 @@
 -- What names are bound to while a unit is read (C11 6.2.1, 6.7 p3).
-use Rattle.std.specs.Prelude.{ℕ, ◌-◌, Bool, false, ◌||◌, not, List, [], ◌∷◌, ◌++◌, reverse, nat_eq, Option, Some, None, is_some, if◌then◌else◌}
+use Rattle.std.specs.Prelude.{ℕ, ◌-◌, Bool, true, false, ◌||◌, ◌&&◌, not, List, [], ◌∷◌, ◌++◌, reverse, nat_eq, Option, Some, None, is_some, if◌then◌else◌}
 use Rattle.std.specs.Str.{bytes_eq}
 use Rattle.vocabulary.specs.declared.error_kind.ErrorKind.TheVariants.{NotDeclared, Redeclared}
 use Rattle.vocabulary.specs.declared.node_kind.NodeKind.TheVariants as kinds
@@ -77,10 +77,10 @@ parameter_bound s specifiers NoParts = Goes s
 parameter_bound s specifiers (Part role (Node kind token [] number parts) others) = Goes s
 parameter_bound s specifiers (Part role tree others) = declared s (TreeValue tree) Unlinked
 
--- behind a function's declarator in a body no body follows
+-- behind a function's declarator in a body, where a scope is open, no body follows
 abbrev pub function_noted : State → (declarator : Value) → State
 function_noted s declarator =
-    if ends_with_parameters (parts_below declarator) then record s { function_end = Some s.taken } else s
+    if is_open s.scopes && ends_with_parameters (parts_below declarator) then record s { function_end = Some s.taken } else s
 
 -- Bodies: the parameters of a definition are declared in the outermost block of its body (6.2.1 p4, 6.9.1 p9)
 
@@ -117,6 +117,11 @@ without_closed s = record s { closed = [] }
 -- the body of this declarator comes next
 abbrev pub body_awaited : State → (declarator : Value) → State
 body_awaited s declarator = record s { awaited = own_parameters (parts_below declarator) }
+
+-- only a function's declarator has a body, and no type's name (6.9.1 p2)
+abbrev pub takes_no_body : StorageClass → (declarator : Value) → Bool
+takes_no_body TypedefClass declarator = true
+takes_no_body class_ declarator = not (ends_with_parameters (parts_below declarator))
 
 -- a function's body opens the scope of its parameters again, each other one a scope of its own
 abbrev pub body_opened : State → State

@@ -1,3 +1,4 @@
 -- Worked examples.
 pub mod Units
+pub mod Specifiers
 pub mod Literals

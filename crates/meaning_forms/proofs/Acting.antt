@@ -1,6 +1,7 @@
 -- What each action leaves is known.
 use Rattle.std.proofs.Common.{◌≡◌, ℕ, Bool, true, false, ◌&&◌, List, [], ◌∷◌, ◌++◌, drop, Option, Some, None, Result, Ok, Err, ℤ, IfSome, nat_lt, refl, sym, ap, subst, ◌∙◌, if◌then◌else◌}
 use Rattle.std.proofs.lemmas.Option.{same_Some}
+use Rattle.vocabulary.specs.declared.error_kind.ErrorKind.TheVariants.{BadDeclaration}
 use Rattle.vocabulary.specs.declared.role.Role.{Role}
 use Rattle.vocabulary.specs.declared.role.Role.TheVariants.{Evaluated, TypePart}
 use Rattle.vocabulary.specs.declared.scope.Bound.{Bound}
@@ -11,28 +12,29 @@ use Rattle.vocabulary.specs.declared.int_kind.IntKind.{IntKind}
 use Rattle.vocabulary.specs.declared.node_kind.NodeKind.{NodeKind}
 use Rattle.vocabulary.specs.declared.node_kind.NodeKind.TheVariants as kinds
 use Rattle.vocabulary.specs.declared.action.Action.{Action}
-use Rattle.vocabulary.specs.declared.action.Action.TheVariants.{Append, AppendAttribute, AppendDeclarator, AppendLeadingAttributes, AwaitBody, BeginAtNext, BeginDeclarators, BeginList, BindDeclarator, BindEnumerator, BindFurtherDeclarator, BindParameter, CloseParameters, CloseScope, CountParameter, DeclareTag, DefineTag, JoinAnyParts, JoinParts, JoinSuffixes, MakeBlockSpecifiers, MakeCharacterConstant, MakeContextStatement, MakeFileSpecifiers, MakeForPart, MakeIntegerConstant, MakeMemberSpecifiers, MakeOptionalDeclarator, MakeParameterSpecifiers, MakeParenthesizedAttributes, MakeStringLiteral, MakeTypeNameSpecifiers, NoteFunctionDeclarator, OpenBody, OpenScope, RequireType, RequireTypeOrAttributes, UseName, UseTag, UseTypedefName, WithoutTag}
+use Rattle.vocabulary.specs.declared.action.Action.TheVariants.{Append, AppendAttribute, AppendDeclarator, AppendLeadingAttributes, AwaitBody, BeginAtNext, BeginDeclarators, BeginList, BindDeclarator, BindEnumerator, BindFurtherDeclarator, BindParameter, CloseParameters, CloseScope, CountParameter, DeclareTag, DefineTag, JoinAnyParts, JoinParts, JoinSuffixes, MakeBlockSpecifiers, MakeCharacterConstant, MakeContextStatement, MakeFileSpecifiers, MakeForPart, MakeIntegerConstant, MakeMemberSpecifiers, MakeOptionalDeclarator, MakeParameterSpecifiers, MakeParenthesizedAttributes, MakeStringLiteral, MakeTypeName, MakeTypeNameSpecifiers, NoteFunctionDeclarator, OpenBody, OpenScope, RequireType, RequireTypeOrAttributes, UseName, UseTag, UseTypedefName, WithoutTag}
+use Rattle.meaning_tree.specs.Trees.{SyntaxTree, Node, Parts, NoParts, Part, with_parts}
+use Rattle.meaning_tree.specs.Forms.{PartSort, LeadingLists, SpecifierList, ADeclarator, ADeclaratorPart, ASpecifier, AnExpression, AConstant, AString, attribute_lists, expressions, optional_expressions, IsOf, Slot, One, Perhaps, Each, slots_of, Fits, nothing, one, left_out, there, no_more, one_more, IsFormedTree, AreFormedTrees, AStatement}
+use Rattle.meaning_scopes.specs.Scopes.{Found, is_open}
 use Rattle.meaning_attributes.specs.Contexts.{ChangeFault, BadChange, ChangePassesLimit, change_of}
 use Rattle.meaning_literals.specs.Constants.{Constant, Fault}
 use Rattle.meaning_literals.specs.Integers.{integer_of}
 use Rattle.meaning_literals.specs.Quoted.{char_of}
-use Rattle.meaning_tree.specs.Trees.{SyntaxTree, Node, Parts, NoParts, Part, with_parts}
-use Rattle.meaning_tree.specs.Forms.{PartSort, LeadingLists, SpecifierList, ADeclarator, ADeclaratorPart, ASpecifier, AnExpression, AConstant, AString, AStatement, attribute_lists, expressions, optional_expressions, IsOf, Slot, One, Perhaps, Each, slots_of, Fits, nothing, one, left_out, there, no_more, one_more, IsFormedTree, AreFormedTrees}
-use Rattle.meaning_scopes.specs.Scopes.{Found}
 use Rattle.meaning_scopes.specs.Redeclaration.{bound_here, is_redeclared}
 use Rattle.meaning_derivation.specs.Values.{Value, WordValue, TreeValue, ListValue, value_at, token_of, text_of, parts_of, before, name_of, plain_tree}
 use Rattle.meaning_derivation.specs.State.{State, Goes, made_as, made, with_limit}
-use Rattle.meaning_derivation.specs.Lists.{reversed_before, part_count, most_parameters, appended, joined, suffixed, has_spelling, name_or, unnamed_declarator, attributes_list, leading_attributes, part_of_for, first_tree_token}
+use Rattle.meaning_derivation.specs.Lists.{reversed_before, part_count, most_parameters, appended, joined, suffixed, has_spelling, name_or, unnamed_declarator, attributes_list, leading_attributes, part_of_for, first_tree_token, type_name, type_name_tree}
 use Rattle.meaning_derivation.specs.Storage.{specifiers_tree}
+use Rattle.meaning_derivation.specs.Specifiers.{is_bad_in_file, is_bad_in_block, is_bad_member, is_refused_parameter, parameter_error, held_where}
 use Rattle.meaning_derivation.specs.Contexts.{in_parentheses, tokens_behind, context_made}
 use Rattle.meaning_derivation.specs.Literals.{BadLiteral, bad_piece, constant_made, constant_tree, string_made}
 use Rattle.meaning_derivation.specs.Scoping.{declared, bound, bound_as, last_handle, parameter_bound, tag_at, found_name, found_here, parts_below, ends_with_parameters, name_used, typedef_named, without_closed}
 use Rattle.meaning_derivation.specs.Shapes.{Shape, shape_of, shaped_tree}
-use Rattle.meaning_derivation.specs.Actions.{act, below}
+use Rattle.meaning_derivation.specs.Actions.{act, below, specified}
 use Rattle.meaning_derivation.proofs.Shaping.{shapes_are_made}
 use Rattle.meaning_forms.proofs.Slots.{is_within, IsOf-more, within-fits, both}
 use Rattle.meaning_forms.proofs.Knowledge.{Known, AWord, ATree, AList, AreOf, Is, grown, is_list, grown-is, alone-is, are_of-behind, with_parts-none}
-use Rattle.meaning_forms.proofs.Effects.{behind_known, behind_shape, specifiers_known, where_, declarator_parts, lists_of_attributes, slots_from}
+use Rattle.meaning_forms.proofs.Effects.{behind_known, behind_shape, type_name_shape, specifiers_known, where_, declarator_parts, lists_of_attributes, slots_from}
 use Rattle.meaning_forms.proofs.Fronts.{Stand, beneath, word_first, tree_first, list_first, some_first, stand_more, stand_same}
 use Rattle.meaning_forms.proofs.Making.{reached, reached_unless, made-values, made_stands}
 
@@ -416,6 +418,12 @@ module _ (begun : Parts (List ℕ)) (s next : State) (rest : List Value) where
       made_stands begun known s.values rest stand shape (slots_from shape.sources known) after next.values refl found
       (made-values s next shape.takes (TreeValue (shaped_tree shape s.values)) (sym makes ∙ is))
 
+  -- a type name, where no name stands in it
+  type_name_values : (parts : Parts (List ℕ)) → type_name s (below s 1) parts ≡ Goes next → next.values ≡ TreeValue (type_name_tree (below s 1) parts) ∷ drop 2 s.values
+  type_name_values NoParts is = made-values s next 2 _ is
+  type_name_values (Part role (Node kind token [] number parts) others) is = made-values s next 2 _ is
+  type_name_values (Part role (Node kind token (byte ∷ bytes) number parts) others) is = absurd (cc is)
+
   -- Each action
 
   pub acts : (action : Action) (known after : List Known) → act action s ≡ Goes next → behind_known action known ≡ Some after → Stands known → Leaves after
@@ -436,18 +444,18 @@ module _ (begun : Parts (List ℕ)) (s next : State) (rest : List Value) where
   acts BindDeclarator known after is found stand = kept known after (declared_values (below s 0) (bound_as s (below s 1) (below s 0)) is) found stand
   acts BindFurtherDeclarator known after is found stand = kept known after (declared_values (below s 0) (bound_as s (below s 2) (below s 0)) is) found stand
   acts NoteFunctionDeclarator known after is found stand =
-      kept known after (reached _ next is ∙ noted_values (ends_with_parameters (parts_below (below s 1))) (record s { function_end = Some s.taken }) refl) found stand
+      kept known after (reached _ next is ∙ noted_values (is_open s.scopes && ends_with_parameters (parts_below (below s 1))) (record s { function_end = Some s.taken }) refl) found stand
   acts AwaitBody known after is found stand = kept known after (reached _ next is) found stand
   acts MakeFileSpecifiers known after is found stand =
-      specifiers_act known after (made-values (without_closed s) next 2 (TreeValue (specifiers_tree (below s 1) (below s 0))) is) found stand
+      specifiers_act known after (made-values (held_where (is_bad_in_file (specified s)) BadDeclaration (token_of (below s 1)) (without_closed s)) next 2 (TreeValue (specifiers_tree (below s 1) (below s 0))) is) found stand
   acts MakeBlockSpecifiers known after is found stand =
-      specifiers_act known after (made-values s next 2 (TreeValue (specifiers_tree (below s 1) (below s 0))) is) found stand
+      specifiers_act known after (made-values (held_where (is_bad_in_block (specified s)) BadDeclaration (token_of (below s 1)) s) next 2 (TreeValue (specifiers_tree (below s 1) (below s 0))) is) found stand
   acts MakeMemberSpecifiers known after is found stand =
-      specifiers_act known after (made-values s next 2 (TreeValue (specifiers_tree (below s 1) (below s 0))) is) found stand
+      specifiers_act known after (made-values (held_where (is_bad_member (specified s)) BadDeclaration (token_of (below s 1)) s) next 2 (TreeValue (specifiers_tree (below s 1) (below s 0))) is) found stand
   acts MakeParameterSpecifiers known after is found stand =
-      specifiers_act known after (made-values s next 2 (TreeValue (specifiers_tree (below s 1) (below s 0))) is) found stand
+      specifiers_act known after (made-values (held_where (is_refused_parameter (specified s)) (parameter_error (specified s)) (token_of (below s 1)) s) next 2 (TreeValue (specifiers_tree (below s 1) (below s 0))) is) found stand
   acts MakeTypeNameSpecifiers known after is found stand =
-      specifiers_act known after (made-values s next 2 (TreeValue (specifiers_tree (below s 1) (below s 0))) is) found stand
+      specifiers_act known after (made-values (held_where (is_bad_member (specified s)) BadDeclaration (token_of (below s 1)) s) next 2 (TreeValue (specifiers_tree (below s 1) (below s 0))) is) found stand
   acts RequireType known after is found stand = kept known after (reached _ next is) found stand
   acts RequireTypeOrAttributes known after is found stand = kept known after (reached _ next is) found stand
   acts DeclareTag known after is found stand = kept known after (reached _ next is) found stand
@@ -474,6 +482,9 @@ module _ (begun : Parts (List ℕ)) (s next : State) (rest : List Value) where
   acts MakeParenthesizedAttributes known after is found stand = absurd (cc found)
   acts MakeOptionalDeclarator (AList slots ∷ AWord ∷ known) after is found stand = optional_declarator_acts slots known after is found stand
   acts MakeOptionalDeclarator known after is found stand = absurd (cc found)
+  acts MakeTypeName known after is found stand =
+      made_stands begun known s.values rest stand type_name_shape (slots_from type_name_shape.sources known) after next.values refl found
+      (type_name_values (parts_of (below s 0)) is)
   acts CountParameter known after is found stand =
       kept known after (reached _ next is ∙ limited_values (nat_lt (part_count (parts_of (below s 0))) most_parameters) (with_limit Parameters s) refl) found stand
   acts BindParameter known after is found stand = kept known after (parameter_values (below s 1) (parts_of (below s 0)) is) found stand

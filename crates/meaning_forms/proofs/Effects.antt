@@ -7,13 +7,13 @@ use Rattle.vocabulary.specs.declared.token_class.TokenClass.TheVariants.{End}
 use Rattle.vocabulary.specs.declared.symbol.Symbol.{Symbol}
 use Rattle.vocabulary.specs.declared.symbol.Symbol.TheVariants.{AdditiveTail, AndTail, AnyDeclarator, AnyDirectDeclarator, Arguments, ArraySize, AssignmentTail, Attribute, AttributeArguments, AttributeList, AttributeLists, BalancedTokens, BlockItem, BlockItems, BodyOrDeclarators, BracedInitializer, CastOperand, CommaTail, CompoundStatement, ConditionalTail, Declaration, Declarator, DeclaratorSuffixes, Declarators, Designator, DirectDeclarator, EnumSpecifier, Enumerator, EnumeratorsBehindComma, EnumeratorsBehindTag, EqualityTail, ExclusiveOrTail, ExternalDeclaration, ExternalDeclarations, ExternalDeclarators, ForInitialization, FurtherArguments, FurtherAttributes, FurtherDeclarators, FurtherDesignators, FurtherEnumerators, FurtherInitializerItems, FurtherMemberDeclarators, FurtherParameters, FurtherStringLiterals, InclusiveOrTail, Initializer, InitializerItem, InitializerItems, LogicalAndTail, LogicalOrTail, MemberDeclaration, MemberDeclarations, MemberDeclarator, MemberDeclarators, MembersBehindTag, MiddleOperand, MultiplicativeTail, OffsetofDesignators, OptionalElse, OptionalEnumeratorValue, OptionalExpression, OptionalInitializer, OptionalWidth, Parameter, ParameterOrEllipsis, Parameters, ParenthesizedExpression, PointerQualifiers, Pointers, PostfixTail, RelationalTail, ShiftTail, SizeofOperand, SizeofTypeEnd, Specifiers, SpecifiersBehindType, Statement, StaticAssertion, StorageClassSpecifier, StringLiterals, StructOrUnionSpecifier, TagOrEnumerators, TagOrMembers, TypeName, TypeQualifier, TypeWord, TypeofOperand, TypeofSpecifier}
 use Rattle.vocabulary.specs.declared.action.Action.{Action}
-use Rattle.vocabulary.specs.declared.action.Action.TheVariants.{Append, AppendAttribute, AppendDeclarator, AppendLeadingAttributes, AwaitBody, BeginAtNext, BeginDeclarators, BeginList, BindDeclarator, BindEnumerator, BindFurtherDeclarator, BindParameter, CloseParameters, CloseScope, CountParameter, DeclareTag, DefineTag, JoinAnyParts, JoinParts, JoinSuffixes, MakeBlockSpecifiers, MakeCharacterConstant, MakeContextStatement, MakeFileSpecifiers, MakeForPart, MakeIntegerConstant, MakeMemberSpecifiers, MakeOptionalDeclarator, MakeParameterSpecifiers, MakeParenthesizedAttributes, MakeStringLiteral, MakeTypeNameSpecifiers, NoteFunctionDeclarator, OpenBody, OpenScope, RequireType, RequireTypeOrAttributes, UseName, UseTag, UseTypedefName, WithoutTag}
+use Rattle.vocabulary.specs.declared.action.Action.TheVariants.{Append, AppendAttribute, AppendDeclarator, AppendLeadingAttributes, AwaitBody, BeginAtNext, BeginDeclarators, BeginList, BindDeclarator, BindEnumerator, BindFurtherDeclarator, BindParameter, CloseParameters, CloseScope, CountParameter, DeclareTag, DefineTag, JoinAnyParts, JoinParts, JoinSuffixes, MakeBlockSpecifiers, MakeCharacterConstant, MakeContextStatement, MakeFileSpecifiers, MakeForPart, MakeIntegerConstant, MakeMemberSpecifiers, MakeOptionalDeclarator, MakeParameterSpecifiers, MakeParenthesizedAttributes, MakeStringLiteral, MakeTypeName, MakeTypeNameSpecifiers, NoteFunctionDeclarator, OpenBody, OpenScope, RequireType, RequireTypeOrAttributes, UseName, UseTag, UseTypedefName, WithoutTag}
 use Rattle.vocabulary.specs.declared.production_item.ProductionItem.{ProductionItem}
 use Rattle.vocabulary.specs.declared.production_item.ProductionItem.TheVariants.{Token, Passed, PassedAny, Name, LabelName, AttributeWord, CaseColon, DesignatorEnd, Nonterminal, Do}
 use Rattle.vocabulary.specs.declared.node_kind.NodeKind.TheVariants as kinds
 use Rattle.meaning_tree.specs.Forms.{ADeclaration, LeadingLists, SpecifierList, ASpecifier, AQualifier, AMemberList, AWidth, AnEnumerator, ADeclarator, ADeclaratorPart, AParameter, AnEllipsis, ATypeName, AnAttribute, AnInitializer, Braces, AnItem, ADesignator, ACompoundStatement, AStringPiece, AString, AConstant, AnExpression, AnAssertion, AStatement, sort_of_kind, expressions, statements, block_items, external_declarations, members, qualifiers, specifiers, initial_values, optional_expressions, attribute_lists, Slot, One, Perhaps, Each, DeclaratorSlots, MemberSlots, slots_of}
 use Rattle.meaning_grammar.specs.Classes.{is_same}
-use Rattle.meaning_derivation.specs.Shapes.{Source, OneTree, AllTrees, Shape, shape_of}
+use Rattle.meaning_derivation.specs.Shapes.{AtTree, Source, OneTree, AllTrees, Shape, shape_of}
 use Rattle.meaning_forms.proofs.Slots.{is_within}
 use Rattle.meaning_forms.proofs.Knowledge.{Known, AWord, ATree, AList, Grown, grown, is_list, serves, all_serve}
 
@@ -236,6 +236,18 @@ abbrev pub specifiers_known : List Known → Option (List Known)
 specifiers_known (AList slots ∷ AWord ∷ known) = where_ (is_within slots (slots_of kinds.Specifiers)) (ATree (SpecifierList ∷ []) ∷ known)
 specifiers_known known = None
 
+-- the shape of a type name's node
+abbrev pub type_name_shape : Shape
+type_name_shape =
+    record {
+      takes = 2;
+      kind = kinds.TypeName;
+      place = AtTree 1;
+      name = None;
+      number = None;
+      sources = OneTree TypePart 1 ∷ AllTrees 0 ∷ [];
+    }
+
 -- what is known behind an action, where it finds what it needs
 abbrev pub behind_known : Action → List Known → Option (List Known)
 behind_known BeginList known = Some (AList [] ∷ known)
@@ -282,6 +294,7 @@ behind_known MakeParenthesizedAttributes known = None
 behind_known MakeOptionalDeclarator (AList slots ∷ AWord ∷ known) =
     where_ (is_within slots declarator_parts) (AList (Perhaps TypePart (ADeclarator ∷ []) ∷ []) ∷ known)
 behind_known MakeOptionalDeclarator known = None
+behind_known MakeTypeName known = behind_shape known (Some type_name_shape)
 behind_known CountParameter known = Some known
 behind_known BindParameter known = Some known
 behind_known CloseParameters known = Some known

@@ -14,4 +14,5 @@ pub mod JoinedLists
 pub mod LiteralLengths
 pub mod DeclaredNames
 pub mod Finished
+pub mod SpecifiedKinds
 pub mod HandedOn

@@ -14,4 +14,5 @@ pub mod Joining
 pub mod Storage
 pub mod Declaring
 pub mod Finished
+pub mod Specifying
 pub mod Strings

@@ -27,8 +27,8 @@ pub struct DeclaredName {
     pub token: u32,
 }
 
-// The children of a list.
-fn list_at(values: &[Value], depth: usize) -> Option<&TagList>
+/// The children of a list.
+pub(crate) fn list_at(values: &[Value], depth: usize) -> Option<&TagList>
     ensures { option_map (λ children. children.now) result ≡ list_in (slice_get (reverse values.now) depth) }
 {
     match value_at(values, depth) {

@@ -176,8 +176,6 @@ pub record BindExamples : Type 0 where
   -- each declarator behind the specifiers is bound as they say
   pub further : is_read (unit (codes "typedef int t, u; u x;")) ≡ true
   pub further_block : unit (codes "void f(void) { int x, x; }") ≡ IsTold (IsError Redeclared) 9 9
-  -- `typedef` tells where both words stand
-  pub both : is_read (unit (codes "extern typedef int t; t x;")) ≡ true
   -- an enumerator is no object, and a parameter has no linkage
   pub enumerator : unit (codes "enum { A }; int A;") ≡ IsTold (IsError Redeclared) 6 6
   pub enumerators : unit (codes "enum { A, A };") ≡ IsTold (IsError Redeclared) 4 4

@@ -45,7 +45,6 @@ returns-clause-binds c = record {
   one_external = refl;
   further = refl;
   further_block = refl;
-  both = refl;
   enumerator = refl;
   enumerators = refl;
   parameters = refl;
@@ -83,6 +82,75 @@ returns-clause-refusals c = record {
   word_first = refl;
   expected = refl;
   nested = refl;
+}
+
+pub returns-clause-sets : goal.returns-clause-sets
+returns-clause-sets c = record {
+  one = refl;
+  two = refl;
+  three = refl;
+  four = refl;
+}
+
+pub returns-clause-specifiers : goal.returns-clause-specifiers
+unfolding opened
+returns-clause-specifiers c = record {
+  taken = refl;
+  syntax = refl;
+  word = refl;
+  none = refl;
+  class_alone = refl;
+  qualifier_alone = refl;
+  function_alone = refl;
+  attributes = refl;
+  attributes_of_name = refl;
+  typedefs = refl;
+  typedef_and_word = refl;
+  structure_and_word = refl;
+  enumeration_and_word = refl;
+  typeof_and_word = refl;
+  classes = refl;
+  class_twice = refl;
+  automatic = refl;
+  in_register = refl;
+  block = refl;
+  block_classes = refl;
+}
+
+pub returns-clause-places : goal.returns-clause-places
+unfolding opened
+returns-clause-places c = record {
+  parameter = refl;
+  automatic_parameter = refl;
+  inline_parameter = refl;
+  register_parameter = refl;
+  typeless = refl;
+  typeless_class = refl;
+  without_tokens = refl;
+  member = refl;
+  register_member = refl;
+  member_of_no_type = refl;
+  qualifier_of_member = refl;
+  type_name = refl;
+  no_type_name = refl;
+  named_type_name = refl;
+  named_within = refl;
+  nameless = refl;
+}
+
+pub returns-clause-functions : goal.returns-clause-functions
+unfolding opened
+returns-clause-functions c = record {
+  object = refl;
+  pointer = refl;
+  array = refl;
+  typedef = refl;
+  by_typedef = refl;
+  in_parentheses = refl;
+  of_function = refl;
+  pointer_to_function = refl;
+  later = refl;
+  behind_initializer = refl;
 }
 
 pub returns-clause-literals : goal.returns-clause-literals

@@ -74,7 +74,7 @@ Statement = name ':' Statement [LABEL] | 'case' Conditional {case} ':' Statement
     | 'if' '(' Expression ')' Statement Else | 'switch' '(' Expression ')' Statement | 'while' '(' Expression ')' Statement
     | 'do' Statement 'while' '(' Expression ')' ';' | 'for' {scope} '(' ForFirst OptionalExpression ';' OptionalExpression ')' Statement {leave}
     | 'goto' {goto} name ';' | 'continue' ';' | 'break' ';' | 'return' OptionalExpression ';'
-    | '__context__' '(' {spare} Balanced {heed} ')' ';' | AttributeList AttributeLists ';' | OptionalExpression ';'
+    | '__context__' {context} '(' {spare} Balanced {heed} ')' ';' {change} | AttributeList AttributeLists ';' | OptionalExpression ';'
 Else = 'else' Statement | -
 ForFirst = Declaration [START] | OptionalExpression ';'
 OptionalExpression = - [';' ')'] | Expression
@@ -117,12 +117,12 @@ PostfixTail = '[' Expression ']' PostfixTail | '(' {list} Arguments ')' {ended} 
     | '++' PostfixTail | '--' PostfixTail | -
 Arguments = - [')'] | {count} Assignment FurtherArguments
 FurtherArguments = ',' {count} Assignment FurtherArguments | -
-Primary = ident {use} | number | character | Strings | '(' ParenthesizedRest
+Primary = ident {use} | number {number} | character {character} | Strings | '(' ParenthesizedRest
     | '__builtin_expect' '(' Assignment ',' Assignment ')' | '__builtin_offsetof' '(' TypeName ',' name OffsetofTail ')'
 OffsetofTail = '.' name OffsetofTail | '[' Expression ']' OffsetofTail | -
 ParenthesizedRest = Body ')' | Expression ')'
-Strings = string FurtherStrings
-FurtherStrings = string FurtherStrings | -
+Strings = string {piece} FurtherStrings {strings}
+FurtherStrings = string {piece} FurtherStrings | -
 """
 
 # Classes of tokens that no spelling is, and the end.

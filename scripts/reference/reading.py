@@ -1,6 +1,8 @@
 """What reading a unit's tokens by the grammar comes to: nothing, or the line of the token with which it doesn't go on."""
 import re
 
+from . import literals
+from .attributes import CHANGE, CHANGE_STEP, change_shown
 from .grammar import CLASSES, END, FIRSTS, FOLLOWS, NULLABLE, ROWS, START, first_of, parts
 from .macros import Passed
 from .scanning import is_identifier, meant
@@ -150,6 +152,9 @@ class Reader:
         # how many parameters each open list has, and the token at which the first limit is passed, with its name
         self.counts = []
         self.limit = None
+        # the strings of a row, and the word of a context statement, by their indexes
+        self.pieces = []
+        self.context = None
 
     def found(self, name):
         return next((scope[name] for scope in reversed(self.scopes) if name in scope), None)
@@ -180,7 +185,7 @@ class Reader:
         if spelled in NUMBER_OF_WORD:
             return NUMBER_OF_WORD[spelled]
         if spelled.endswith((b"'", b'"')):
-            return 42 if spelled[:1] not in b"'\"" else None
+            return self.unsupported_quoted(spelled)
         if re.fullmatch(rb"\.?[0-9].*", spelled, re.DOTALL):
             return 30 if IS_FLOATING.fullmatch(spelled) else None
         if is_identifier(self.tokens[at]):
@@ -189,6 +194,13 @@ class Reader:
             if spelled.startswith(b"__builtin_") and spelled not in KEYWORDS:
                 return 47
         return None
+
+    @staticmethod
+    def unsupported_quoted(spelled):
+        if spelled[:1] not in b"'\"":
+            return 42
+        error = literals.of_character(spelled) if spelled.endswith(b"'") else literals.of_string(spelled)
+        return error if error == literals.UNIVERSAL else None
 
     def stop(self, at, number, text=None):
         place = self.places[at] if at < len(self.tokens) else self.last
@@ -396,6 +408,38 @@ class Reader:
         name = meant(self.tokens[self.at - 1])
         if self.found(name) is None:
             self.stop(self.at - 1, 21, f"'{name.decode('latin-1')}' is not declared")
+
+    # Literals, told at themselves; of strings in a row the first bad one
+
+    def heed_literal(self, at, error):
+        if error is not None:
+            self.stop(at, error, literals.TEXTS[error])
+
+    def do_number(self):
+        self.heed_literal(self.at - 1, literals.of_number(self.tokens[self.at - 1].spelled))
+
+    def do_character(self):
+        self.heed_literal(self.at - 1, literals.of_character(self.tokens[self.at - 1].spelled))
+
+    def do_piece(self):
+        self.pieces.append(self.at - 1)
+
+    def do_strings(self):
+        for at in self.pieces:
+            self.heed_literal(at, literals.of_string(self.tokens[at].spelled))
+        self.pieces = []
+
+    # Context statements
+
+    def do_context(self):
+        self.context = self.at - 1
+
+    def do_change(self):
+        change = change_shown(self.tokens[self.context + 2 : self.at - 2])
+        if change == CHANGE:
+            self.stop(self.context, 23, "bad attribute")
+        if change == CHANGE_STEP:
+            raise Passed(b"context step")
 
     # Bodies
 

@@ -1,3 +1,2 @@
-pub mod Zero
-pub mod Using
-pub mod ForParts
+pub mod Closing
+pub mod Told

@@ -9,6 +9,7 @@ ghost use Rattle.parse_state.specs.Groups.{is_expression_action as is_of_express
 ghost use Rattle.parse_state.specs.Seen.{state_of};
 ghost use Rattle.parse_state.specs.Steps.{IsToldBy};
 
+use crate::contexts::make_context;
 use crate::lists::{append, begin_at_next, begin_list, count_parameter, open_scope};
 use crate::literals::{make_character, make_integer, make_string};
 use crate::names::{make_for_part, use_name};
@@ -81,6 +82,7 @@ pub fn act(state: &mut ParseState<'_>, action: Action) -> Result<(), ActionFault
         Action::MakeIntegerConstant => make_integer(state),
         Action::MakeCharacterConstant => make_character(state),
         Action::MakeForPart => make_for_part(state),
+        Action::MakeContextStatement => make_context(state),
         Action::MakeStringLiteral => make_string(state),
         _ => make_node(state, action),
     }

@@ -5,6 +5,7 @@
 #![tactic(auto)]
 
 mod actions;
+mod contexts;
 mod lists;
 mod literals;
 mod names;

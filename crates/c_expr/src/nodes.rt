@@ -141,14 +141,6 @@ pub fn make_node(state: &mut ParseState<'_>, action: Action) -> Result<(), Actio
                 Source::OneTree(Role::Evaluated, 0),
             ],
         }),
-        Action::MakeContextStatement => state.make_row(&Row {
-            takes: 1,
-            kind: NodeKind::ContextStatement,
-            place: Place::AtWord(0),
-            name: None,
-            number: None,
-            sources: &[],
-        }),
         Action::MakeConditional => state.make_row(&Row {
             takes: 4,
             kind: NodeKind::Conditional,

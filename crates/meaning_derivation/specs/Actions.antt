@@ -18,7 +18,7 @@ use Rattle.meaning_derivation.specs.Storage.{noted_class, specifiers_tree}
 use Rattle.meaning_derivation.specs.Specifiers.{Specified, specified_by, is_bad_in_file, is_bad_in_block, is_bad_member, is_refused_parameter, parameter_error, lacks_type, lacks_type_or_attributes, held_where}
 use Rattle.meaning_derivation.specs.Lists.{appended, joined, suffixed, name_or, declarator_values, optional_declarator, attributes_list, leading_attributes, with_parameter, part_of_for, type_name}
 use Rattle.meaning_derivation.specs.Scoping.{with_scopes, found_name, found_here, bound_as, declared, tag_at, place, with_first_keyword, name_used, typedef_named, parameter_bound, parts_below, function_noted, parameters_closed, without_closed, body_awaited, body_opened, takes_no_body}
-use Rattle.meaning_derivation.specs.Literals.{constant_tree, pieces_length, constant_made, bad_piece, string_made}
+use Rattle.meaning_derivation.specs.Literals.{constant_made, bad_piece, string_made}
 use Rattle.meaning_derivation.specs.Contexts.{in_parentheses, tokens_behind, context_made}
 
 -- The value so far below the top of the stack. An action's comment names what it takes, the top on the right.

@@ -90,6 +90,8 @@ LARGEST = (
 
 # How long a chain or a list is.
 LONG = (50000, 500000)
+# An operator of each level between two operands; `+` and `-` have chains of their own.
+LEVELS = (b"*", b"<<", b"<", b"==", b"&", b"^", b"|", b"&&", b"||")
 
 
 class Family(NamedTuple):
@@ -251,6 +253,14 @@ FAMILIES = (
     Family("parsing: functions of a kernel", texts.functions_of_a_kernel, (1000, 10000), words=(), status=2),
     of_parsing("a chain of -", b"int a; int x = ", b"- ", b"a", b"", b";", LONG),
     of_parsing("a sum", b"int a; int x = ", b"a + ", b"a", b"", b";", LONG),
+    *(of_parsing(f"operands of {it.decode()}", b"int a; int x = ", b"a %b " % it, b"a", b"", b";", LONG) for it in LEVELS),
+    of_parsing("commas", b"int a; void f(void) { ", b"a, ", b"a", b"", b"; }", LONG),
+    *(of_parsing(f"operands before {it.decode()}", b"int a; int x = a", it, b"", b"", b";", LONG) for it in (b"++", b".m", b"->m", b"()")),
+    *(of_parsing(f"operands behind {it.decode()}", b"int a; int x = ", it + b" ", b"a", b"", b";", LONG) for it in (b"!", b"--", b"sizeof")),
+    of_parsing("calls of 255 arguments", b"int g(); void f(void) { ", b"g(" + b"1," * 254 + b"1); ", b"", b"", b" }", (200, 2000)),
+    of_parsing("cases", b"void f(void) { switch (1) { ", b"case 1: ", b";", b"", b" } }", LONG),
+    of_parsing("context statements", b"void f(void) { ", b"__context__(1); ", b"", b"", b" }", LONG),
+    of_parsing("numbers", b"void f(void) { ", b"0x7fffffffu; ", b"", b"", b" }", LONG),
     of_parsing("assignments", b"int a; void f(void) { ", b"a = ", b"a", b"", b"; }", LONG),
     of_parsing("casts", b"typedef int t; int a; int x = ", b"(t)", b"a", b"", b";", LONG),
     of_parsing("subscripts", b"int a; int x = a", b"[1]", b"", b"", b";", LONG),
@@ -265,6 +275,7 @@ FAMILIES = (
     of_parsing("string literals", b"char x[] = ", b'"" ', b'""', b"", b";", LONG),
     of_parsing("parentheses", b"int x = ", b"(", b"1", b")", b";", (400, 4000)),
     of_parsing("bodies", b"void f(void) ", b"{", b"", b"}", b"", (3000, 30000)),
+    of_parsing("statement expressions", b"int x = ", b"({ ", b"1", b"; })", b";", (360, 3600)),
     of_parsing("declarators in one another", b"int ", b"(", b"x", b")", b";", (3000, 30000)),
     of_parsing("lists in one another", b"int x = ", b"{", b"1", b"}", b";", (3000, 30000)),
     of_parsing("structures in one another", b"", b"struct { ", b"int y;", b" } x;", b"", (1300, 13000)),

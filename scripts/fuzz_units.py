@@ -3,6 +3,7 @@ import os
 import shutil
 import subprocess
 
+import made_expressions
 import made_readings
 import workbench_answers
 from made_attributes import attribute_lists, context_statements
@@ -148,8 +149,9 @@ def check_headers(workbench, folder, chance, count):
 
 
 def check_readings(program, folder, chance, count):
-    """Compares so many checks of units by the grammar and with slips; true where all are alike."""
+    """Compares so many checks of units by the grammar and with slips, and of expressions; true where all are alike."""
     for _ in range(count):
-        if not same_answer(program, [b"t.c"], folder, {b"t.c": made_readings.unit(chance)}, wanted_of_command):
+        text = chance.choice([made_readings.unit, made_expressions.unit])(chance)
+        if not same_answer(program, [b"t.c"], folder, {b"t.c": text}, wanted_of_command):
             return False
     return True

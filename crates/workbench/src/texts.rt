@@ -6,8 +6,7 @@ use c_preproc::UnitTokens;
 use c_tokens::Names;
 use c_types::Named;
 use sparse_model::{
-    Class, ClassSet, ErrorKind, Failure, FailureList, NameId, Place, Restrict, RuleCode,
-    Space,
+    Class, ClassSet, ErrorKind, Failure, FailureList, NameId, Place, Restrict, RuleCode, Space,
 };
 use std::alloc::{AllocError, Global};
 use warn_print::{Show, error_text, print_all, type_text, warning_text};
@@ -167,7 +166,10 @@ impl Texts {
                 self.tell(told, number);
                 Ok(())
             }
-            Verb::Name(named) => self.session.types.set_name(named.with(number), self.next.name),
+            Verb::Name(named) => self
+                .session
+                .types
+                .set_name(named.with(number), self.next.name),
             Verb::Text => self.write_type(names, unit),
             Verb::Warning => self.write_last(names, unit),
             Verb::Warnings => self.write_all(names, unit),

@@ -48,13 +48,7 @@ pub fn fold_measured(
 /// The constant of a node by the layouts of its unit's types (C11 6.6). Types and constants of its parts, and of the
 /// enumerator that it names, stand in `nodes` by their handles. Of a `__builtin_offsetof` alone `offset` is asked: how far
 /// the member lies to which it leads, if it leads to one. It takes no memory, and one step.
-pub fn fold(
-    unit: &Unit,
-    types: &Types,
-    nodes: &NodeTypes,
-    offset: Option<u64>,
-    e: Handle,
-) -> Folded
+pub fn fold(unit: &Unit, types: &Types, nodes: &NodeTypes, offset: Option<u64>, e: Handle) -> Folded
     requires whole { unit.now.first ≡ 0 }
     requires node { e < end_of unit.now }
     requires kept { All (IsKnownNode types.now) nodes.now }

@@ -8,8 +8,8 @@
 mod children;
 mod constant;
 mod facts;
-mod folding;
 mod folded;
+mod folding;
 mod known;
 mod measured;
 mod number;
@@ -19,6 +19,6 @@ mod part;
 mod sized;
 mod way;
 
-pub use folding::{fold, fold_measured};
 pub use folded::Folded;
+pub use folding::{fold, fold_measured};
 pub use measured::measuring_is_enough;

@@ -102,12 +102,7 @@ fn align_of_only(types: &Types, nodes: &NodeTypes, children: Children) -> Option
 }
 
 /// The bytes that a node asks for: of a `__builtin_offsetof` these.
-pub fn bytes_of(
-    types: &Types,
-    nodes: &NodeTypes,
-    offset: Option<u64>,
-    node: &Node,
-) -> Option<u64>
+pub fn bytes_of(types: &Types, nodes: &NodeTypes, offset: Option<u64>, node: &Node) -> Option<u64>
     requires { All (IsKnownNode types.now) nodes.now }
     ensures { (unit : NodeList NameId) → result ≡ bytes_asked (sizes_in types.now) (fold_of node.now.kind) (node_facts unit types.now nodes.now offset (node_of node.now)) }
 {

@@ -68,7 +68,7 @@ fuzz: $(PROGRAM) $(WORKBENCH)
 	$(PYTHON) scripts/fuzz.py $(PROGRAM) $(WORKBENCH)
 
 # Worked rows over the checker that fuzz compares the program with.
-PREPROCESSED := an_include_directory checks_through_macros checks_through_macros_of_headers command_lines expansion_arguments expansion_changing_names expansion_hidden_names expansion_limits expansion_of_kernel_macros expansion_pasting expansion_strings header_names include_limits include_limits_of_headers includes kernel_headers option_words parsed_names parsed_not_in_the_form preprocessed_text preprocessed_text_of_headers syntax_errors undefined_names undefined_names_of_headers unsupported_forms unsupported_words
+PREPROCESSED := aggregates_assertions aggregates_attributes aggregates_enumerators aggregates_initializers aggregates_members aggregates_tags aggregates_typeof an_include_directory checks_through_macros checks_through_macros_of_headers command_lines declarations_bodies declarations_in_blocks declarations_members declarations_name_classes declarations_nested_functions declarations_parameters declarations_redeclared declarations_specifiers declarations_type_names expansion_arguments expansion_changing_names expansion_hidden_names expansion_limits expansion_of_kernel_macros expansion_pasting expansion_strings header_names include_limits include_limits_of_headers includes kernel_headers option_words parsed_names parsed_not_in_the_form preprocessed_text preprocessed_text_of_headers syntax_errors undefined_names undefined_names_of_headers unsupported_forms unsupported_words
 
 rows:
 	$(PYTHON) scripts/preprocessing_rows.py $$(grep -l '^[$$] workbench' crates/cases/data/*.txt) $(PREPROCESSED:%=crates/cases/data/%.txt)

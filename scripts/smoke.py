@@ -182,7 +182,7 @@ TYPED = [
     ("ksparse no_header.c", "", "no_header.c:1:10: error[2]: include not found: no.h\n", 2),
     ("ksparse self.c", "", "ksparse: limit: include depth\n", 7),
     ("ksparse '-DX=extern int x;' x.c", "", "", 0),
-    ("ksparse '-DX=extern int x;' -UX x.c", "", "x.c:1:1: error[20]: syntax error: unexpected end of file\n", 2),
+    ("ksparse '-DX=extern int x;' -UX x.c", "", "x.c:1:1: error[28]: bad declaration\n", 2),
     ("ksparse if.c", "", "", 0),
     ("ksparse -Wundef if.c", "", "if.c:1:5: warning: undefined preprocessor identifier 'FOO'\n", 1),
     ("ksparse -Wundef -Wno-undef if.c", "", "", 0),

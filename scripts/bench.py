@@ -152,6 +152,21 @@ def of_types(name, make, most_ratio=MOST_NAMES_RATIO):
     return Call("types: " + name, ["types"], [], make, CALL_TOKENS, most_ratio)
 
 
+def of_texts(name, make, sizes, most_ratio=MOST_CALL_RATIO):
+    """The texts of types, or of failures."""
+    return Call("texts: " + name, ["texts"], [], make, sizes, most_ratio)
+
+
+def of_constants(name, make, sizes):
+    """The constants of nodes, each folded by those of its parts."""
+    return Call("constants: " + name, ["constants"], [], make, sizes, MOST_CALL_RATIO)
+
+
+def of_layouts(name, make, most_ratio=MOST_NAMES_RATIO):
+    """The same on what types take."""
+    return Call("layouts: " + name, ["types"], [], make, CALL_TOKENS, most_ratio)
+
+
 class Extreme(NamedTuple):
     """A text of macros that is as deep or as long as a stranger's may be, and its answer: the status, and the first line."""
 
@@ -205,6 +220,18 @@ CALLS = (
     of_types("aggregates", texts.aggregates),
     of_types("identities", texts.identities),
     of_types("repeats", texts.repeated_types, MOST_CALL_RATIO),
+    of_texts("stars", texts.spelled_levels(b"pointers"), (10000, 100000, 1000000)),
+    of_texts("levels of arrays", texts.spelled_levels(b"arrays"), (50000, 500000)),
+    of_texts("failures in order", texts.failures, (1000, 10000, 100000)),
+    of_constants("a sum", texts.folded_chain(b"literal_1", b"sums"), (60000, 600000)),
+    of_constants("a chain of &&", texts.folded_chain(b"literal_1", b"ands"), (60000, 600000)),
+    of_constants("?: to the right", texts.folded_chain(b"literal_3", b"arms"), (40000, 400000)),
+    of_constants("parentheses", texts.folded_chain(b"literal_7", b"parentheses"), (4000, 40000, 400000)),
+    of_constants("enumerators", texts.folded_chain(b"literal_0 enumerator", b"enumerators"), (6000, 60000)),
+    of_layouts("one structure", texts.measured_structure),
+    of_layouts("structures", texts.measured_structures),
+    of_layouts("levels of arrays", texts.measured_levels),
+    of_layouts("uses of one size", texts.measured_often, MOST_CALL_RATIO),
 )
 
 

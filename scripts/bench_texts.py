@@ -146,6 +146,27 @@ def identities(types):
     return b"".join(b"restricted_%d pointer drop " % number for number in range(types // 3))
 
 
+def measured_structure(types):
+    """One structure of so many members, and what it takes."""
+    return b"int member char member " * (types // 4) + b"complete_1 struct_1 extent\n"
+
+
+def measured_structures(types):
+    """So many structures, each with the one before as a member, and what each takes."""
+    one = b"struct_%d member int member complete_%d struct_%d extent "
+    return b"complete_0 " + b"".join(one % (number, number + 1, number + 1) for number in range(types // 7))
+
+
+def measured_levels(types):
+    """An array of so many levels, and what each takes."""
+    return b"int " + b"array_1 again extent " * (types // 3)
+
+
+def measured_often(types):
+    """So many uses of the size of a structure of a thousand members."""
+    return b"int members_1000 complete_1 " + b"struct_1 extent " * (types // 2)
+
+
 def repeated_types(types):
     """Few types, again and again."""
     return b"const int pointer array_3 int int function_1 pointer drop drop " * (types // 10)
@@ -326,3 +347,19 @@ def doubled_name(levels):
 def long_argument(tokens):
     """A call whose one argument has so many tokens."""
     return defined([b"f(a) a"], b"f(" + b"x " * tokens + b")")
+
+
+def spelled_levels(word):
+    """A type of so many levels of one kind, which is spelled."""
+    return lambda count: b"commands int %b_%d text\n" % (word, count)
+
+
+def failures(count):
+    """So many failures at other tokens, found in the order of a card that is shuffled, and told in the order of their tokens."""
+    order = sorted(range(count), key=lambda number: number * 7919 % 99991)
+    return b"commands called n on S1 " + b"".join(b"at_%d S1 " % token for token in order) + b"warnings\n"
+
+
+def folded_chain(front, link):
+    """A chain of so many links over a literal, each folded."""
+    return lambda count: b"int nodes int %b %b_%d show\n" % (front, link, count)

@@ -128,7 +128,7 @@ def examples(rows):
     names = [f"from_{start}" for start in range(0, len(rows), OF_FACT)]
     parts = [
         "-- Expressions that a script made, each with the type and the value that a compiler gives it; so lines are long.",
-        "use Rattle.std.specs.Prelude.{◌≡◌, pos, negsuc, List, [], ◌∷◌, Option, None}",
+        "use Rattle.std.specs.Prelude.{◌≡◌, pos, negsuc, [], ◌∷◌, None}",
         "use Rattle.vocabulary.specs.declared.int_kind.IntKind.TheVariants as kinds",
         "use Rattle.vocabulary.specs.declared.operator.Operator.TheVariants as operators",
         "use Rattle.meaning_types.specs.examples.Types.{plain}",

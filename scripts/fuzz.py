@@ -5,8 +5,7 @@ that no command makes yet.
 usage: fuzz.py PROGRAM WORKBENCH [COUNT [SEED]]
 
 A run must end by itself within ten seconds, write nothing to standard output, and give for a file the
-status and the bytes on standard error that `rules.py` works out from the rules alone. For words it must
-give one of the stated statuses, with lines of the stated form; where the program preprocesses, random words and files with
+status and the bytes on standard error that `rules.py` and `reference` work out from the rules alone. Random words and files with
 headers must have the bytes and the status that `reference` works out.
 
 Units of random conditionals and definitions, and random macros, go through the tools of WORKBENCH, which must print what
@@ -16,19 +15,15 @@ Where a compiler is installed, random macros go through it and through `referenc
 """
 import os
 import random
-import re
 import shutil
 import sys
 import tempfile
 
 import compilers
-import rules
-from fuzz_units import check_commands, check_headers, check_readings, check_tools, preprocesses, run
+from fuzz_units import check_commands, check_headers, check_readings, check_tools, run
 from made_units import Maker
 from reference.commands import answer
 
-USAGE = re.compile(rb"ksparse: (?:bad word: .*|missing file)\n", re.DOTALL)
-MISSING = re.compile(rb"ksparse: error\[1\]: no such file: .*\n", re.DOTALL)
 
 PIECES = [
     "extern", "int", "void", "__attribute__", "noderef", "address_space", "(", ")", "{", "}", "*", "=", ";",
@@ -118,38 +113,22 @@ def noise(chance):
     return bytes(chance.randrange(256) for _ in range(chance.randrange(200)))
 
 
-def wanted(text, has_macros):
-    """The status of the check of a text, and what goes to standard error, by a program that replaces macros or doesn't."""
-    if not has_macros:
-        return rules.answer(text)
+def wanted(text):
+    """The status of the check of a text, and what goes to standard error."""
     _, err, status = answer([b"t.c"], {b"t.c": text})
     return status, err
 
 
-def check_text(program, folder, text, in_form, has_macros):
+def check_text(program, folder, text, in_form):
     """What is wrong about the check of this text, or nothing."""
     with open(os.path.join(folder, "t.c"), "wb") as file:
         file.write(text)
     status, out, err = run(program, ["t.c"], folder)
     if in_form and status not in (0, 1):
         return "a unit of the first form is refused"
-    if (status, err) != wanted(text, has_macros):
-        return f"status {status}, {err!r} in place of {wanted(text, has_macros)!r}"
+    if (status, err) != wanted(text):
+        return f"status {status}, {err!r} in place of {wanted(text)!r}"
     return "something on standard output" if out else None
-
-
-def check_words(program, folder, chance):
-    """What is wrong about the answer to random words, or nothing."""
-    choices = ["t.c", "-E", "-", "--", "eval", "gen", "", "no.c", "ä ö", "a b", "-Wx", "link", "x\ny"]
-    words = [chance.choice(choices) for _ in range(chance.randrange(4))]
-    status, out, err = run(program, words, folder)
-    if out:
-        return words, "something on standard output"
-    if status == 3:
-        return words, None if USAGE.fullmatch(err) else "no usage line"
-    if words == ["t.c"]:
-        return words, None
-    return words, None if status == 2 and MISSING.fullmatch(err) else f"status {status}, {err!r}"
 
 
 def check_expansion(compiler, folder, chance):
@@ -162,19 +141,15 @@ def check_expansion(compiler, folder, chance):
     return None if found in compilers.ALIKE else found, text
 
 
-def check_first_form(program, folder, chance, count, has_macros):
-    """Compares so many checks of files in and near the first form, and of random words; true where all are alike."""
+def check_first_form(program, folder, chance, count):
+    """Compares so many checks of files in and near the first form; true where all are alike."""
     makers = [(unit, True), (rewritten, True), (renamed, False), (spoiled, False), (soup, False), (noise, False)]
     for number in range(count):
         maker, in_form = makers[number % len(makers)]
         text = maker(chance)
-        wrong = check_text(program, folder, text, in_form, has_macros)
+        wrong = check_text(program, folder, text, in_form)
         if wrong:
             print(f"fuzz: file {number}: {wrong}: {text!r}")
-            return False
-        words, wrong = (None, None) if has_macros else check_words(program, folder, chance)
-        if wrong:
-            print(f"fuzz: words {words!r}: {wrong}")
             return False
     return True
 
@@ -197,10 +172,9 @@ def main():
     chance = random.Random(seed)
     print(f"fuzz: {count} files, seed {seed}")
     with tempfile.TemporaryDirectory() as folder:
-        has_macros = preprocesses(program, folder)
         passed = (
-            check_first_form(program, folder, chance, count, has_macros)
-            and (not has_macros or check_commands(program, folder, chance, count))
+            check_first_form(program, folder, chance, count)
+            and check_commands(program, folder, chance, count)
             and check_readings(program, folder, chance, count)
             and check_tools(workbench, folder, chance, count)
             and check_headers(workbench, folder, chance, count)

@@ -103,19 +103,6 @@ def wanted_of_tool(words, folder):
     return workbench_answers.preprocessed(words[1], Folder(folder)), b"", 0
 
 
-def preprocesses(program, folder):
-    """Whether `-E` is a word of the program."""
-    write(folder, b"t.c", b"")
-    return run(program, [b"-E", b"t.c"], folder)[0] == 0
-
-
-def includes(workbench, folder):
-    """Whether its tool `preprocess` reads what a file includes."""
-    write(folder, b"t.c", b'#include "empty.h"\n')
-    write(folder, b"empty.h", b"")
-    return run(workbench, [b"preprocess", b"t.c"], folder)[0] == 0
-
-
 def command_differs(program, words, folder, wanted):
     """A test of a text: whether this command answers otherwise where the text is that of `t.c`."""
 
@@ -154,9 +141,7 @@ def check_commands(program, folder, chance, count):
 
 
 def check_headers(workbench, folder, chance, count):
-    """Compares so many units of random files with headers; true where all are alike, or where no header is read yet."""
-    if not includes(workbench, folder):
-        return True
+    """Compares so many units of random files with headers; true where all are alike."""
     for _ in range(count):
         if not same_answer(workbench, [b"preprocess", b"t.c"], folder, Maker(chance).files(), wanted_of_tool):
             return False

@@ -1,5 +1,5 @@
 #!/usr/bin/env python3
-"""Preprocesses files of a kernel tree with the program and with the user's compiler, and compares the tokens.
+"""Preprocesses files of a kernel tree with the program and with the user's compiler, and compares the tokens; then checks them.
 
 usage: headers.py PROGRAM TREE FILE ..
 
@@ -8,9 +8,13 @@ kernel puts before each file. Both sides get `__CHECKER__` and the `__STDC_VERSI
 like as macros that are 0, which the compiler has built in. CC names another compiler than gcc.
 
 Prints for each file whether its tokens are equal, where they first differ or why it is refused, and the time and the peak
-memory of both. Exits 1 where a file isn't equal.
+memory of both; then whether a check reads it whole, or its first refusal. What a check of the same tokens refuses once its
+inline assembly is taken out, and then each refused declaration, shows how far the grammar reaches: each such refusal once, with
+how often it was met. Exits 1 where a file isn't equal.
 """
+import collections
 import os
+import re
 import subprocess
 import sys
 import tempfile
@@ -95,6 +99,107 @@ def compare(program, tree, file, folder):
     return f"{first_difference(ours_tokens, theirs_tokens)} {times}", False
 
 
+# What a check says of a unit that is read whole and not judged yet
+READ_WHOLE = re.compile(r"\S+:1:1: error\[29\]: form not built")
+REFUSED = re.compile(r"(\S+):(\d+):\d+: error\[(\d+)\]: (.*)")
+ASSEMBLY = {b"asm", b"__asm", b"__asm__"}
+# So many refused declarations of a file are left out, one behind the other.
+MOST_LEFT_OUT = 2000
+
+
+def checked(program, words, tree, folder):
+    """The line of a check's refusal, empty where the file is silent, and a text of its time and peak memory."""
+    _, err, _, times = measured([program, *words], tree, os.path.join(folder, "checked"))
+    return err.decode("utf-8", "replace").strip(), times
+
+
+def end_of_group(tokens, at):
+    """Behind the closing bracket of the group that opens here."""
+    depth = 0
+    while at < len(tokens):
+        depth += (tokens[at] in (b"(", b"{", b"[")) - (tokens[at] in (b")", b"}", b"]"))
+        at += 1
+        if not depth:
+            break
+    return at
+
+
+def without_assembly(tokens):
+    """The tokens without each `asm`, its qualifiers and its parentheses."""
+    left, at = [], 0
+    while at < len(tokens):
+        if tokens[at] in ASSEMBLY:
+            at += 1
+            while at < len(tokens) and tokens[at] in (b"volatile", b"__volatile__", b"inline", b"__inline", b"goto"):
+                at += 1
+            at = end_of_group(tokens, at)
+        else:
+            left.append(tokens[at])
+            at += 1
+    return left
+
+
+def declarations(tokens):
+    """The external declarations, each a list of tokens."""
+    found, one, at = [], [], 0
+    while at < len(tokens):
+        behind = end_of_group(tokens, at) if tokens[at] in (b"(", b"{", b"[") else at + 1
+        one += tokens[at:behind]
+        # a body ends a function, but no structure and no initializer
+        is_body = tokens[at] == b"{" and b"=" not in one[: len(one) - (behind - at)] and ends_parameters(one[: len(one) - (behind - at)])
+        at = behind
+        if one[-1] == b";" or is_body:
+            found.append(one)
+            one = []
+    return found + ([one] if one else [])
+
+
+def ends_parameters(tokens):
+    """These tokens end with a parameter list, or with attributes behind one, so that a body may follow."""
+    while tokens and tokens[-1] == b")":
+        depth, at = 0, len(tokens) - 1
+        while at >= 0:
+            depth += (tokens[at] == b")") - (tokens[at] == b"(")
+            if not depth:
+                break
+            at -= 1
+        if at < 1 or tokens[at - 1] != b"__attribute__":
+            return True
+        tokens = tokens[: at - 1]
+    return False
+
+
+def reach(program, text, tree, folder):
+    """What a check refuses of tokens without inline assembly, one declaration after the other left out: the texts, counted."""
+    left = declarations(without_assembly([token.spelled for token in scan(1, text)]))
+    path, refusals = os.path.join(folder, "tokens.c"), collections.Counter()
+    for _ in range(MOST_LEFT_OUT):
+        # one declaration a line, so that the line of a refusal names it
+        with open(path, "wb") as unit:
+            unit.write(b"\n".join(b" ".join(one) for one in left) + b"\n")
+        line, _ = checked(program, [path], tree, folder)
+        refused = REFUSED.fullmatch(line)
+        if READ_WHOLE.fullmatch(line) or not refused:
+            return refusals, line
+        number = int(refused[2]) - 1
+        refusals[f"error[{refused[3]}]: {refused[4]}"] += 1
+        del left[number]
+    return refusals, "more"
+
+
+def read(program, tree, file, folder):
+    """The lines that say how far a check reads the file."""
+    words = [*WORDS, *(f"-I{directory}" for directory in directories(tree)), os.path.join(folder, "unit.c")]
+    line, times = checked(program, words, tree, folder)
+    yield f"  a check {'reads it whole' if READ_WHOLE.fullmatch(line) else f'says {line!r}'} ({times})"
+    with open(os.path.join(folder, "ours.i"), "rb") as text:
+        tokens = text.read()
+    if tokens:
+        refusals, last = reach(program, tokens, tree, folder)
+        yield f"  without inline assembly, and without what is refused: {'read whole' if READ_WHOLE.fullmatch(last) else last!r}"
+        yield from (f"    {count} times {refusal}" for refusal, count in refusals.most_common())
+
+
 def main():
     if len(sys.argv) < 4:
         print(__doc__.split("\n\n")[1], file=sys.stderr)
@@ -108,6 +213,8 @@ def main():
             told, equal = compare(os.path.abspath(program), tree, file, folder)
             is_equal = is_equal and equal
             print(f"{file}: {told}", flush=True)
+            for line in read(os.path.abspath(program), tree, file, folder):
+                print(line, flush=True)
     return 0 if is_equal else 1
 
 

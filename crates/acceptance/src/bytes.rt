@@ -39,6 +39,10 @@ const UNEXPECTED_B: Told = Told::Line("error[20]: syntax error: unexpected 'b'")
 
 const B_IS_NOT_DECLARED: Told = Told::Line("error[21]: 'b' is not declared");
 
+const BAD_DECLARATION: Told = Told::Line("error[28]: bad declaration");
+
+const NO_TYPE: Told = Told::Line("error[32]: unsupported: parameter without a type");
+
 // What a text with one byte in it is answered by.
 #[derive(Clone, Copy)]
 enum Answer {
@@ -91,7 +95,7 @@ impl State {
     fn around(self) -> (&'static str, &'static str) {
         match self {
             State::BetweenTokens => ("", ""),
-            State::InWord => ("a", "b"),
+            State::InWord => ("int a", "b"),
             State::InNumber => ("1", "2"),
             State::InCharacter => ("'", "'"),
             State::InString => ("\"", "\""),
@@ -114,7 +118,7 @@ impl State {
     }
 }
 
-// A name, a star and a parenthesis begin a declarator.
+// A name, a star and a parenthesis begin a declarator, which has no type.
 fn between_tokens(byte: u8) -> Answer {
     match byte {
         b' ' | b'\t' | b'\n' | 0x0b | 0x0c => Answer::Empty,
@@ -122,7 +126,7 @@ fn between_tokens(byte: u8) -> Answer {
         b'#' => Answer::Empty,
         b'\'' | b'"' => Answer::opens(1),
         b';' => Answer::Refused(1, 1, Told::Line("error[29]: form not built")),
-        b'(' | b'*' | b'_' | b'A'..=b'Z' | b'a'..=b'z' => Answer::Refused(1, 1, END_OF_FILE),
+        b'(' | b'*' | b'_' | b'A'..=b'Z' | b'a'..=b'z' => Answer::Refused(1, 1, BAD_DECLARATION),
         _ => Answer::Refused(1, 1, Told::Byte),
     }
 }
@@ -130,13 +134,16 @@ fn between_tokens(byte: u8) -> Answer {
 // `a` is a declarator: what may stand behind one is taken, and then `b` comes.
 fn in_word(byte: u8) -> Answer {
     match byte {
-        b'\'' | b'"' => Answer::opens(2),
-        b'0'..=b'9' | b'_' | b'A'..=b'Z' | b'a'..=b'z' => Answer::Refused(1, 1, END_OF_FILE),
-        b'(' | b',' | b';' => Answer::Refused(1, 3, END_OF_FILE),
-        b'=' | b'[' | b'{' => Answer::Refused(1, 3, B_IS_NOT_DECLARED),
-        b' ' | b'\t' | 0x0b | 0x0c => Answer::Refused(1, 3, UNEXPECTED_B),
+        b'\'' | b'"' => Answer::opens(6),
+        b'0'..=b'9' | b'_' | b'A'..=b'Z' | b'a'..=b'z' => Answer::Refused(1, 5, END_OF_FILE),
+        b',' => Answer::Refused(1, 7, END_OF_FILE),
+        b'(' => Answer::Refused(1, 7, NO_TYPE),
+        b';' => Answer::Refused(1, 7, BAD_DECLARATION),
+        b'{' => Answer::Refused(1, 6, BAD_DECLARATION),
+        b'=' | b'[' => Answer::Refused(1, 7, B_IS_NOT_DECLARED),
+        b' ' | b'\t' | 0x0b | 0x0c => Answer::Refused(1, 7, UNEXPECTED_B),
         b'\n' => Answer::Refused(2, 1, UNEXPECTED_B),
-        _ => Answer::Refused(1, 2, Told::Byte),
+        _ => Answer::Refused(1, 6, Told::Byte),
     }
 }
 

@@ -7,7 +7,7 @@ use Rattle.c_types.specs.declared.form.Marks.{Marks}
 use Rattle.c_types.specs.declared.form.Form.{Form}
 use Rattle.c_types.specs.declared.form.Form.TheVariants as forms
 use Rattle.c_types.specs.Forms.{may_be_marked}
-use Rattle.c_types.specs.Rows.{space_seen, form_seen, qualifiers_in, flags_in}
+use Rattle.c_types.specs.Rows.{space_in, space_seen, words_in, form_seen, qualifiers_in, flags_in}
 
 or_false : (a : Bool) → a || false ≡ a
 or_false true = refl
@@ -42,4 +42,4 @@ marked-form types (forms.OpenArray element) marks may = absurd (false≢true may
 marked-form types (forms.Function result variadic) marks may = absurd (false≢true may)
 marked-form types (forms.Parameter first rest) marks may = absurd (false≢true may)
 marked-form types form marks may =
-    ap (λ space. Typed (form_seen types form) (qualifiers_in marks) (record { noderef = marks.noderef; space = space })) (sym (later-none (space_seen marks.space)))
+    ap (λ space. Typed (form_seen types form) (qualifiers_in marks) (record { noderef = (words_in marks).noderef; space = space })) (sym (later-none (space_seen (space_in marks))))

@@ -2,12 +2,13 @@
 use Rattle.std.proofs.Common.{◌≡◌, ℕ, ◌<◌, List, ◌++◌, Some, None, length, slice_get, unwrap_or, refl, sym, ap, ◌∙◌, subst, arith, length-append}
 use Rattle.std.proofs.lemmas.Option.{slice_get-get_or, unwrap_or-slice_get}
 use Rattle.meaning_types.specs.Types.{Qualifiers, Flags, TypeTree, Typed, PointerTree, ArrayTree, FunctionTree, NoTypes, MoreTypes, no_qualifiers, no_flags, bare, bare_base, bare_types, without_flags, base_without_flags, types_without_flags}
-use Rattle.c_types.specs.declared.form.SpaceKey.{SpaceKey}
-use Rattle.c_types.specs.declared.form.SpaceKey.TheVariants as keys
+use Rattle.c_types.specs.declared.form.MarkWords.{MarkWords}
+use Rattle.c_types.specs.declared.form.Marks.{Marks}
+use Rattle.c_types.specs.declared.form.Marks.TheVariants as marked
 use Rattle.c_types.specs.declared.form.Form.{Form}
 use Rattle.c_types.specs.declared.form.Form.TheVariants as forms
 use Rattle.c_types.specs.declared.form.Shape.{Shape}
-use Rattle.c_types.specs.Rows.{no_type, type_numbered, base_of, result_of, parameter_types, is_variadic, IsFunction, space_seen, form_seen, type_seen, IsInside, IsEarlier, StandOnce}
+use Rattle.c_types.specs.Rows.{no_type, type_numbered, base_of, result_of, parameter_types, is_variadic, IsFunction, flags_in, qualifiers_in, space_in, space_seen, words_in, form_seen, type_seen, IsInside, IsEarlier, StandOnce}
 use Rattle.c_types.proofs.Lists.{slice_get-append}
 
 -- Numbers
@@ -27,11 +28,24 @@ same_number types apart i j low high same =
 
 -- Equal types have equal shapes
 
-same_space : (a b : SpaceKey) → space_seen a ≡ space_seen b → a ≡ b
-same_space keys.Absent keys.Absent e = refl
-same_space (keys.Number m) (keys.Number n) e = ap keys.Number (cc e)
-same_space (keys.Named x) (keys.Named y) e = ap keys.Named (cc e)
-same_space a b e = absurd (cc e)
+same_words : (a b : MarkWords) → a.is_const ≡ b.is_const → a.is_volatile ≡ b.is_volatile → a.noderef ≡ b.noderef → a ≡ b
+same_words a b is_const is_volatile noderef = λ i. record { is_const = is_const i; is_volatile = is_volatile i; noderef = noderef i }
+
+-- marks are what is seen of them
+same_marks : (a b : Marks) → qualifiers_in a ≡ qualifiers_in b → flags_in a ≡ flags_in b → a ≡ b
+same_marks a b qualifiers flags =
+    by a b (same_words (words_in a) (words_in b) (ap (λ (q : Qualifiers). q.is_const) qualifiers) (ap (λ (q : Qualifiers). q.is_volatile) qualifiers) (ap (λ (f : Flags). f.noderef) flags))
+    (ap (λ (f : Flags). f.space) flags)
+  where
+    by : (a b : Marks) → words_in a ≡ words_in b → space_seen (space_in a) ≡ space_seen (space_in b) → a ≡ b
+    by (marked.WithoutSpace v) (marked.WithoutSpace w) words space = ap marked.WithoutSpace words
+    by (marked.Numbered v m) (marked.Numbered w n) words space =
+        let number : m ≡ n = cc space in
+        λ i. marked.Numbered (words i) (number i)
+    by (marked.Named v x) (marked.Named w y) words space =
+        let name : x ≡ y = cc space in
+        λ i. marked.Named (words i) (name i)
+    by a b words space = absurd (cc space)
 
 same_form : (types : List TypeTree) → StandOnce types → (f g : Form) → IsInside types f → IsInside types g → form_seen types f ≡ form_seen types g → f ≡ g
 same_form types apart forms.Void forms.Void inside other e = refl
@@ -75,11 +89,8 @@ flags_of (Typed base qualifiers flags) = flags
 pub same_shape : (types : List TypeTree) → StandOnce types → (a b : Shape) → IsInside types a.form → IsInside types b.form → type_seen types a ≡ type_seen types b → a ≡ b
 same_shape types apart a b inside other e =
     let form : a.form ≡ b.form = same_form types apart a.form b.form inside other (ap base_of e) in
-    let is_const : a.is_const ≡ b.is_const = ap (λ t. (qualifiers_of t).is_const) e in
-    let is_volatile : a.is_volatile ≡ b.is_volatile = ap (λ t. (qualifiers_of t).is_volatile) e in
-    let noderef : a.noderef ≡ b.noderef = ap (λ t. (flags_of t).noderef) e in
-    let space : a.space ≡ b.space = same_space a.space b.space (ap (λ t. (flags_of t).space) e) in
-    λ i. record { form = form i; is_const = is_const i; is_volatile = is_volatile i; noderef = noderef i; space = space i }
+    let marks : a.marks ≡ b.marks = same_marks a.marks b.marks (ap qualifiers_of e) (ap flags_of e) in
+    λ i. record { form = form i; marks = marks i }
 
 -- Types that grow
 
@@ -131,7 +142,7 @@ earlier-next types number (forms.Aggregate token is_union) long inside = tt
 -- a shape's type stays
 pub seen-kept : (types more : List TypeTree) (shape : Shape) → IsInside types shape.form → type_seen (types ++ more) shape ≡ type_seen types shape
 seen-kept types more shape inside =
-    ap (λ base. Typed base (record { is_const = shape.is_const; is_volatile = shape.is_volatile }) (record { noderef = shape.noderef; space = space_seen shape.space }))
+    ap (λ base. Typed base (qualifiers_in shape.marks) (flags_in shape.marks))
     (base-kept types more shape.form inside)
 
 -- What is left of a function

@@ -6,14 +6,14 @@ use Rattle.std.proofs.lemmas.Bool.Decides.{Decides-eqb}
 use Rattle.vocabulary.specs.declared.int_kind.IntKind.{IntKind}
 use Rattle.vocabulary.specs.declared.int_kind.IntKind.TheVariants as kinds
 use Rattle.vocabulary.specs.contracts.int_kind.IntKindPartialEq.TheImpl as kind_keys
-use Rattle.c_types.specs.declared.form.SpaceKey.{SpaceKey}
-use Rattle.c_types.specs.declared.form.SpaceKey.TheVariants as keys
 use Rattle.c_types.specs.declared.form.Form.{Form}
 use Rattle.c_types.specs.declared.form.Form.TheVariants as forms
 use Rattle.c_types.specs.declared.form.Shape.{Shape}
+use Rattle.c_types.specs.declared.form.MarkWords.{MarkWords}
 use Rattle.c_types.specs.declared.form.Marks.{Marks}
+use Rattle.c_types.specs.declared.form.Marks.TheVariants as marked
 use Rattle.c_types.specs.declared.form.Marking.{Marking}
-use Rattle.c_types.specs.contracts.form.SpaceKeyPartialEq.TheImpl as space_keys
+use Rattle.c_types.specs.contracts.form.MarkWordsPartialEq.TheImpl as words_keys
 use Rattle.c_types.specs.contracts.form.FormPartialEq.TheImpl as form_keys
 use Rattle.c_types.specs.contracts.form.ShapePartialEq.TheImpl as shape_keys
 use Rattle.c_types.specs.contracts.form.MarksPartialEq.TheImpl as marks_keys
@@ -58,16 +58,33 @@ kind_again : (a : IntKind) → kind_keys.eq-value.it a a ≡ true
 kind_again kinds.Bool = refl
 kind_again other = refl
 
-same_space_key : (a b : SpaceKey) → space_keys.eq-value.it a b ≡ true → a ≡ b
-same_space_key keys.Absent keys.Absent h = refl
-same_space_key (keys.Number m) (keys.Number n) h = ap keys.Number (eqb-true m n h)
-same_space_key (keys.Named m) (keys.Named n) h = ap keys.Named (eqb-true m n h)
-same_space_key a b h = absurd (false≢true h)
+same_words : (a b : MarkWords) → words_keys.eq-value.it a b ≡ true → a ≡ b
+same_words a b h =
+    let is_const = same_bool a.is_const b.is_const (and_parts _ _ h).0 in
+    let more = and_parts _ _ (and_parts _ _ h).1 in
+    let is_volatile = same_bool a.is_volatile b.is_volatile more.0 in
+    let noderef = same_bool a.noderef b.noderef more.1 in
+    λ i. record { is_const = is_const i; is_volatile = is_volatile i; noderef = noderef i }
 
-space_again : (a : SpaceKey) → space_keys.eq-value.it a a ≡ true
-space_again keys.Absent = refl
-space_again (keys.Number n) = number_again n
-space_again (keys.Named n) = number_again n
+words_again : (a : MarkWords) → words_keys.eq-value.it a a ≡ true
+words_again a = and_from _ _ (bool_again a.is_const) (and_from _ _ (bool_again a.is_volatile) (bool_again a.noderef))
+
+same_marks : (a b : Marks) → marks_keys.eq-value.it a b ≡ true → a ≡ b
+same_marks (marked.WithoutSpace v) (marked.WithoutSpace w) h = ap marked.WithoutSpace (same_words v w h)
+same_marks (marked.Numbered v m) (marked.Numbered w n) h =
+    let words = same_words v w (and_parts _ _ h).0 in
+    let number = eqb-true m n (and_parts _ _ h).1 in
+    λ i. marked.Numbered (words i) (number i)
+same_marks (marked.Named v m) (marked.Named w n) h =
+    let words = same_words v w (and_parts _ _ h).0 in
+    let name = eqb-true m n (and_parts _ _ h).1 in
+    λ i. marked.Named (words i) (name i)
+same_marks a b h = absurd (false≢true h)
+
+marks_again : (a : Marks) → marks_keys.eq-value.it a a ≡ true
+marks_again (marked.WithoutSpace v) = words_again v
+marks_again (marked.Numbered v m) = and_from _ _ (words_again v) (number_again m)
+marks_again (marked.Named v m) = and_from _ _ (words_again v) (number_again m)
 
 same_form_key : (a b : Form) → form_keys.eq-value.it a b ≡ true → a ≡ b
 same_form_key forms.Void forms.Void h = refl
@@ -110,29 +127,11 @@ form_again (forms.Aggregate n v) = and_from _ _ (number_again n) (bool_again v)
 pub same_key : (a b : Shape) → shape_eq a b ≡ true → a ≡ b
 same_key a b h =
     let form = same_form_key a.form b.form (and_parts _ _ h).0 in
-    let rest = and_parts _ _ (and_parts _ _ h).1 in
-    let is_const = same_bool a.is_const b.is_const rest.0 in
-    let more = and_parts _ _ rest.1 in
-    let is_volatile = same_bool a.is_volatile b.is_volatile more.0 in
-    let last = and_parts _ _ more.1 in
-    let noderef = same_bool a.noderef b.noderef last.0 in
-    let space = same_space_key a.space b.space last.1 in
-    λ i. record { form = form i; is_const = is_const i; is_volatile = is_volatile i; noderef = noderef i; space = space i }
+    let marks = same_marks a.marks b.marks (and_parts _ _ h).1 in
+    λ i. record { form = form i; marks = marks i }
 
 pub key_again : (a : Shape) → shape_eq a a ≡ true
-key_again a =
-    and_from _ _ (form_again a.form)
-    (and_from _ _ (bool_again a.is_const) (and_from _ _ (bool_again a.is_volatile) (and_from _ _ (bool_again a.noderef) (space_again a.space))))
-
-same_marks : (a b : Marks) → marks_keys.eq-value.it a b ≡ true → a ≡ b
-same_marks a b h =
-    let is_const = same_bool a.is_const b.is_const (and_parts _ _ h).0 in
-    let more = and_parts _ _ (and_parts _ _ h).1 in
-    let is_volatile = same_bool a.is_volatile b.is_volatile more.0 in
-    let last = and_parts _ _ more.1 in
-    let noderef = same_bool a.noderef b.noderef last.0 in
-    let space = same_space_key a.space b.space last.1 in
-    λ i. record { is_const = is_const i; is_volatile = is_volatile i; noderef = noderef i; space = space i }
+key_again a = and_from _ _ (form_again a.form) (marks_again a.marks)
 
 pub same_marking : (a b : Marking) → marking_eq a b ≡ true → a ≡ b
 same_marking a b h =

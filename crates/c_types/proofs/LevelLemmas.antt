@@ -9,7 +9,7 @@ use Rattle.c_types.specs.declared.form.Form.TheVariants as forms
 use Rattle.c_types.specs.declared.form.Shape.{Shape}
 use Rattle.c_types.specs.declared.form.Marks.{Marks}
 use Rattle.c_types.specs.Forms.{element_in, may_be_marked, with_element}
-use Rattle.c_types.specs.Rows.{Row, type_numbered, space_seen, form_seen, type_seen, types_of, qualifiers_in, flags_in, IsInside, IsEarlier, AreRows, MayJoin}
+use Rattle.c_types.specs.Rows.{Row, type_numbered, space_in, space_seen, words_in, form_seen, type_seen, types_of, qualifiers_in, flags_in, IsInside, IsEarlier, AreRows, MayJoin}
 use Rattle.c_types.specs.Levels.{IsLevel, IsChain, over_element}
 use Rattle.c_types.proofs.RowLemmas.{numbered-row}
 use Rattle.c_types.proofs.Singles.{normal-numbered, form-normal}
@@ -111,9 +111,10 @@ module _ (rows : List Row) (are : AreRows rows) (number : ℕ) (row : Row) (foun
         ∙ ap (λ t. over_element t (type_numbered types element)) (sym (numbered-row rows are number row found))
 
   -- what is no array joins with what is added to it
-  module _ (marks : Marks) (shape : Shape) (form : shape.form ≡ row.0.form) (is_const : shape.is_const ≡ row.0.is_const || marks.is_const)
-      (is_volatile : shape.is_volatile ≡ row.0.is_volatile || marks.is_volatile) (noderef : shape.noderef ≡ row.0.noderef || marks.noderef)
-      (space : space_seen shape.space ≡ later_space (space_seen row.0.space) (space_seen marks.space)) (may : may_be_marked row.0.form ≡ true) where
+  module _ (marks : Marks) (shape : Shape) (form : shape.form ≡ row.0.form) (is_const : (words_in shape.marks).is_const ≡ (words_in row.0.marks).is_const || (words_in marks).is_const)
+      (is_volatile : (words_in shape.marks).is_volatile ≡ (words_in row.0.marks).is_volatile || (words_in marks).is_volatile)
+      (noderef : (words_in shape.marks).noderef ≡ (words_in row.0.marks).noderef || (words_in marks).noderef)
+      (space : space_seen (space_in shape.marks) ≡ later_space (space_seen (space_in row.0.marks)) (space_seen (space_in marks))) (may : may_be_marked row.0.form ≡ true) where
     marked-seen : type_seen types shape ≡ marked (qualifiers_in marks) (flags_in marks) (type_seen types row.0)
     marked-seen =
         (λ i. Typed (form_seen types (form i)) (record { is_const = is_const i; is_volatile = is_volatile i }) (record { noderef = noderef i; space = space i }))

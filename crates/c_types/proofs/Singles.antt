@@ -4,30 +4,29 @@ use Rattle.std.proofs.lemmas.Bool.{false≢true}
 use Rattle.std.proofs.lemmas.Option.{slice_get-get_or}
 use Rattle.meaning_types.specs.Types.{Qualifiers, Flags, TypeTree, Typed, no_qualifiers, no_flags}
 use Rattle.meaning_types.specs.Marks.{IsNormal, marked}
-use Rattle.c_types.specs.declared.form.SpaceKey.TheVariants as keys
 use Rattle.c_types.specs.declared.form.Marks.{Marks}
 use Rattle.c_types.specs.declared.form.Form.{Form}
-use Rattle.c_types.specs.declared.elements.Single.TheVariants as singles
+use Rattle.c_types.specs.declared.elements.Innermost.TheVariants as innermost
 use Rattle.c_types.specs.declared.form.Form.TheVariants as forms
 use Rattle.c_types.specs.declared.form.Shape.{Shape}
 use Rattle.c_types.specs.Forms.{array_form, may_be_marked}
-use Rattle.c_types.specs.Rows.{Row, type_numbered, form_seen, type_seen, types_of, qualifiers_in, flags_in, IsInside, AreRows, MayJoin}
+use Rattle.c_types.specs.Rows.{Row, type_numbered, form_seen, no_marks, type_seen, types_of, qualifiers_in, flags_in, IsInside, AreRows, MayJoin}
 use Rattle.c_types.proofs.RowLemmas.{length-types_of, numbered-row}
 use Rattle.c_types.proofs.Arrays.{marked-form}
 
 -- the shape of a form with these marks, and of one without
 abbrev pub marked_shape : Form → Marks → Shape
-marked_shape form marks = record { form = form; is_const = marks.is_const; is_volatile = marks.is_volatile; noderef = marks.noderef; space = marks.space }
+marked_shape form marks = record { form = form; marks = marks }
 
 abbrev pub bare_shape : Form → Shape
-bare_shape form = record { form = form; is_const = false; is_volatile = false; noderef = false; space = keys.Absent }
+bare_shape form = record { form = form; marks = no_marks }
 
 module _ (rows : List Row) (are : AreRows rows) where
   -- each type is normal
   pub normal-numbered : (number : ℕ) → number < length (types_of rows) → IsNormal (type_numbered (types_of rows) number)
   normal-numbered number below =
-      let row : Row = get_or rows number (bare_shape forms.Void, record { bare = 0; plain = 0; elements = record { count = 0; most = 0; of = singles.Sizeless } }) in
-      let found : slice_get rows number ≡ Some row = slice_get-get_or rows number (bare_shape forms.Void, record { bare = 0; plain = 0; elements = record { count = 0; most = 0; of = singles.Sizeless } }) (omega (arith, below, length-types_of rows)) in
+      let row : Row = get_or rows number (bare_shape forms.Void, record { bare = 0; plain = 0; elements = record { token = 0; most_low = 0; most_high = 0; is_empty = false; of = innermost.Sizeless } }) in
+      let found : slice_get rows number ≡ Some row = slice_get-get_or rows number (bare_shape forms.Void, record { bare = 0; plain = 0; elements = record { token = 0; most_low = 0; most_high = 0; is_empty = false; of = innermost.Sizeless } }) (omega (arith, below, length-types_of rows)) in
       subst IsNormal (sym (numbered-row rows are number row found)) (are.each number row found).normal
 
   pub form-normal : (form : Form) (qualifiers : Qualifiers) (flags : Flags) → IsInside (types_of rows) form → may_be_marked form ≡ true → IsNormal (Typed (form_seen (types_of rows) form) qualifiers flags)

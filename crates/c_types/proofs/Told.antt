@@ -7,9 +7,10 @@ use Rattle.c_types.specs.declared.form.Form.{Form}
 use Rattle.c_types.specs.declared.form.Form.TheVariants as forms
 use Rattle.c_types.specs.declared.shapes.OuterBase.{OuterBase}
 use Rattle.c_types.specs.Forms.{function_in, kind_in, outer_in, parameter_in}
-use Rattle.c_types.specs.Rows.{Row, base_of, is_variadic, parameter_types, result_of, type_numbered, form_seen, space_seen, type_seen, types_of, AreRows, IsEarlier, IsFunction, IsInside}
+use Rattle.c_types.specs.Rows.{Row, base_of, is_variadic, parameter_types, result_of, type_numbered, flags_in, form_seen, qualifiers_in, space_in, space_seen, type_seen, words_in, types_of, AreRows, IsEarlier, IsFunction, IsInside}
 use Rattle.c_types.specs.Levels.{BeginsWith}
 use Rattle.sparse_model.specs.declared.space.Space.{Space}
+use Rattle.c_types.specs.declared.form.MarkWords.{MarkWords}
 use Rattle.c_types.specs.Table.{IsOuterOver, base_of_outer, count_in, count_of, integer_kind, space_of, type_of_outer}
 use Rattle.c_types.proofs.RowLemmas.{numbered-row}
 
@@ -140,13 +141,13 @@ module _ (rows : List Row) (are : AreRows rows) (number : ℕ) (row : Row) (foun
 
 -- the whole type by its outermost level
 module _ (rows : List Row) (are : AreRows rows) (number : ℕ) (row : Row) (found : slice_get rows number ≡ Some row) where
-  pub outer-whole : (base : OuterBase) (space : Space) → base_of_outer (types_of rows) (parameter_types (type_numbered (types_of rows) number)) base ≡ base_of (type_numbered (types_of rows) number)
-      → space_of space ≡ space_seen row.0.space
+  pub outer-whole : (base : OuterBase) (words : MarkWords) (space : Space) → base_of_outer (types_of rows) (parameter_types (type_numbered (types_of rows) number)) base ≡ base_of (type_numbered (types_of rows) number)
+      → words ≡ words_in row.0.marks → space_of space ≡ space_seen (space_in row.0.marks)
       → type_of_outer (types_of rows) (parameter_types (type_numbered (types_of rows) number))
-      (record { base = base; is_const = row.0.is_const; is_volatile = row.0.is_volatile; noderef = row.0.noderef; space = space })
+      (record { base = base; is_const = words.is_const; is_volatile = words.is_volatile; noderef = words.noderef; space = space })
       ≡ type_numbered (types_of rows) number
-  outer-whole base space is_base is_space =
+  outer-whole base words space is_base is_words is_space =
       let same = numbered-row rows are number row found in
-      (λ i. Typed (is_base i) (record { is_const = row.0.is_const; is_volatile = row.0.is_volatile }) (record { noderef = row.0.noderef; space = is_space i }))
-      ∙ ap (λ t. Typed (base_of t) (record { is_const = row.0.is_const; is_volatile = row.0.is_volatile }) (record { noderef = row.0.noderef; space = space_seen row.0.space })) same
+      (λ i. Typed (is_base i) (record { is_const = (is_words i).is_const; is_volatile = (is_words i).is_volatile }) (record { noderef = (is_words i).noderef; space = is_space i }))
+      ∙ ap (λ t. Typed (base_of t) (qualifiers_in row.0.marks) (flags_in row.0.marks)) same
       ∙ sym same

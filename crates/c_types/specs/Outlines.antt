@@ -7,7 +7,7 @@ use Rattle.c_types.specs.declared.form.Form.TheVariants as forms
 use Rattle.c_types.specs.declared.form.Shape.{Shape}
 use Rattle.c_types.specs.declared.outline.Outline.{Outline}
 use Rattle.c_types.specs.declared.outline.Outline.TheVariants as outlines
-use Rattle.c_types.specs.Rows.{space_seen}
+use Rattle.c_types.specs.Rows.{flags_in}
 
 -- what a type is
 abbrev pub outline_of : TypeTree → Outline
@@ -51,4 +51,4 @@ is_pointer_outline outline = false
 
 -- the flags of the outermost level
 abbrev pub flags_in_shape : Shape → Flags
-flags_in_shape shape = record { noderef = shape.noderef; space = space_seen shape.space }
+flags_in_shape shape = flags_in shape.marks

@@ -9,7 +9,9 @@ use Rattle.c_types.specs.declared.form.SpaceKey.TheVariants as keys
 use Rattle.c_types.specs.declared.form.Form.{Form}
 use Rattle.c_types.specs.declared.form.Form.TheVariants as forms
 use Rattle.c_types.specs.declared.form.Shape.{Shape}
+use Rattle.c_types.specs.declared.form.MarkWords.{MarkWords}
 use Rattle.c_types.specs.declared.form.Marks.{Marks}
+use Rattle.c_types.specs.declared.form.Marks.TheVariants as marked
 use Rattle.c_types.specs.declared.form.Reduced.{Reduced}
 use Rattle.c_types.specs.declared.form.TypeFacts.{TypeFacts}
 use Rattle.c_types.specs.Elements.{AreElements}
@@ -56,6 +58,26 @@ space_seen keys.Absent = NoSpace
 space_seen (keys.Number number) = NumberedSpace number
 space_seen (keys.Named name) = NamedSpace (name ∷ [])
 
+-- all marks but the space
+abbrev pub words_in : Marks → MarkWords
+words_in (marked.WithoutSpace words) = words
+words_in (marked.Numbered words number) = words
+words_in (marked.Named words name) = words
+
+abbrev pub space_in : Marks → SpaceKey
+space_in (marked.WithoutSpace words) = keys.Absent
+space_in (marked.Numbered words number) = keys.Number number
+space_in (marked.Named words name) = keys.Named name
+
+abbrev pub no_marks : Marks
+no_marks = marked.WithoutSpace (record { is_const = false; is_volatile = false; noderef = false })
+
+abbrev pub qualifiers_in : Marks → Qualifiers
+qualifiers_in marks = record { is_const = (words_in marks).is_const; is_volatile = (words_in marks).is_volatile }
+
+abbrev pub flags_in : Marks → Flags
+flags_in marks = record { noderef = (words_in marks).noderef; space = space_seen (space_in marks) }
+
 -- the base of a form over these types
 abbrev pub form_seen : List TypeTree → Form → BaseTree
 form_seen types forms.Void = VoidTree
@@ -72,9 +94,7 @@ form_seen types (forms.Aggregate number is_union) = AggregateTree number is_unio
 
 -- the type of a shape over these types
 abbrev pub type_seen : List TypeTree → Shape → TypeTree
-type_seen types shape =
-    Typed (form_seen types shape.form) (record { is_const = shape.is_const; is_volatile = shape.is_volatile })
-    (record { noderef = shape.noderef; space = space_seen shape.space })
+type_seen types shape = Typed (form_seen types shape.form) (qualifiers_in shape.marks) (flags_in shape.marks)
 
 -- the types with these ids, in order
 abbrev pub types_numbered : List TypeTree → List TypeId → TypeTrees
@@ -95,13 +115,6 @@ abbrev pub array_if_same : TypeTree → TypeTree → Option ℕ → Option TypeT
 array_if_same element other None = None
 array_if_same element other (Some count) =
     if are_same element other then Some (Typed (ArrayTree element (Some count)) no_qualifiers no_flags) else None
-
--- the qualifiers and flags that are added
-abbrev pub qualifiers_in : Marks → Qualifiers
-qualifiers_in marks = record { is_const = marks.is_const; is_volatile = marks.is_volatile }
-
-abbrev pub flags_in : Marks → Flags
-flags_in marks = record { noderef = marks.noderef; space = space_seen marks.space }
 
 -- the numbers in a form are those of types, and a parameter is added to a function
 abbrev pub IsInside : List TypeTree → Form → Type 0

@@ -5,7 +5,7 @@ use sparse_model::{Restrict, Space, TypeId};
 use vocabulary::IntKind;
 
 /// An address space, by the number of its name where it has one.
-#[derive(Clone, Copy, PartialEq, Eq, Hash)]
+#[derive(Clone, Copy)]
 pub enum SpaceKey {
     Absent,
     Number(u32),
@@ -32,23 +32,27 @@ pub enum Form {
     Aggregate(u32, bool),
 }
 
-/// A type's outermost level. Equal shapes are equal types.
+/// Qualifiers and flags but for a space.
+#[derive(Clone, Copy, PartialEq, Eq, Hash)]
+pub struct MarkWords {
+    pub is_const: bool,
+    pub is_volatile: bool,
+    pub noderef: bool,
+}
+
+/// Qualifiers and flags, by their space: so they take eight bytes.
+#[derive(Clone, Copy, PartialEq, Eq, Hash)]
+pub enum Marks {
+    WithoutSpace(MarkWords),
+    Numbered(MarkWords, u32),
+    Named(MarkWords, u32),
+}
+
+/// A type's outermost level, in 24 bytes. Equal shapes are equal types.
 #[derive(Clone, Copy, PartialEq, Eq, Hash)]
 pub struct Shape {
     pub form: Form,
-    pub is_const: bool,
-    pub is_volatile: bool,
-    pub noderef: bool,
-    pub space: SpaceKey,
-}
-
-/// Qualifiers and flags that are added to a type.
-#[derive(Clone, Copy, PartialEq, Eq, Hash)]
-pub struct Marks {
-    pub is_const: bool,
-    pub is_volatile: bool,
-    pub noderef: bool,
-    pub space: SpaceKey,
+    pub marks: Marks,
 }
 
 /// A type, and what is added to it.
@@ -66,7 +70,7 @@ pub struct Reduced {
     pub plain: u32,
 }
 
-/// What is kept of a type beside its shape: the numbers of what is left of it, and what it is made of.
+/// What is kept of a type beside its shape, in 20 bytes: the numbers of what is left of it, and what it is made of.
 #[derive(Clone, Copy)]
 pub struct TypeFacts {
     pub bare: u32,
@@ -226,9 +230,55 @@ impl Form {
 }
 
 impl Marks {
-    ghost use Rattle.std.specs.Prelude.{◌≡◌, false};
+    ghost use Rattle.std.specs.Prelude.{◌≡◌, ◌||◌, false};
     ghost use Rattle.meaning_types.specs.Types.{no_flags, no_qualifiers};
-    ghost use Rattle.c_types.specs.Rows.{flags_in, qualifiers_in};
+    ghost use Rattle.meaning_types.specs.Marks.{later_space};
+    ghost use Rattle.c_types.specs.Rows.{flags_in, no_marks, qualifiers_in, space_in, space_seen, words_in};
+
+    /// These words with a space, if it is one.
+    pub fn new(words: MarkWords, space: SpaceKey) -> Marks
+        ensures words { words_in result ≡ words }
+        ensures space { space_in result ≡ space }
+    {
+        match space {
+            SpaceKey::Absent => Marks::WithoutSpace(words),
+            SpaceKey::Number(number) => Marks::Numbered(words, number),
+            SpaceKey::Named(name) => Marks::Named(words, name),
+        }
+    }
+
+    /// None.
+    pub fn none() -> Marks
+        ensures { result ≡ no_marks }
+    {
+        Marks::WithoutSpace(MarkWords {
+            is_const: false,
+            is_volatile: false,
+            noderef: false,
+        })
+    }
+
+    /// All but the space.
+    pub fn words(self) -> MarkWords
+        ensures { result ≡ words_in self }
+    {
+        match self {
+            Marks::WithoutSpace(words) => words,
+            Marks::Numbered(words, _) => words,
+            Marks::Named(words, _) => words,
+        }
+    }
+
+    /// The space.
+    pub fn space(self) -> SpaceKey
+        ensures { result ≡ space_in self }
+    {
+        match self {
+            Marks::WithoutSpace(_) => SpaceKey::Absent,
+            Marks::Numbered(_, number) => SpaceKey::Number(number),
+            Marks::Named(_, name) => SpaceKey::Named(name),
+        }
+    }
 
     /// Whether there is a qualifier or a flag.
     pub fn are_some(self) -> bool
@@ -236,63 +286,63 @@ impl Marks {
         ensures flags { result ≡ false → flags_in self ≡ no_flags }
     {
         match self {
-            Marks {
-                is_const: false,
-                is_volatile: false,
-                noderef: false,
-                space: SpaceKey::Absent,
-            } => false,
+            Marks::WithoutSpace(
+                MarkWords {
+                    is_const: false,
+                    is_volatile: false,
+                    noderef: false,
+                },
+            ) => false,
             _ => true,
         }
+    }
+
+    /// What is left without const and volatile.
+    pub fn unqualified(self) -> Marks
+        ensures qualifiers { qualifiers_in result ≡ no_qualifiers }
+        ensures flags { flags_in result ≡ flags_in self }
+    {
+        Marks::new(
+            MarkWords {
+                is_const: false,
+                is_volatile: false,
+                noderef: self.words().noderef,
+            },
+            self.space(),
+        )
+    }
+
+    /// These and others besides: a later space replaces an earlier one.
+    pub fn and(self, later: Marks) -> Marks
+        ensures is_const { (words_in result).is_const ≡ (words_in self).is_const || (words_in later).is_const }
+        ensures is_volatile { (words_in result).is_volatile ≡ (words_in self).is_volatile || (words_in later).is_volatile }
+        ensures noderef { (words_in result).noderef ≡ (words_in self).noderef || (words_in later).noderef }
+        ensures space { space_seen (space_in result) ≡ later_space (space_seen (space_in self)) (space_seen (space_in later)) }
+    {
+        let own = self.words();
+        let more = later.words();
+        Marks::new(
+            MarkWords {
+                is_const: own.is_const || more.is_const,
+                is_volatile: own.is_volatile || more.is_volatile,
+                noderef: own.noderef || more.noderef,
+            },
+            self.space().replaced_by(later.space()),
+        )
     }
 }
 
 impl Shape {
-    ghost use Rattle.std.specs.Prelude.{◌≡◌, ◌||◌, false};
-    ghost use Rattle.meaning_types.specs.Marks.{later_space};
-    ghost use Rattle.c_types.specs.Rows.{space_seen};
-    ghost use Rattle.c_types.specs.declared.form.SpaceKey.TheVariants.{Absent};
+    ghost use Rattle.std.specs.Prelude.{◌≡◌};
+    ghost use Rattle.c_types.specs.Rows.{no_marks};
 
     /// The shape without const, volatile and flags.
     pub fn unmarked(form: Form) -> Shape
-        ensures { result ≡ record { form = form; is_const = false; is_volatile = false; noderef = false; space = Absent } }
+        ensures { result ≡ record { form = form; marks = no_marks } }
     {
         Shape {
             form,
-            is_const: false,
-            is_volatile: false,
-            noderef: false,
-            space: SpaceKey::Absent,
-        }
-    }
-
-    /// The shape with these qualifiers and flags.
-    pub fn marked(form: Form, marks: Marks) -> Shape
-        ensures { result ≡ record { form = form; is_const = marks.is_const; is_volatile = marks.is_volatile; noderef = marks.noderef; space = marks.space } }
-    {
-        Shape {
-            form,
-            is_const: marks.is_const,
-            is_volatile: marks.is_volatile,
-            noderef: marks.noderef,
-            space: marks.space,
-        }
-    }
-
-    /// The shape with these qualifiers and flags besides: a later space replaces its own.
-    pub fn with_marks(self, marks: Marks) -> Shape
-        ensures form { result.form ≡ self.form }
-        ensures is_const { result.is_const ≡ self.is_const || marks.is_const }
-        ensures is_volatile { result.is_volatile ≡ self.is_volatile || marks.is_volatile }
-        ensures noderef { result.noderef ≡ self.noderef || marks.noderef }
-        ensures space { space_seen result.space ≡ later_space (space_seen self.space) (space_seen marks.space) }
-    {
-        Shape {
-            form: self.form,
-            is_const: self.is_const || marks.is_const,
-            is_volatile: self.is_volatile || marks.is_volatile,
-            noderef: self.noderef || marks.noderef,
-            space: self.space.replaced_by(marks.space),
+            marks: Marks::none(),
         }
     }
 }

@@ -1,5 +1,5 @@
 // The layouts of aggregates, each made once from what its members take.
-ghost use Rattle.std.specs.Prelude.{◌≡◌, ◌<◌, ◌≤◌, [], IfOk, OnOk, Some, length, max, nat_eq};
+ghost use Rattle.std.specs.Prelude.{◌≡◌, ◌<◌, ◌≤◌, [], IfOk, OnOk, Some, length, nat_eq};
 ghost use Rattle.indexmap.specs.IndexMap.{insert_entry, spare};
 ghost use Rattle.c_types.specs.Elements.{elements_extent, single_extent};
 ghost use Rattle.meaning_layout.specs.Sizes.{told_extent};
@@ -97,15 +97,14 @@ impl Layouts {
 
     /// What types take that are made so.
     pub fn extent(&self, elements: Elements) -> Result<Extent, LayoutFault>
-        requires { elements.count ≤ max 1 elements.most }
         ensures { extent_seen result ≡ elements_extent (told_kept self.now.kept.entries) elements }
     {
-        let one = self.single(elements.of)?;
-        if elements.most.saturating_mul(one.size) > MOST_BYTES {
+        let one = self.single(elements.single())?;
+        if elements.most().saturating_mul(one.size) > MOST_BYTES {
             return Err(LayoutFault::TooLarge);
         }
         Ok(Extent {
-            size: elements.count * one.size,
+            size: elements.count() * one.size,
             align: one.align,
         })
     }

@@ -65,7 +65,10 @@ impl Rows {
     {
         let (shape, _) = self.row(number);
         if shape.form.may_be_marked() {
-            self.add(shape.with_marks(marks))
+            self.add(Shape {
+                form: shape.form,
+                marks: shape.marks.and(marks),
+            })
         } else {
             number
         }

@@ -47,7 +47,7 @@ impl Rows {
         ensures grows { Grows self.old.rows.entries self.new.rows.entries }
         ensures err { OnErr result (self.new.rows.entries ≡ self.old.rows.entries) }
     {
-        self.make(Shape::marked(form, marks))
+        self.make(Shape { form, marks })
     }
 
     // The number of the type of functions with this result and these parameters, which join from the last

@@ -118,16 +118,18 @@ impl Shape {
     pub fn has_flag(self) -> bool
         ensures { result ≡ has_flag (flags_in_shape self) }
     {
-        self.noderef || self.space.is_space()
+        self.marks.words().noderef || self.marks.space().is_space()
     }
 
     /// Whether both have the same flags.
     pub fn same_flags(self, other: Shape) -> bool
         ensures { result ≡ are_equal_flags (flags_in_shape self) (flags_in_shape other) }
     {
-        match (self.noderef, other.noderef) {
-            (true, true) => self.space.is_same(other.space),
-            (false, false) => self.space.is_same(other.space),
+        let space = self.marks.space();
+        let another = other.marks.space();
+        match (self.marks.words().noderef, other.marks.words().noderef) {
+            (true, true) => space.is_same(another),
+            (false, false) => space.is_same(another),
             (true, false) => false,
             (false, true) => false,
         }

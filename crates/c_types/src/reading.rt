@@ -110,12 +110,13 @@ impl Rows {
     {
         let base = self.outer_base(number);
         let (shape, _) = self.row(number);
+        let words = shape.marks.words();
         OuterShape {
             base,
-            is_const: shape.is_const,
-            is_volatile: shape.is_volatile,
-            noderef: shape.noderef,
-            space: space_at(shape.space),
+            is_const: words.is_const,
+            is_volatile: words.is_volatile,
+            noderef: words.noderef,
+            space: space_at(shape.marks.space()),
         }
     }
 }

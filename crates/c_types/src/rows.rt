@@ -1,5 +1,5 @@
 // The rows of the table: each type once, with what is left of it.
-use crate::form::{Form, Reduced, Shape, SpaceKey, TypeFacts};
+use crate::form::{Form, Reduced, Shape, TypeFacts};
 use indexmap::IndexMap;
 use sparse_model::IntKind;
 use std::alloc::{AllocError, Global};
@@ -257,10 +257,7 @@ impl Rows {
     {
         let bare = Shape {
             form: self.bare_form(shape.form),
-            is_const: false,
-            is_volatile: false,
-            noderef: shape.noderef,
-            space: shape.space,
+            marks: shape.marks.unqualified(),
         };
         let own = self.len();
         self.join(bare, Reduced { bare: own, plain })

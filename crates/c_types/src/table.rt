@@ -15,7 +15,7 @@ ghost use Rattle.c_types.specs.Table.{flags_of_shape, qualifiers_of_shape, space
 ghost use Rattle.c_types.specs.Trees.{tree_seen};
 
 use crate::bodies::{AggregateBody, Named};
-use crate::form::{Marks, SpaceKey};
+use crate::form::{MarkWords, Marks, SpaceKey};
 use crate::kinds::{kind_number, promoted_kind, usual_kind};
 use crate::layouts::{LayoutFault, Layouts};
 use crate::making::Maker;
@@ -326,12 +326,14 @@ fn marks_of(shape: &TypeShape) -> Marks
     ensures qualifiers { qualifiers_in result ≡ qualifiers_of_shape shape.now }
     ensures flags { flags_in result ≡ flags_of_shape shape.now }
 {
-    Marks {
-        is_const: shape.is_const,
-        is_volatile: shape.is_volatile,
-        noderef: shape.noderef,
-        space: space_key(shape.space),
-    }
+    Marks::new(
+        MarkWords {
+            is_const: shape.is_const,
+            is_volatile: shape.is_volatile,
+            noderef: shape.noderef,
+        },
+        space_key(shape.space),
+    )
 }
 
 // The space as part of a key.

@@ -1,3 +1,4 @@
 pub mod Asked
 pub mod Definitions
+pub mod Folding
 pub mod Shown

@@ -15,7 +15,7 @@ const MOST_BYTES: usize = 67_108_864;
 /// Why there is no text.
 #[derive(Clone, Copy, Debug, Error)]
 pub enum Stop {
-    #[error("usage: workbench TOOL FILE, where TOOL is if_value, scopes, types, attributes, context_changes, preprocess or left_names, or workbench expand FILE [replacements=N] [tokens=N] [counter=N] [spelled=TEXT] [places]")]
+    #[error("usage: workbench TOOL FILE, where TOOL is if_value, scopes, types, constants, attributes, context_changes, preprocess, left_names or texts, or workbench expand FILE [replacements=N] [tokens=N] [counter=N] [spelled=TEXT] [places]")]
     Usage,
     #[error("no such file, or more than 67108864 bytes")]
     NoFile,
@@ -55,6 +55,9 @@ pub fn workbench<F: Files>(alloc: Global, words: &Words, files: &mut F) -> Resul
         }
         if name == b"left_names".as_slice() {
             return preprocessed(alloc, View::LeftNames, path, files);
+        }
+        if name == b"texts".as_slice() {
+            return preprocessed(alloc, View::Texts, path, files);
         }
     }
     let Some(tool) = Tool::read(words) else {

@@ -4,6 +4,7 @@ ghost use Rattle.workbench.specs.Asked.{MayRun};
 
 use crate::asked::Asked;
 use crate::attributes::{Between, attribute_lines};
+use crate::constants::constant_answers;
 use crate::expansions::expand_text;
 use crate::scopes::scope_answers;
 use crate::types::type_answers;
@@ -20,6 +21,8 @@ pub enum Tool<'w> {
     Scopes,
     /// The answers to commands on types.
     Types,
+    /// The constants of nodes that commands make.
+    Constants,
     /// What lists of attributes come to, or the changes of context statements.
     Attributes(Between),
     /// The tokens that a text becomes behind definitions.
@@ -51,6 +54,8 @@ impl<'w> Tool<'w> {
             Some(Tool::Scopes)
         } else if name == b"types".as_slice() {
             Some(Tool::Types)
+        } else if name == b"constants".as_slice() {
+            Some(Tool::Constants)
         } else if name == b"attributes".as_slice() {
             Some(Tool::Attributes(Between::Attributes))
         } else if name == b"context_changes".as_slice() {
@@ -69,6 +74,7 @@ impl<'w> Tool<'w> {
             Tool::IfValue => if_values(alloc, text),
             Tool::Scopes => scope_answers(alloc, text),
             Tool::Types => type_answers(alloc, text),
+            Tool::Constants => constant_answers(alloc, text),
             Tool::Attributes(between) => attribute_lines(alloc, between, text),
             Tool::Expand(asked) => expand_text(alloc, asked, text),
         }

@@ -3,11 +3,13 @@ ghost use Rattle.std.specs.Prelude.{◌^◌, ◌<◌, ◌≡◌, List, All, IfOk
 ghost use Rattle.meaning_types.specs.Types.{TypeTree};
 ghost use Rattle.c_types.specs.Table.{IsShapeOver, IsTypeId, types_in};
 
+use crate::extents::{push_extent, push_layout};
 use crate::scopes::word_of;
+use crate::shown_types::{push_base, push_marks};
+use c_layout::size_of;
 use c_tokens::{Names, lex};
 use c_types::{
-    AggregateBody, Member, MemberList, Named, OuterBase, OuterShape, ShapeBase, TypeIdList,
-    TypeShape, Types,
+    AggregateBody, Member, MemberList, Named, OuterBase, ShapeBase, TypeIdList, TypeShape, Types,
 };
 use itoa::Buffer;
 use sparse_model::{IntKind, NameId, Restrict, Space, TypeId};
@@ -16,11 +18,11 @@ use std::str;
 
 /// Qualifiers and flags that wait for the next type.
 #[derive(Clone, Copy)]
-struct Waiting {
-    is_const: bool,
-    is_volatile: bool,
-    noderef: bool,
-    space: Space,
+pub(crate) struct Waiting {
+    pub is_const: bool,
+    pub is_volatile: bool,
+    pub noderef: bool,
+    pub space: Space,
 }
 
 const NONE_WAITING: Waiting = Waiting {
@@ -30,31 +32,50 @@ const NONE_WAITING: Waiting = Waiting {
     space: Space::None,
 };
 
+/// What is written at the next member, or at the next aggregate that is told.
+#[derive(Clone, Copy)]
+pub(crate) struct Written {
+    packed: bool,
+    /// The alignment, or 1.
+    align: u32,
+}
+
+const NOTHING_WRITTEN: Written = Written {
+    packed: false,
+    align: 1,
+};
+
 /// Types under commands: those that were made and not taken yet, the last one at the end, the members that
 /// no aggregate has yet, and what was answered.
 #[derive(Drop)]
-struct Session {
-    alloc: Global,
-    types: Types,
-    made: Vec<TypeId>,
-    members: Vec<Member>,
-    waiting: Waiting,
-    shown: Vec<u8>,
+pub(crate) struct Session {
+    pub alloc: Global,
+    pub types: Types,
+    pub made: Vec<TypeId>,
+    pub members: Vec<Member>,
+    pub waiting: Waiting,
+    pub written: Written,
+    // the word of the command that is done
+    pub word: NameId,
+    pub shown: Vec<u8>,
 }
 
 /// The answers to commands, which take types from those that were made last and leave what they make.
 ///
 /// `const`, `volatile`, `noderef` and `space_N` mark the next type that is made. `void`, a word of a kind as
-/// `unsigned_short`, `restricted_N`, `struct_N` and `union_N` make a type; `pointer`, `array_N`, `open`,
+/// `unsigned_short`, `restricted_N` and `restricted_unsigned_N` over unsigned short and unsigned, `struct_N` and
+/// `union_N` make a type; `pointer`, `array_N`, `open`,
 /// `function_N` and `variadic_N` make one of the last ones, a function of its result and N parameters behind
-/// it, the last one first. `again` leaves the last one once more, `drop` takes it. `pointers_N`, `arrays_N`
-/// and `functions_N` do so N times, with arrays of 1 and functions of two pointers; `agains_N`, `members_N`
-/// and `structs_N` leave the last one, take it as a member and tell structures of the members so far N times.
+/// it, the last one first. `again` leaves the last one once more, `drop` takes it. `pointers_N`, `arrays_N`,
+/// `functions_N` and `wide_functions_N` do so N times, with arrays of 1, and functions of two pointers or of 255;
+/// `agains_N`, `members_N` and `structs_N` leave the last one, take it as a member and tell structures of the members so far N times.
 ///
 /// `target`, `parameter_N`, `promote`, `usual` and `composite` leave the type that they tell; `same` and `show`
-/// say what they find, and `tree` whether the whole type was made as a tree. `member` and `field_W` take the
-/// last one as a member, of W bits, and `complete_N` tells those so far; `body_N` says how many an aggregate
-/// has. `tag_N` gives its own word as a name, and `named_N` says whether there is one. A command that misses
+/// say what they find, and `tree` whether the whole type was made as a tree. `member`, `field_W` and `unnamed_W`
+/// take the last one as a member, of W bits, with their own word as its name or without one, and `complete_N` tells
+/// those so far; `aligned_N` is written at the next member or the next aggregate that is told, and `packed` at the
+/// aggregate. `body_N` says how many members an aggregate has, `layout` where they lie, and `extent` what a type
+/// takes, as `extents_N` after N look-ups. `tag_N` gives its own word as a name, and `named_N` says whether there is one. A command that misses
 /// something is `refused`.
 pub fn type_answers(alloc: Global, text: &[u8]) -> Result<Vec<u8>, AllocError>
     requires { length text.now < 2 ^ 30 }
@@ -63,14 +84,7 @@ pub fn type_answers(alloc: Global, text: &[u8]) -> Result<Vec<u8>, AllocError>
     let Ok(tokens) = lex(alloc, &mut names, 1, text) else {
         return Err(AllocError);
     };
-    let mut session = Session {
-        alloc,
-        types: Types::new(alloc)?,
-        made: Vec::new(alloc),
-        members: Vec::new(alloc),
-        waiting: NONE_WAITING,
-        shown: Vec::new(alloc),
-    };
+    let mut session = Session::new(alloc)?;
     for token in tokens.as_slice() {
         session.command(word_of(&names, token.name), token.name)?;
     }
@@ -78,12 +92,38 @@ pub fn type_answers(alloc: Global, text: &[u8]) -> Result<Vec<u8>, AllocError>
 }
 
 impl Session {
-    // Does what a word says.
-    fn command(&mut self, word: &[u8], name: NameId) -> Result<(), AllocError> {
+    /// The types of integers, and none made yet.
+    pub fn new(alloc: Global) -> Result<Session, AllocError> {
+        Ok(Session {
+            alloc,
+            types: Types::new(alloc)?,
+            made: Vec::new(alloc),
+            members: Vec::new(alloc),
+            waiting: NONE_WAITING,
+            written: NOTHING_WRITTEN,
+            word: NameId(0),
+            shown: Vec::new(alloc),
+        })
+    }
+
+    /// Does what a word says.
+    pub fn command(&mut self, word: &[u8], name: NameId) -> Result<(), AllocError> {
         if let Some(base) = leaf(word) {
             return self.make(base);
         }
-        let (stem, number) = numbered(word).unwrap_or((word, 0));
+        self.word = name;
+        let (stem, length) = numbered(word).unwrap_or((word, 0));
+        if stem == b"array".as_slice() {
+            return self.make_array(Some(length));
+        }
+        match u32::try_from(length) {
+            Ok(number) => self.command_with(stem, number),
+            Err(_) => self.refuse(),
+        }
+    }
+
+    // Does what a word says with the number behind it, where that is no length.
+    fn command_with(&mut self, stem: &[u8], number: u32) -> Result<(), AllocError> {
         match verb_of(stem) {
             Some(Verb::Mark(mark)) => {
                 self.waiting = mark.added_to(self.waiting, number);
@@ -92,7 +132,11 @@ impl Session {
             Some(Verb::Repeated(made)) => self.make_often(made, number),
             Some(Verb::Made(made)) => self.make_next(made, number),
             Some(Verb::Asked(asked)) => self.ask(asked, number),
-            Some(Verb::Tag) => self.types.set_name(Named::Tag(number), name),
+            Some(Verb::Written(what)) => {
+                self.written = what.added_to(self.written, number);
+                Ok(())
+            }
+            Some(Verb::Tag) => self.types.set_name(Named::Tag(number), self.word),
             None => self.refuse(),
         }
     }
@@ -113,12 +157,14 @@ impl Session {
             Made::Array => self.make_array(Some(u64::from(number))),
             Made::Function => self.make_function(number, false),
             Made::Variadic => self.make_function(number, true),
-            Made::FunctionOfPointers => self.make_function_of_pointers(),
+            Made::FunctionOfPointers => self.make_function_of_pointers(2),
+            Made::WideFunction => self.make_function_of_pointers(255),
             Made::Again => self.again(),
             Made::Nothing => self.drop_last(),
-            Made::Member => self.add_member(None),
+            Made::Member => self.add_member(Some(self.word), None),
             Made::MemberAgain => self.add_again(),
-            Made::Field => self.add_member(Some(number)),
+            Made::Field => self.add_member(Some(self.word), Some(number)),
+            Made::Unnamed => self.add_member(None, Some(number)),
             Made::Complete => self.complete(number),
             Made::Structure => self.make_structure(number),
         }
@@ -136,12 +182,15 @@ impl Session {
             Asks::Composite => self.ask_composite(),
             Asks::Parameter => self.ask_parameter(number),
             Asks::Body => self.ask_body(number),
+            Asks::Extent => self.ask_extent(),
+            Asks::Extents => self.ask_extents(number),
+            Asks::Layout => self.ask_layout(),
             Asks::Name => self.ask_name(number),
         }
     }
 
-    // The last type, which is taken.
-    fn take(&mut self) -> Option<TypeId>
+    /// The last type, which is taken.
+    pub fn take(&mut self) -> Option<TypeId>
         ensures known { IfSome result (IsTypeId self.new.types) }
         ensures same { self.new.types ≡ self.old.types }
     {
@@ -153,8 +202,8 @@ impl Session {
         }
     }
 
-    // Makes a type, with the marks that wait.
-    fn make(&mut self, base: ShapeBase) -> Result<(), AllocError>
+    /// Makes a type, with the marks that wait.
+    pub fn make(&mut self, base: ShapeBase) -> Result<(), AllocError>
         requires { IsShapeOver (types_in self.old.types) base }
     {
         let waiting = self.waiting;
@@ -194,12 +243,13 @@ impl Session {
         }
     }
 
-    // A function that takes two pointers to the last type, and gives one.
-    fn make_function_of_pointers(&mut self) -> Result<(), AllocError> {
+    // A function that takes so many pointers to the last type, and gives one.
+    fn make_function_of_pointers(&mut self, count: u32) -> Result<(), AllocError> {
         self.make_pointer()?;
-        self.again()?;
-        self.again()?;
-        self.make_function(2, false)
+        for _ in 0..count {
+            self.again()?;
+        }
+        self.make_function(count, false)
     }
 
     // So many of the last types, the last one first.
@@ -235,7 +285,7 @@ impl Session {
     // The last type becomes a member, and stays.
     fn add_again(&mut self) -> Result<(), AllocError> {
         self.again()?;
-        self.add_member(None)
+        self.add_member(Some(self.word), None)
     }
 
     // A structure of the members so far.
@@ -327,14 +377,15 @@ impl Session {
         Ok(())
     }
 
-    fn add_member(&mut self, width: Option<u32>) -> Result<(), AllocError> {
+    fn add_member(&mut self, name: Option<NameId>, width: Option<u32>) -> Result<(), AllocError> {
+        let align = self.take_written().align;
         match self.take() {
             Some(of) => {
                 self.members.push(Member {
-                    name: None,
+                    name,
                     of,
                     width,
-                    align: 1,
+                    align,
                 })?;
                 Ok(())
             }
@@ -342,8 +393,18 @@ impl Session {
         }
     }
 
+    // What was written for what is made now.
+    fn take_written(&mut self) -> Written
+        ensures { self.new.types ≡ self.old.types }
+    {
+        let written = self.written;
+        self.written = NOTHING_WRITTEN;
+        written
+    }
+
     // Tells the members so far, if they weren't told.
     fn complete(&mut self, aggregate: u32) -> Result<(), AllocError> {
+        let written = self.take_written();
         let Some(members) = self.known_members()? else {
             return self.refuse();
         };
@@ -354,8 +415,8 @@ impl Session {
             aggregate,
             AggregateBody {
                 members,
-                packed: false,
-                align: 1,
+                packed: written.packed,
+                align: written.align,
             },
         )?;
         self.members.clear();
@@ -386,6 +447,36 @@ impl Session {
         self.shown.extend_from_slice(b" members\n")
     }
 
+    // What the last type takes.
+    fn ask_extent(&mut self) -> Result<(), AllocError> {
+        match self.take() {
+            Some(last) => push_extent(&mut self.shown, &self.types, last),
+            None => self.refuse(),
+        }
+    }
+
+    // Asks what the last type takes so many times, and says it once.
+    fn ask_extents(&mut self, count: u32) -> Result<(), AllocError> {
+        for _ in 1..count {
+            self.again()?;
+            let Some(last) = self.take() else {
+                return self.refuse();
+            };
+            if size_of(&self.types, last).is_err() {
+                return self.refuse();
+            }
+        }
+        self.ask_extent()
+    }
+
+    // What the last type takes, and where its members lie.
+    fn ask_layout(&mut self) -> Result<(), AllocError> {
+        match self.take() {
+            Some(last) => push_layout(&mut self.shown, &self.types, last),
+            None => self.refuse(),
+        }
+    }
+
     fn ask_name(&mut self, number: u32) -> Result<(), AllocError> {
         match self.types.name(Named::Tag(number)) {
             Some(_) => self.shown.extend_from_slice(b"named\n"),
@@ -405,7 +496,8 @@ impl Session {
         Ok(())
     }
 
-    fn refuse(&mut self) -> Result<(), AllocError> {
+    /// Says that a command missed something.
+    pub fn refuse(&mut self) -> Result<(), AllocError> {
         self.shown.extend_from_slice(b"refused\n")
     }
 }
@@ -452,11 +544,13 @@ enum Made {
     Function,
     Variadic,
     FunctionOfPointers,
+    WideFunction,
     Again,
     Nothing,
     Member,
     MemberAgain,
     Field,
+    Unnamed,
     Complete,
     Structure,
 }
@@ -483,13 +577,40 @@ enum Asks {
     Composite,
     Parameter,
     Body,
+    Extent,
+    Extents,
+    Layout,
     Name,
+}
+
+/// What is written at the next member, or at the next aggregate that is told.
+#[derive(Clone, Copy)]
+enum Writes {
+    Packed,
+    Aligned,
+}
+
+impl Writes {
+    // What was written, and this.
+    fn added_to(self, written: Written, number: u32) -> Written {
+        match self {
+            Writes::Packed => Written {
+                packed: true,
+                ..written
+            },
+            Writes::Aligned => Written {
+                align: number,
+                ..written
+            },
+        }
+    }
 }
 
 /// What a word does.
 #[derive(Clone, Copy)]
 enum Verb {
     Mark(Mark),
+    Written(Writes),
     Made(Made),
     Repeated(Made),
     Asked(Asks),
@@ -497,24 +618,27 @@ enum Verb {
 }
 
 /// The words, each as far as a number stands behind it.
-const VERBS: [(&[u8], Verb); 31] = [
+const VERBS: [(&[u8], Verb); 37] = [
     (b"const", Verb::Mark(Mark::Const)),
     (b"volatile", Verb::Mark(Mark::Volatile)),
     (b"noderef", Verb::Mark(Mark::Noderef)),
     (b"space", Verb::Mark(Mark::Space)),
     (b"pointer", Verb::Made(Made::Pointer)),
     (b"open", Verb::Made(Made::Open)),
-    (b"array", Verb::Made(Made::Array)),
     (b"function", Verb::Made(Made::Function)),
     (b"variadic", Verb::Made(Made::Variadic)),
     (b"again", Verb::Made(Made::Again)),
     (b"drop", Verb::Made(Made::Nothing)),
     (b"member", Verb::Made(Made::Member)),
     (b"field", Verb::Made(Made::Field)),
+    (b"unnamed", Verb::Made(Made::Unnamed)),
+    (b"packed", Verb::Written(Writes::Packed)),
+    (b"aligned", Verb::Written(Writes::Aligned)),
     (b"complete", Verb::Made(Made::Complete)),
     (b"pointers", Verb::Repeated(Made::Pointer)),
     (b"arrays", Verb::Repeated(Made::Array)),
     (b"functions", Verb::Repeated(Made::FunctionOfPointers)),
+    (b"wide_functions", Verb::Repeated(Made::WideFunction)),
     (b"agains", Verb::Repeated(Made::Again)),
     (b"members", Verb::Repeated(Made::MemberAgain)),
     (b"structs", Verb::Repeated(Made::Structure)),
@@ -527,6 +651,9 @@ const VERBS: [(&[u8], Verb); 31] = [
     (b"composite", Verb::Asked(Asks::Composite)),
     (b"parameter", Verb::Asked(Asks::Parameter)),
     (b"body", Verb::Asked(Asks::Body)),
+    (b"extent", Verb::Asked(Asks::Extent)),
+    (b"extents", Verb::Asked(Asks::Extents)),
+    (b"layout", Verb::Asked(Asks::Layout)),
     (b"named", Verb::Asked(Asks::Name)),
     (b"tag", Verb::Tag),
 ];
@@ -541,10 +668,10 @@ fn verb_of(word: &[u8]) -> Option<Verb> {
 }
 
 // A word with a number behind its last underscore.
-fn numbered(word: &[u8]) -> Option<(&[u8], u32)> {
+fn numbered(word: &[u8]) -> Option<(&[u8], u64)> {
     let place = word.iter().rposition(|&byte| byte == b'_')?;
     let (verb, digits) = word.split_at(place);
-    let number = str::from_utf8(digits.get(1..)?).ok()?.parse::<u32>().ok()?;
+    let number = str::from_utf8(digits.get(1..)?).ok()?.parse::<u64>().ok()?;
     Some((verb, number))
 }
 
@@ -559,8 +686,11 @@ fn leaf(word: &[u8]) -> Option<ShapeBase>
         return Some(ShapeBase::Integer(kind, None));
     }
     let (verb, number) = numbered(word)?;
+    let number = u32::try_from(number).ok()?;
     if verb == b"restricted".as_slice() {
         Some(ShapeBase::Integer(IntKind::UShort, Some(Restrict(number))))
+    } else if verb == b"restricted_unsigned".as_slice() {
+        Some(ShapeBase::Integer(IntKind::UInt, Some(Restrict(number))))
     } else if verb == b"struct".as_slice() {
         Some(ShapeBase::Aggregate(number, false))
     } else if verb == b"union".as_slice() {
@@ -593,74 +723,4 @@ fn kind_of(word: &[u8]) -> Option<IntKind> {
         }
     }
     None
-}
-
-fn push_marks(shown: &mut Vec<u8>, outer: OuterShape) -> Result<(), AllocError> {
-    if outer.is_const {
-        shown.extend_from_slice(b"const ")?;
-    }
-    if outer.is_volatile {
-        shown.extend_from_slice(b"volatile ")?;
-    }
-    if outer.noderef {
-        shown.extend_from_slice(b"noderef ")?;
-    }
-    if let Space::Number(number) = outer.space {
-        shown.extend_from_slice(b"space ")?;
-        push_number(shown, u64::from(number))?;
-        shown.push(b' ')?;
-    }
-    Ok(())
-}
-
-fn push_base(shown: &mut Vec<u8>, base: OuterBase) -> Result<(), AllocError> {
-    match base {
-        OuterBase::Void => shown.extend_from_slice(b"void"),
-        OuterBase::Integer(_, Some(identity)) => {
-            shown.extend_from_slice(b"restricted ")?;
-            push_number(shown, u64::from(identity.0))
-        }
-        OuterBase::Integer(kind, None) => shown.extend_from_slice(kind_word(kind)),
-        OuterBase::Pointer(_) => shown.extend_from_slice(b"pointer"),
-        OuterBase::Array(_, None) => shown.extend_from_slice(b"array"),
-        OuterBase::Array(_, Some(count)) => {
-            shown.extend_from_slice(b"array ")?;
-            push_number(shown, count)
-        }
-        OuterBase::Function(_, count, variadic) => {
-            shown.extend_from_slice(b"function ")?;
-            push_number(shown, u64::from(count))?;
-            if variadic {
-                shown.extend_from_slice(b" variadic")?;
-            }
-            Ok(())
-        }
-        OuterBase::Aggregate(number, is_union) => {
-            let word: &[u8] = if is_union { b"union " } else { b"struct " };
-            shown.extend_from_slice(word)?;
-            push_number(shown, u64::from(number))
-        }
-    }
-}
-
-fn kind_word(kind: IntKind) -> &'static [u8] {
-    match kind {
-        IntKind::Bool => b"bool",
-        IntKind::Char => b"char",
-        IntKind::SChar => b"signed_char",
-        IntKind::UChar => b"unsigned_char",
-        IntKind::Short => b"short",
-        IntKind::UShort => b"unsigned_short",
-        IntKind::Int => b"int",
-        IntKind::UInt => b"unsigned",
-        IntKind::Long => b"long",
-        IntKind::ULong => b"unsigned_long",
-        IntKind::LLong => b"long_long",
-        IntKind::ULLong => b"unsigned_long_long",
-    }
-}
-
-fn push_number(shown: &mut Vec<u8>, number: u64) -> Result<(), AllocError> {
-    let mut buffer = Buffer::new();
-    shown.extend_from_slice(buffer.format(number).as_bytes())
 }

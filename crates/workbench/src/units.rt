@@ -6,6 +6,7 @@ ghost use Rattle.c_tokens.specs.Seen.{IsKnown};
 
 use crate::command::Stop;
 use crate::scopes::word_of;
+use crate::texts::texts_of;
 use c_preproc::{PreFault, UnitTokens, preprocess};
 use c_tokens::{Names, Token};
 use sparse_model::{Bytes, ClassSet, ErrorKind, Options, PathList, Place};
@@ -19,6 +20,8 @@ pub(crate) enum View {
     Text,
     /// The failures of its `#if` lines, each with the name that was left.
     LeftNames,
+    /// The texts that commands among its tokens ask for.
+    Texts,
 }
 
 /// What becomes of the file at a path, without directories or definitions from words.
@@ -60,6 +63,7 @@ impl View {
         match self {
             View::Text => unit_text(alloc, names, unit),
             View::LeftNames => left_names(alloc, names, unit),
+            View::Texts => texts_of(alloc, names, unit),
         }
     }
 }

@@ -1,17 +1,17 @@
 -- What is left of the shape joins, with itself as what is left of it without const and volatile.
-use Rattle.std.proofs.Common.{◌≡◌, false, ap}
-use Rattle.meaning_types.specs.Types.{Typed, no_qualifiers, bare}
+use Rattle.std.proofs.Common.{◌≡◌}
+use Rattle.meaning_types.specs.Types.{Typed, bare}
 use Rattle.c_types.specs.declared.form.Shape.{Shape}
-use Rattle.c_types.specs.Rows.{space_seen, type_seen, types_of}
+use Rattle.c_types.specs.Rows.{type_seen, types_of}
 use Rattle.c_types.proofs.Joins.{bare-may, bare-right}
 use Rattle.c_types.proofs.rows.Rows.add_bare.Goals as goal
 
 abbrev left : goal.After-join-arg-1 → Shape
-left c = record { form = c.bare_form.result; is_const = false; is_volatile = false; noderef = c.args.shape.noderef; space = c.args.shape.space }
+left c = record { form = c.bare_form.result; marks = c.unqualified.result }
 
 seen : (c : goal.After-join-arg-1)
     → type_seen (types_of c.args.self.now.rows.entries) (left c) ≡ bare (type_seen (types_of c.args.self.now.rows.entries) c.args.shape)
-seen c = ap (λ base. Typed base no_qualifiers (record { noderef = c.args.shape.noderef; space = space_seen c.args.shape.space })) c.bare_form.ensures.bare
+seen c = λ i. Typed (c.bare_form.ensures.bare i) (c.unqualified.ensures.qualifiers i) (c.unqualified.ensures.flags i)
 
 pub join-requires-clause-may : goal.join-requires-clause-may
 join-requires-clause-may c =

@@ -7,8 +7,5 @@ use Rattle.c_types.proofs.rows.Rows.elements.Goals as goal
 pub row-requires : goal.row-requires
 row-requires c = omega (arith, c.requires.known, length-types_of c.args.self.now.rows.entries)
 
-pub returns-clause-extent : goal.returns-clause-extent
-returns-clause-extent c = λ told. extent-told c.args.self.now.rows.entries c.requires.rows c.args.number c.row.result c.row.ensures told
-
-pub returns-clause-few : goal.returns-clause-few
-returns-clause-few c = (c.requires.rows.each c.args.number c.row.result c.row.ensures).elements.few
+pub returns : goal.returns
+returns c = λ told. extent-told c.args.self.now.rows.entries c.requires.rows c.args.number c.row.result c.row.ensures told

@@ -1,5 +1,5 @@
 -- What is no array has all of it, and a function nothing.
-use Rattle.std.proofs.Common.{sym, ap, ◌∙◌, Some}
+use Rattle.std.proofs.Common.{refl, sym, ap, ◌∙◌, Some}
 use Rattle.c_types.specs.Forms.{element_in}
 use Rattle.std.proofs.lemmas.Option.{same_Some}
 use Rattle.c_types.proofs.LevelLemmas.{single-may, single-type, function-stays}
@@ -7,15 +7,15 @@ use Rattle.c_types.proofs.rows.Rows.mark_single.Goals as goal
 
 pub add-requires-clause-may : goal.add-requires-clause-may
 add-requires-clause-may c =
-    single-may c.args.self.now.rows.entries c.requires.rows c.args.number c.row.result c.row.ensures c.args.marks c.with_marks.result
-    c.with_marks.ensures.form c.with_marks.ensures.is_const c.with_marks.ensures.is_volatile c.with_marks.ensures.noderef c.with_marks.ensures.space
+    single-may c.args.self.now.rows.entries c.requires.rows c.args.number c.row.result c.row.ensures c.args.marks (record { form = c.row.result.0.form; marks = c.and.result })
+    refl c.and.ensures.is_const c.and.ensures.is_volatile c.and.ensures.noderef c.and.ensures.space
     (sym c.may_be_marked.ensures ∙ c.if-may_be_marked.true)
 
 pub returns-then-may_be_marked-clause-stands : goal.returns-then-may_be_marked-clause-stands
 returns-then-may_be_marked-clause-stands c =
     c.add.ensures.stands
-    ∙ ap Some (single-type c.args.self.now.rows.entries c.requires.rows c.args.number c.row.result c.row.ensures c.args.marks c.with_marks.result
-    c.with_marks.ensures.form c.with_marks.ensures.is_const c.with_marks.ensures.is_volatile c.with_marks.ensures.noderef c.with_marks.ensures.space
+    ∙ ap Some (single-type c.args.self.now.rows.entries c.requires.rows c.args.number c.row.result c.row.ensures c.args.marks (record { form = c.row.result.0.form; marks = c.and.result })
+    refl c.and.ensures.is_const c.and.ensures.is_volatile c.and.ensures.noderef c.and.ensures.space
     (sym c.may_be_marked.ensures ∙ c.if-may_be_marked.true))
 
 pub returns-else-may_be_marked-clause-stands : goal.returns-else-may_be_marked-clause-stands

@@ -10,5 +10,5 @@ pub returns : goal.returns
 returns c =
     let rows = c.self.inside.maker.rows.rows.entries in
     subst (λ table. extent_seen c.extent.result ≡ extent_of (told_in table) (type_at table c.args.t)) c.self.view_is
-    (c.extent.ensures ∙ c.elements.ensures.extent (told_kept c.self.inside.layouts.kept.entries)
+    (c.extent.ensures ∙ c.elements.ensures (told_kept c.self.inside.layouts.kept.entries)
     ∙ ap (λ told. extent_of told (type_numbered (types_of rows) c.args.t.0)) c.self.invariant.layouts_right)

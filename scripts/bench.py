@@ -270,6 +270,11 @@ FAMILIES = (
     of_parsing("else if", b"void f(void) { ", b"if (1) ; else ", b";", b"", b" }", (30000, 300000)),
     of_parsing("statements", b"void f(void) { ", b";", b"", b"", b" }", LONG),
     of_parsing("declarators", b"int a", b", a", b"", b"", b";", LONG),
+    of_parsing("array sizes", b"int a", b"[1]", b"", b"", b";", LONG),
+    of_parsing("parameter lists", b"int a", b"(void)", b"", b"", b";", LONG),
+    of_parsing("qualifiers", b"", b"const ", b"int a;", b"", b"", LONG),
+    of_parsing("attribute words", b"int __attribute__((a", b", a", b"", b"", b")) x;", LONG),
+    of_parsing("attribute lists", b"int ", b"__attribute__((a)) ", b"x;", b"", b"", (20000, 200000)),
     of_parsing("members", b"struct { int a", b", b", b"", b"", b"; } x;", LONG),
     of_parsing("initializers", b"int x[] = { ", b"1, ", b"", b"", b"};", LONG),
     of_parsing("string literals", b"char x[] = ", b'"" ', b'""', b"", b";", LONG),
@@ -281,6 +286,7 @@ FAMILIES = (
     of_parsing("structures in one another", b"", b"struct { ", b"int y;", b" } x;", b"", (1300, 13000)),
     of_parsing("if in if", b"void f(void) { ", b"if (1) ", b";", b"", b" }", (6000, 60000)),
     Family("parsing: enumerators", texts.enumerators, (50000, 500000), most_ratio=MOST_NAMES_RATIO, words=(), status=2),
+    Family("parsing: names of one scope", texts.names_of_one_scope, (50000, 500000), most_ratio=MOST_NAMES_RATIO, words=(), status=2),
     Family("parsing: words before declarators", texts.words_before_declarators, (20000, 200000), words=(), status=2),
 )
 

@@ -334,6 +334,11 @@ def enumerators(count):
     return b"enum { " + b"".join(b"e%06d, " % number for number in range(count)) + b"};"
 
 
+def names_of_one_scope(count):
+    """A body that declares so many names."""
+    return b"void f(void) { int n" + b"".join(b", n%06d" % number for number in range(count)) + b"; }"
+
+
 def words_before_declarators(count):
     """So many specifiers, and as many declarators behind them."""
     return b"const " * count + b"int a" + b", a" * count + b";"

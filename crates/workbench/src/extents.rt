@@ -55,9 +55,12 @@ fn member_count(types: &Types, t: TypeId) -> u32
     let Some((number, _)) = types.outline(t).aggregate() else {
         return 0;
     };
-    match types.body(number) {
-        Some(body) => body.members.len() as u32,
-        None => 0,
+    let Some(body) = types.body(number) else {
+        return 0;
+    };
+    match u32::try_from(body.members.len()) {
+        Ok(count) => count,
+        Err(_) => 0,
     }
 }
 

@@ -1,9 +1,9 @@
 // Where the members of structures and unions lie.
 ghost use Rattle.std.specs.Prelude.{◌≡◌};
 ghost use Rattle.meaning_layout.specs.Telling.{field_in, layout_in, offset_in};
-ghost use Rattle.c_types.specs.Layouts.{HasMember, told_in, width_among, width_in};
+ghost use Rattle.c_types.specs.Layouts.{HasMember, bit_seen, told_in, width_among, width_in};
 ghost use Rattle.c_types.specs.Table.{IsTypeId, body_in, type_at, types_in};
-ghost use Rattle.c_layout.specs.Seen.{field_seen, offset_seen};
+ghost use Rattle.c_layout.specs.Seen.{field_seen};
 
 use c_types::{LayoutFault, Types};
 use sparse_model::TypeId;
@@ -21,7 +21,7 @@ pub struct FieldBits {
 pub fn offset_of(types: &Types, aggregate: TypeId, member: u32) -> Result<u64, LayoutFault>
     requires known { IsTypeId types.now aggregate }
     requires member { HasMember types.now (type_at types.now aggregate) member }
-    ensures { offset_seen result ≡ offset_in member (layout_in (told_in types.now) (type_at types.now aggregate)) }
+    ensures { bit_seen result ≡ offset_in member (layout_in (told_in types.now) (type_at types.now aggregate)) }
 {
     match types.outline(aggregate).aggregate() {
         Some((number, is_union)) => match types.first_bit(number, is_union, member) {

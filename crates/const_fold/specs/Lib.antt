@@ -3,3 +3,4 @@ pub mod Seen
 pub mod Measured
 pub mod Outlined
 pub mod Known
+pub mod Sized

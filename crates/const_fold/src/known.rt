@@ -17,8 +17,8 @@ use c_tree::{Handle, Node, Unit};
 use c_types::{NodeType, NodeTypes, Outline, Types, bits, promoted_kind};
 use sparse_model::{IntKind, NodeKind};
 
-// What is kept of the node with this handle.
-fn kept_at(nodes: &NodeTypes, handle: Handle) -> Option<NodeType>
+/// What is kept of the node with this handle.
+pub fn kept_at(nodes: &NodeTypes, handle: Handle) -> Option<NodeType>
     ensures { result ≡ known.kept_at nodes.now handle }
 {
     let index = handle as usize;

@@ -2,22 +2,23 @@
 //!
 //! One step: types and constants of the parts are read where they are kept, and nothing is walked, so a sum of any
 //! length costs a step a term. What a constant is is said in `meaning_constants`, and how the values of this crate are
-//! seen there in `specs/Known.antt` and `specs/Seen.antt`. Start reading at [`fold_measured`].
+//! seen there in `specs/Known.antt` and `specs/Seen.antt`. Start reading at [`fold`].
 #![tactic(auto)]
 
 mod children;
 mod constant;
 mod facts;
-mod fold;
 mod folded;
+mod folding;
 mod known;
 mod measured;
 mod number;
 mod operation;
 mod operator;
 mod part;
+mod sized;
 mod way;
 
-pub use fold::fold_measured;
 pub use folded::Folded;
+pub use folding::{fold, fold_measured};
 pub use measured::measuring_is_enough;

@@ -3,12 +3,14 @@ ghost use Rattle.std.specs.Prelude.{◌≡◌, ◌<◌, All, option_map};
 ghost use Rattle.meaning_tree.specs.Nodes.{end_of};
 ghost use Rattle.const_fold.specs.Known.{IsKnownNode, folded_answer, node_constant_at};
 ghost use Rattle.const_fold.specs.Seen.{seen_constant};
+ghost use Rattle.const_fold.specs.Sized.{sized_constant_at};
 
 use crate::constant::Constant;
 use crate::facts::constant_of;
 use crate::folded::Folded;
 use crate::known::facts_of;
 use crate::number::bits_of_number;
+use crate::sized::bytes_of;
 use c_tree::{Handle, Unit};
 use c_types::{NodeTypes, Types};
 use sparse_model::IntConst;
@@ -41,4 +43,17 @@ pub fn fold_measured(
     ensures { result ≡ folded_answer (node_constant_at unit.now types.now nodes.now bytes e) }
 {
     answer_of(constant_of(facts_of(unit, types, nodes, bytes, unit.node(e))))
+}
+
+/// The constant of a node by the layouts of its unit's types (C11 6.6). Types and constants of its parts, and of the
+/// enumerator that it names, stand in `nodes` by their handles. Of a `__builtin_offsetof` alone `offset` is asked: how far
+/// the member lies to which it leads, if it leads to one. It takes no memory, and one step.
+pub fn fold(unit: &Unit, types: &Types, nodes: &NodeTypes, offset: Option<u64>, e: Handle) -> Folded
+    requires whole { unit.now.first ≡ 0 }
+    requires node { e < end_of unit.now }
+    requires kept { All (IsKnownNode types.now) nodes.now }
+    ensures { result ≡ folded_answer (sized_constant_at unit.now types.now nodes.now offset e) }
+{
+    let bytes = bytes_of(types, nodes, offset, unit.node(e));
+    fold_measured(unit, types, nodes, bytes, e)
 }

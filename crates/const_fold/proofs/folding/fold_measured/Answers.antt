@@ -6,7 +6,7 @@ use Rattle.const_fold.specs.Known.{folded_answer, constant_of_node, node_facts}
 use Rattle.const_fold.specs.Measured.{measured}
 use Rattle.const_fold.specs.Seen.{facts_seen}
 use Rattle.const_fold.proofs.OutlineLemmas.{node_constant-outlined}
-use Rattle.const_fold.proofs.fold.fold_measured.Goals as goal
+use Rattle.const_fold.proofs.folding.fold_measured.Goals as goal
 
 pub returns : goal.returns
 returns c =

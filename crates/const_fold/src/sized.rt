@@ -1,0 +1,124 @@
+// The bytes that a node asks for, by the layouts of types.
+ghost use Rattle.std.specs.Prelude.{◌≡◌, ◌∷◌, [], All};
+ghost use Rattle.sparse_model.specs.declared.ids.NameId.{NameId};
+ghost use Rattle.meaning_tree.specs.Nodes.{NodeList};
+ghost use Rattle.meaning_constants.specs.Nodes.{fold_of};
+ghost use Rattle.meaning_constants.specs.Sizes as sizes;
+ghost use Rattle.c_tree.specs.Seen.{node_of};
+ghost use Rattle.c_types.specs.Layouts.{told_in};
+ghost use Rattle.c_types.specs.Table.{IsTypeId, type_at};
+ghost use Rattle.const_fold.specs.Known.{IsKnownNode, node_facts, part_at};
+ghost use Rattle.const_fold.specs.Measured.{bytes_asked, measure_of_only};
+ghost use Rattle.const_fold.specs.Outlined.{known_children};
+ghost use Rattle.const_fold.specs.Sized.{has_one_byte, sizes_in};
+
+use crate::children::{Children, children_of};
+use crate::known::kept_at;
+use crate::way::{Way, way_of};
+use c_layout::{align_of, size_of};
+use c_tree::{Handle, Node};
+use c_types::{NodeTypes, Outline, Types};
+use sparse_model::TypeId;
+
+// Void and functions have one byte, as in GNU C.
+fn has_one_byte(outline: Outline) -> bool
+    ensures { result ≡ has_one_byte outline }
+{
+    match outline {
+        Outline::Void => true,
+        Outline::Function => true,
+        _ => false,
+    }
+}
+
+// The size of a type, as `sizeof` asks for it.
+fn asked_size(types: &Types, t: TypeId) -> Option<u64>
+    requires { IsTypeId types.now t }
+    ensures { result ≡ sizes.asked_size (told_in types.now) (type_at types.now t) }
+{
+    if has_one_byte(types.outline(t)) {
+        return Some(1);
+    }
+    match size_of(types, t) {
+        Ok(bytes) => Some(bytes),
+        Err(_) => None,
+    }
+}
+
+// The alignment of a type, as `_Alignof` asks for it.
+fn asked_align(types: &Types, t: TypeId) -> Option<u64>
+    requires { IsTypeId types.now t }
+    ensures { result ≡ sizes.asked_align (told_in types.now) (type_at types.now t) }
+{
+    if has_one_byte(types.outline(t)) {
+        return Some(1);
+    }
+    match align_of(types, t) {
+        Ok(bytes) => Some(bytes),
+        Err(_) => None,
+    }
+}
+
+// The size of what the node with this handle is as a part of another, if it has a type.
+fn size_at(types: &Types, nodes: &NodeTypes, handle: Handle) -> Option<u64>
+    requires { All (IsKnownNode types.now) nodes.now }
+    ensures { result ≡ measure_of_only (sizes.asked_size (told_in types.now)) (part_at types.now nodes.now handle ∷ []) }
+{
+    let node = kept_at(nodes, handle)?;
+    asked_size(types, node.of)
+}
+
+fn align_at(types: &Types, nodes: &NodeTypes, handle: Handle) -> Option<u64>
+    requires { All (IsKnownNode types.now) nodes.now }
+    ensures { result ≡ measure_of_only (sizes.asked_align (told_in types.now)) (part_at types.now nodes.now handle ∷ []) }
+{
+    let node = kept_at(nodes, handle)?;
+    asked_align(types, node.of)
+}
+
+// The size of the only child.
+fn size_of_only(types: &Types, nodes: &NodeTypes, children: Children) -> Option<u64>
+    requires { All (IsKnownNode types.now) nodes.now }
+    ensures { result ≡ measure_of_only (sizes.asked_size (told_in types.now)) (known_children (part_at types.now nodes.now) children) }
+{
+    match children {
+        Children::One(child) => size_at(types, nodes, child),
+        Children::Two(_, _) => None,
+        Children::Three(_, _, _) => None,
+        Children::Other => None,
+    }
+}
+
+fn align_of_only(types: &Types, nodes: &NodeTypes, children: Children) -> Option<u64>
+    requires { All (IsKnownNode types.now) nodes.now }
+    ensures { result ≡ measure_of_only (sizes.asked_align (told_in types.now)) (known_children (part_at types.now nodes.now) children) }
+{
+    match children {
+        Children::One(child) => align_at(types, nodes, child),
+        Children::Two(_, _) => None,
+        Children::Three(_, _, _) => None,
+        Children::Other => None,
+    }
+}
+
+/// The bytes that a node asks for: of a `__builtin_offsetof` these.
+pub fn bytes_of(types: &Types, nodes: &NodeTypes, offset: Option<u64>, node: &Node) -> Option<u64>
+    requires { All (IsKnownNode types.now) nodes.now }
+    ensures { (unit : NodeList NameId) → result ≡ bytes_asked (sizes_in types.now) (fold_of node.now.kind) (node_facts unit types.now nodes.now offset (node_of node.now)) }
+{
+    match way_of(node.kind) {
+        Way::Size => size_of_only(types, nodes, children_of(&node.children)),
+        Way::Align => align_of_only(types, nodes, children_of(&node.children)),
+        Way::Offset => offset,
+        Way::Nothing => None,
+        Way::Literal(_) => None,
+        Way::Named => None,
+        Way::Own => None,
+        Way::Unary(_) => None,
+        Way::Binary(_) => None,
+        Way::And => None,
+        Way::Or => None,
+        Way::Conditional => None,
+        Way::Cast => None,
+    }
+}

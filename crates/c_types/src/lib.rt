@@ -32,6 +32,3 @@ pub use operand::{Operand, are_one_identity};
 pub use outline::Outline;
 pub use shapes::{OuterBase, OuterShape, ShapeBase, TypeIdList, TypeShape};
 pub use table::Types;
-
-#[cfg(test)]
-mod tests;

@@ -1,6 +1,6 @@
 -- Which specifiers stand together (C11 6.7.1, 6.7.2 p2, 6.7.4, 6.7.6.3 p2). They are looked at where their list ends; what is
 -- wrong with them is held, and told when the token behind them is taken.
-use Rattle.std.specs.Prelude.{ℕ, Bool, true, false, not, ◌||◌, List, [], ◌∷◌, Some, if◌then◌else◌}
+use Rattle.std.specs.Prelude.{ℕ, Bool, true, false, ◌||◌, List, [], ◌∷◌, Some, if◌then◌else◌}
 use Rattle.vocabulary.specs.declared.error_kind.ErrorKind.{ErrorKind}
 use Rattle.vocabulary.specs.declared.error_kind.ErrorKind.TheVariants.{BadDeclaration, ParameterWithoutType}
 use Rattle.vocabulary.specs.declared.node_kind.NodeKind.{NodeKind}

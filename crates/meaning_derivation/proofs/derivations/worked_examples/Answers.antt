@@ -152,3 +152,18 @@ returns-clause-functions c = record {
   later = refl;
   behind_initializer = refl;
 }
+
+pub returns-clause-words : goal.returns-clause-words
+unfolding opened
+returns-clause-words c = record {
+  whole = refl;
+  typedef_name = refl;
+  signs = refl;
+  signed_words = refl;
+  alone = refl;
+  parameters = refl;
+  members = refl;
+  functions = refl;
+  qualified = refl;
+  second_class = refl;
+}

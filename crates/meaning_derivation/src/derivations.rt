@@ -5,7 +5,7 @@ ghost use Rattle.meaning_derivation.specs.laws.Shapes.{ShapesAreMade};
 ghost use Rattle.meaning_derivation.specs.laws.Storage.{ClassesHaveNumbers, SpecifiersHaveTheirClass};
 ghost use Rattle.meaning_derivation.specs.examples.Literals.{ContextExamples, LiteralExamples};
 ghost use Rattle.meaning_derivation.specs.examples.Units.{TreeExamples, BodyExamples, BindExamples, ChainExamples, RefusalExamples};
-ghost use Rattle.meaning_derivation.specs.examples.Specifiers.{SetExamples, SpecifierExamples, PlaceExamples, FunctionExamples};
+ghost use Rattle.meaning_derivation.specs.examples.Specifiers.{SetExamples, SpecifierExamples, WordExamples, PlaceExamples, FunctionExamples};
 
 /// A list of tokens has one outcome at most, whatever the actions do, and with those of C it has one: a tree or a refusal.
 pub fn each_unit_has_one_outcome()
@@ -45,6 +45,7 @@ pub fn worked_examples()
     ensures refusals { RefusalExamples }
     ensures sets { SetExamples }
     ensures specifiers { SpecifierExamples }
+    ensures words { WordExamples }
     ensures places { PlaceExamples }
     ensures functions { FunctionExamples }
     ensures literals { LiteralExamples }

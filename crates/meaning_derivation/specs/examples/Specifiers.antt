@@ -1,5 +1,5 @@
 -- Worked examples: which specifiers stand together, where that is told, and which declarators have a body.
-use Rattle.std.specs.Prelude.{◌≡◌, ℕ, zero, suc, ◌+◌, Bool, true, false, ◌||◌, not, nat_eq, List, [], ◌∷◌, ◌++◌, map, codes, if◌then◌else◌}
+use Rattle.std.specs.Prelude.{◌≡◌, ℕ, zero, suc, ◌+◌, Bool, true, false, ◌||◌, ◌&&◌, not, nat_eq, List, [], ◌∷◌, ◌++◌, map, codes, if◌then◌else◌}
 use Rattle.std.specs.List.{list_all, list_any}
 use Rattle.vocabulary.specs.declared.error_kind.ErrorKind.TheVariants.{SyntaxError, BadDeclaration, ParameterWithoutType, FloatingType}
 use Rattle.meaning_derivation.specs.State.{IsError}
@@ -100,6 +100,41 @@ pub record SpecifierExamples : Type 0 where
   pub in_register : unit (codes "register int x;") ≡ bad_until 2
   pub block : is_read (unit (codes "void f(void) { auto int x; register int y; static int z; }")) ≡ true
   pub block_classes : unit (codes "void f(void) { auto register int x; }") ≡ IsTold (IsError BadDeclaration) 9 6
+
+-- Word by word
+
+abbrev pub is_bad : Shown → Bool
+is_bad (IsTold (IsError BadDeclaration) decided stands) = true
+is_bad shown = false
+
+-- a type by itself has no other word beside it
+abbrev pub stands_alone : List ℕ → Bool
+stands_alone word =
+    is_read (unit (word ++ codes " x;")) && (is_bad (unit (word ++ codes " int x;")) && is_bad (unit (word ++ codes " unsigned x;")))
+
+-- the words of storage classes but `register`, and those of functions
+abbrev pub classes_and_functions : List (List ℕ)
+classes_and_functions =
+    codes "typedef" ∷ codes "extern" ∷ codes "static" ∷ codes "auto" ∷ codes "inline" ∷ codes "_Noreturn" ∷ []
+
+pub record WordExamples : Type 0 where
+  pub whole :
+      list_all stands_alone
+      (codes "void" ∷ codes "_Bool" ∷ codes "struct s" ∷ codes "union u" ∷ codes "enum e { A }" ∷ codes "typeof(int)" ∷ codes "typeof(1)" ∷ [])
+      ≡ true
+  pub typedef_name : is_bad (unit (codes "typedef int t; t unsigned x;")) ≡ true
+  pub signs : is_bad (unit (codes "signed unsigned x;")) ≡ true
+  pub signed_words : is_read (unit (codes "signed char a; unsigned char b; signed short c; unsigned long d;")) ≡ true
+  pub alone :
+      list_all (λ word. is_bad (unit (word ++ codes ";")))
+      (codes "register" ∷ codes "const" ∷ codes "volatile" ∷ codes "restrict" ∷ classes_and_functions)
+      ≡ true
+  pub parameters : list_all (λ word. is_bad (unit (codes "int f(" ++ word ++ codes " int a);"))) classes_and_functions ≡ true
+  pub members : list_all (λ word. is_bad (unit (codes "struct s { " ++ word ++ codes " int a; };"))) (codes "register" ∷ classes_and_functions) ≡ true
+  -- two of them at file scope: those of functions aren't classes
+  pub functions : is_read (unit (codes "static inline _Noreturn void f(void);")) ≡ true
+  pub qualified : is_read (unit (codes "static const volatile int x;")) ≡ true
+  pub second_class : list_all (λ word. is_bad (unit (codes "static " ++ word ++ codes " int x;"))) (codes "typedef" ∷ codes "extern" ∷ codes "static" ∷ []) ≡ true
 
 pub record PlaceExamples : Type 0 where
   -- parameters: no class but `register`, and no type goes before a bad class

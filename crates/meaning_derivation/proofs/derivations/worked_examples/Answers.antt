@@ -189,3 +189,18 @@ returns-clause-contexts c = record {
   too_great = refl;
   too_far_down = refl;
 }
+
+pub returns-clause-words : goal.returns-clause-words
+unfolding opened
+returns-clause-words c = record {
+  whole = refl;
+  typedef_name = refl;
+  signs = refl;
+  signed_words = refl;
+  alone = refl;
+  parameters = refl;
+  members = refl;
+  functions = refl;
+  qualified = refl;
+  second_class = refl;
+}

@@ -39,7 +39,7 @@ noted_scopes false s = refl
 waiting_values : (count : ℕ) (s next : State) → next ≡ with_waiting count s → next.values ≡ s.values
 waiting_values count s next is = ap (λ (state : State). state.values) is ∙ noted_values (nat_lt most_pending count) s
 
-waiting_scopes : (count : ℕ) (s next : State) → next ≡ with_waiting count s → next.scopes ≡ s.scopes
+pub waiting_scopes : (count : ℕ) (s next : State) → next ≡ with_waiting count s → next.scopes ≡ s.scopes
 waiting_scopes count s next is = ap (λ (state : State). state.scopes) is ∙ noted_scopes (nat_lt most_pending count) s
 
 -- Rows

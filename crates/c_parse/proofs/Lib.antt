@@ -3,5 +3,7 @@ pub mod Noted
 pub mod Expanded
 pub mod Running
 pub mod Waiting
+pub mod Opened
+pub mod Looked
 pub mod Moving
 pub mod Finishing

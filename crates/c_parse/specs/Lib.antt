@@ -2,4 +2,5 @@ pub mod Rows
 pub mod Telling
 pub mod Steps
 pub mod Moments
+pub mod Kept
 pub mod Answers

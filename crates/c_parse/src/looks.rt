@@ -1,15 +1,16 @@
 // The classes of the next two terminals: that of a name depends on what it is bound to.
-ghost use Rattle.std.specs.Prelude.{◌≡◌, IfSome, option_map};
+ghost use Rattle.std.specs.Prelude.{◌≡◌, if◌then◌else◌, IfSome, None, option_map};
 ghost use Rattle.c_tokens.specs.Seen.{IsKnown};
 ghost use Rattle.meaning_derivation.specs.Taking.{class_in};
 ghost use Rattle.parse_state.specs.Seen.{state_of};
 ghost use Rattle.c_terminals.specs.Seen.{terminal_of};
+ghost use Rattle.c_parse.specs.Kept.{keeps_scopes};
 ghost use Rattle.c_parse.specs.Moments.{MayBeLooks};
 ghost use Rattle.c_parse.specs.Steps.{AreLooks, class_or_end};
 
 use c_terminals::{Terminal, Terminals};
 use parse_state::ParseState;
-use vocabulary::TokenClass;
+use vocabulary::{Action, TokenClass};
 
 /// The class of a terminal.
 pub(crate) fn class_in(state: &ParseState<'_>, terminal: &Terminal) -> TokenClass
@@ -48,6 +49,36 @@ pub(crate) fn next_looks(state: &ParseState<'_>, terminals: &Terminals<'_>) -> L
     Looks {
         next: class_or_end(state, terminals.next()),
         behind: class_or_end(state, terminals.behind()),
+    }
+}
+
+/// What is still remembered of them behind an action.
+pub(crate) fn looks_after(looks: Option<Looks>, action: Action) -> Option<Looks>
+    ensures { result ≡ (if keeps_scopes action then looks else None) }
+{
+    if keeps_scopes(action) { looks } else { None }
+}
+
+// The action binds nothing, and opens and closes no scope. Not all such: those that stand often between two terminals.
+fn keeps_scopes(action: Action) -> bool
+    ensures { result ≡ keeps_scopes action }
+{
+    match action {
+        Action::BeginList => true,
+        Action::BeginAtNext => true,
+        Action::Append(_) => true,
+        Action::JoinSuffixes => true,
+        Action::MakeLeaf(_) => true,
+        Action::MakeNamed(_) => true,
+        Action::MakeOver(_, _) => true,
+        Action::MakeOverTwo(_, _, _) => true,
+        Action::MakeOverList(_) => true,
+        Action::MakeBinary(_, _) => true,
+        Action::MakePostfix(_) => true,
+        Action::MakeMember(_) => true,
+        Action::MakeCall => true,
+        Action::UseName => true,
+        _ => false,
     }
 }
 

@@ -94,8 +94,19 @@ impl Pending {
         }
     }
 
-    /// Puts the items of a row before the others.
+    /// Puts the items of a row before the others. An empty row changes nothing.
     pub(crate) fn push(&mut self, items: &'static [ProductionItem]) -> Result<(), AllocError>
+        requires { length items.now ≤ 15 }
+        ensures { OnOk result (self.new ≡ items.now ++ self.old) }
+    {
+        if items.is_empty() {
+            return Ok(());
+        }
+        self.put_front(items)
+    }
+
+    // The items of a row come before the others.
+    fn put_front(&mut self, items: &'static [ProductionItem]) -> Result<(), AllocError>
         requires { length items.now ≤ 15 }
         ensures { OnOk result (self.new ≡ items.now ++ self.old) }
     {

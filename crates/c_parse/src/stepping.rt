@@ -1,24 +1,22 @@
 // One step: the next item is taken, done, or replaced by a row.
-ghost use Rattle.std.specs.Prelude.{◌≡◌, ◌≤◌, ◌∷◌, IfErr, OnOk, Some, true, length};
+ghost use Rattle.std.specs.Prelude.{◌≡◌, ◌≤◌, ◌∷◌, IfErr, OnOk, true, length};
 ghost use Rattle.vocabulary.specs.declared.production_item.ProductionItem.TheVariants.{Do, Nonterminal};
-ghost use Rattle.meaning_grammar.specs.Choice.{choice};
-ghost use Rattle.meaning_grammar.specs.Sorts.{KeepsSorts};
-ghost use Rattle.meaning_grammar.specs.Weights.{Falls};
+ghost use Rattle.c_opening.specs.Opening.{Opens};
 ghost use Rattle.meaning_derivation.specs.Actions.{act};
 ghost use Rattle.meaning_derivation.specs.Derivation.{is_terminal_item};
 ghost use Rattle.meaning_derivation.specs.Leading.{ComesTo};
-ghost use Rattle.meaning_derivation.specs.Taking.{look_of, second_of};
 ghost use Rattle.parse_state.specs.Seen.{state_of};
 ghost use Rattle.c_parse.specs.Moments.{IsReady, Moves, standing_with};
+ghost use Rattle.c_parse.specs.Steps.{AreLooks};
 ghost use Rattle.c_parse.specs.Telling.{IsTold};
 
 use crate::acting::act;
 use crate::fault::{ParseFault, fault_of_action};
-use crate::looks::known_looks;
+use crate::looks::{Looks, known_looks, looks_after};
 use crate::parser::Parser;
 use crate::refusing::refusal;
 use crate::taking::take;
-use c_grammar::choose;
+use c_opening::open;
 use std::alloc::AllocError;
 use vocabulary::{Action, ProductionItem, Symbol};
 
@@ -43,48 +41,48 @@ fn do_action(parser: &mut Parser<'_>, action: Action) -> Result<(), ParseFault>
 {
     match act(&mut parser.state, action) {
         Ok(()) => {
-            parser.looks = None;
+            parser.looks = looks_after(parser.looks, action);
             Ok(())
         }
         Err(fault) => Err(fault_of_action(fault)),
     }
 }
 
-// A row stands in the place of its symbol.
+// What a symbol opens to stands in its place.
 fn replace(
     parser: &mut Parser<'_>,
     symbol: Symbol,
-    row: &'static [ProductionItem],
+    items: &'static [ProductionItem],
+    looks: Looks,
 ) -> Result<(), AllocError>
     requires ready { IsReady (Nonterminal symbol ∷ parser.old.pending) parser.old }
-    requires chosen { choice symbol (look_of (state_of parser.old.state) parser.old.terminals.terminals) (second_of (state_of parser.old.state) parser.old.terminals.terminals) ≡ Some row.now }
-    requires falls { Falls symbol row.now }
-    requires sorted { KeepsSorts symbol row.now }
-    requires short { length row.now ≤ 15 }
+    requires looked { AreLooks (state_of parser.old.state) parser.old.terminals.terminals looks }
+    requires opens { Opens looks.next looks.behind symbol items.now }
+    requires short { length items.now ≤ 15 }
     ensures { OnOk result (Moves (Nonterminal symbol ∷ parser.old.pending) parser.old parser.new) }
 {
-    parser.pending.push(row)?;
+    parser.pending.push(items)?;
     let count = parser.pending.count();
     parser.state.note_waiting(count);
+    parser.looks = Some(looks);
     Ok(())
 }
 
-// A symbol is replaced by the row that the next two terminals choose.
+// A symbol is replaced by what the next two terminals open it to.
 fn expand(parser: &mut Parser<'_>, symbol: Symbol) -> Result<(), ParseFault>
     requires { IsReady (Nonterminal symbol ∷ parser.old.pending) parser.old }
     ensures moves { OnOk result (Moves (Nonterminal symbol ∷ parser.old.pending) parser.old parser.new) }
     ensures told { IfErr result (IsTold (ComesTo act (standing_with (Nonterminal symbol ∷ parser.old.pending) parser.old))) }
 {
     let looks = known_looks(parser.looks, &parser.state, &parser.terminals);
-    parser.looks = Some(looks);
-    match choose(symbol, [looks.next, looks.behind]) {
+    match open(symbol, [looks.next, looks.behind]) {
         None => Err(refusal(
             &parser.state,
             &parser.terminals,
             ProductionItem::Nonterminal(symbol),
         )),
-        Some(row) => {
-            replace(parser, symbol, row)?;
+        Some(items) => {
+            replace(parser, symbol, items, looks)?;
             Ok(())
         }
     }

@@ -18,7 +18,7 @@ act-requires c =
     record { finds = action_fits c.args.action c.args.parser.now.pending (sorts_of (state_of c.args.parser.now.state).values) (ATree ∷ []) c.requires.sorted }
 
 pub returns-in-Ok-clause-moves : goal.returns-in-Ok-clause-moves
-returns-in-Ok-clause-moves c = act_moves c.args.action c.args.parser.now _ c.requires c.in-Ok.ensures.goes refl c.act.ensures.names refl
+returns-in-Ok-clause-moves c = act_moves c.args.action c.args.parser.now _ c.requires c.in-Ok.ensures.goes refl c.act.ensures.names c.looks_after-parser.ensures
 
 pub returns-in-Err-clause-told : goal.returns-in-Err-clause-told
 returns-in-Err-clause-told c =

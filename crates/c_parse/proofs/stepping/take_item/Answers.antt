@@ -1,5 +1,5 @@
 -- What comes of a terminal that is taken, or isn't, comes of the whole.
-use Rattle.std.proofs.Common.{◌≡◌, ◌∷◌, refl}
+use Rattle.std.proofs.Common.{◌≡◌, ◌∷◌}
 use Rattle.meaning_derivation.specs.Actions.{act}
 use Rattle.meaning_derivation.specs.Leading.{ComesTo}
 use Rattle.meaning_derivation.specs.Taking.{take_one}
@@ -23,4 +23,4 @@ returns-in_err-take-clause-told c =
 
 pub returns-clause-moves : goal.returns-clause-moves
 returns-clause-moves c =
-    take_moves c.args.item c.args.parser.now _ c.requires.terminal c.requires.ready c.in_ok-take.ensures.goes c.in_ok-take.ensures.left c.take.ensures.names c.take.ensures.left_names refl
+    take_moves c.args.item c.args.parser.now _ c.requires.terminal c.requires.ready c.in_ok-take.ensures.goes c.in_ok-take.ensures.left c.take.ensures.names c.take.ensures.left_names tt

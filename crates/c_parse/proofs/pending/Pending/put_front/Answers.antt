@@ -2,7 +2,7 @@
 use Rattle.std.proofs.Common.{arith}
 use Rattle.c_parse.specs.Rows.{waiting}
 use Rattle.c_parse.proofs.Waiting.{pending-few, pending-put, symbols-few}
-use Rattle.c_parse.proofs.pending.Pending.push.Goals as goal
+use Rattle.c_parse.proofs.pending.Pending.put_front.Goals as goal
 
 pub overflow_add-self : goal.overflow_add-self
 overflow_add-self c =

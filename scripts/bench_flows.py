@@ -38,9 +38,9 @@ def steps(count):
 
 
 def ends(count):
-    """Blocks behind one another that each may go to an end of their own."""
-    rows = [f"P{2 * number} > {number + 1} {count + number}" for number in range(count - 1)] + [f"P{2 * count}"]
-    return flow(rows + [f"P{2 * number + 1} E{2 * number + 1}" for number in range(count)])
+    """A block behind which each path goes to an end of its own."""
+    successors = " ".join(str(number) for number in range(1, count + 1))
+    return flow([f"P0 > {successors}", *(f"P{number} E{number}" for number in range(1, count + 1))])
 
 
 def cases(count):

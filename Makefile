@@ -6,6 +6,7 @@ export PYTHONDONTWRITEBYTECODE = 1
 
 PROGRAM := build/ksparse
 WORKBENCH := build/workbench
+FLOWS := build/flows
 # Names with spaces, which a program's own run reads, are none for make.
 SOURCES := $(shell find crates crates.txt HANDLES -name out -prune -o -type f ! -name '* *' -print)
 
@@ -29,6 +30,12 @@ $(WORKBENCH): $(SOURCES) | kit
 	$(PYTHON) scripts/build.py $(RT) workbench_cli if_value /dev/null
 	mkdir -p build
 	cp crates/workbench_cli/out/workbench_cli $@
+
+# The walk over control flow graphs, which no command makes yet: build/flows FILE
+$(FLOWS): $(SOURCES) | kit
+	$(PYTHON) scripts/build.py $(RT) flows_cli /dev/null
+	mkdir -p build
+	cp crates/flows_cli/out/flows_cli $@
 
 # The example has a warning, so the status of the check is 1.
 run: $(PROGRAM)
@@ -61,11 +68,11 @@ costs: | kit
 	$(PYTHON) scripts/costs.py $(RT)
 
 # All, or the calls of some families: make bench FAMILIES=macros
-bench: $(PROGRAM) $(WORKBENCH)
-	$(PYTHON) scripts/bench.py $(PROGRAM) $(WORKBENCH) $(FAMILIES)
+bench: $(PROGRAM) $(WORKBENCH) $(FLOWS)
+	$(PYTHON) scripts/bench.py $(PROGRAM) $(WORKBENCH) $(FLOWS) $(FAMILIES)
 
-fuzz: $(PROGRAM) $(WORKBENCH)
-	$(PYTHON) scripts/fuzz.py $(PROGRAM) $(WORKBENCH)
+fuzz: $(PROGRAM) $(WORKBENCH) $(FLOWS)
+	$(PYTHON) scripts/fuzz.py $(PROGRAM) $(WORKBENCH) $(FLOWS)
 
 # Worked rows over the checker that fuzz compares the program with.
 PREPROCESSED := aggregates_assertions aggregates_attributes aggregates_enumerators aggregates_initializers aggregates_members aggregates_tags aggregates_typeof an_include_directory checks_through_macros checks_through_macros_of_headers command_lines declarations_bodies declarations_in_blocks declarations_members declarations_name_classes declarations_nested_functions declarations_parameters declarations_redeclared declarations_specifiers declarations_type_names expansion_arguments expansion_changing_names expansion_hidden_names expansion_limits expansion_of_kernel_macros expansion_pasting expansion_strings expressions_casts expressions_literals expressions_names expressions_of_all_levels expressions_refused header_names include_limits include_limits_of_headers includes kernel_headers option_words order_at_one_token parsed_names parsed_not_in_the_form preprocessed_text preprocessed_text_of_headers statements_and_labels statements_and_scopes statements_of_all_kinds statements_of_contexts statements_refused syntax_errors undefined_names undefined_names_of_headers unsupported_forms unsupported_words whole_files

@@ -2,20 +2,22 @@
 """Measures the program on files of several kinds, and sparse and tcc beside it where they are installed; then calls of
 libraries that no command makes yet.
 
-usage: bench.py PROGRAM WORKBENCH [FAMILY..]
+usage: bench.py PROGRAM WORKBENCH FLOWS [FAMILY..]
 
-With families, as `macros`, `#if`, `headers`, `-E` or `parsing`, only these are measured.
+With families, as `macros`, `#if`, `headers`, `-E`, `parsing` or `flows`, only these are measured.
 
 Prints for each file its bytes and tokens, the processor time of a check, also by the token, and the peak
 memory, also by the token where it is large. Where valgrind is installed, a column has the instructions by the
 token, above those of a check of an empty file: they don't depend on what else the machine does. They are
 counted on a smaller file of the same kind. A second table has those of each stage of a check, a third one has `-E` of files
-and their headers, files that the grammar reads and no rule judges, and the calls, which WORKBENCH makes.
+and their headers, files that the grammar reads and no rule judges, the calls, which WORKBENCH makes,
+and control flow graphs, which FLOWS walks.
 
 Exits 1 where a file of the first form takes more than a tenth longer by the token than a smaller one does,
 once the smaller one takes long enough to be measured, or where a largest file takes more than five seconds; where a
 call or `-E` takes more than eleven times as long with ten times as many tokens, or macros in chains more than sixteen times;
-where a guarded header that is read again and again takes too long, or 2,097,151 replacements more than 0.3 seconds; and
+where a guarded header that is read again and again takes too long, 2,097,151 replacements more than 0.3 seconds, or a
+flow of 100,000 more than 0.1 seconds; and
 where one of the deepest and longest texts has another answer than it must.
 """
 import os
@@ -26,6 +28,7 @@ import sys
 import tempfile
 from typing import Callable, NamedTuple
 
+import bench_flows
 import bench_texts as texts
 
 # The least seconds of a check that others are compared with: below, its start hides what it costs.
@@ -52,6 +55,9 @@ MOST_DOUBLING_SECONDS = 0.3
 MOST_GUARDED_SECONDS = 0.02
 # So many uses or lines have the files of `-E` whose instructions are counted.
 COUNTED_USES = 10000
+# So long may a flow of this size take, the reading of it included.
+TIMED_FLOW = 100000
+MOST_FLOW_SECONDS = 0.1
 # A call that takes less is compared as one that takes this: its start hides what it costs.
 LEAST_CALL_SECONDS = 0.01
 
@@ -489,7 +495,19 @@ def family_grows_in_step(program, family):
     return passed and seconds[family.sizes[-1]] <= family.most_seconds
 
 
-def calls_pass(program, workbench, families):
+def flows_grow_in_step(flows, name, make, sizes):
+    """Whether flows of a kind take only so many times as long where they are ten times as large. Prints their lines."""
+    checker = Checker(name, [flows], (0,))
+    seconds, passed = {}, True
+    for size in sizes:
+        seconds[size] = print_rows([checker], name, make(size), None)
+        before = seconds.get(size // 10)
+        if before is not None and seconds[size] > MOST_CALL_RATIO * max(before, LEAST_CALL_SECONDS):
+            passed = False
+    return passed and seconds[TIMED_FLOW] <= MOST_FLOW_SECONDS
+
+
+def calls_pass(program, workbench, flows, families):
     """Whether runs and calls of these families, or of all, take no more than they may. Prints their lines."""
 
     def is_asked(name):
@@ -503,6 +521,9 @@ def calls_pass(program, workbench, families):
         passed = False
     for call in CALLS:
         if is_asked(call.name) and not call_grows_in_step(workbench, call):
+            passed = False
+    for name, make, sizes in bench_flows.KINDS:
+        if is_asked(name) and not flows_grow_in_step(flows, name, make, sizes):
             passed = False
     for extreme in EXTREMES:
         if is_asked(extreme.name) and not has_its_answer(workbench, extreme):
@@ -532,15 +553,15 @@ def checkers_of(program):
 
 
 def main():
-    program, workbench = map(os.path.abspath, sys.argv[1:3])
-    families = sys.argv[3:]
+    program, workbench, flows = map(os.path.abspath, sys.argv[1:4])
+    families = sys.argv[4:]
     heads = ["bytes", "tokens", "seconds", "peak KiB", "ns/token", "bytes/token", "instr/token"]
     passed = True
     if not families:
         print_line(["file", *heads])
         passed = program_passes(checkers_of(program))
     print_line(["call", *heads])
-    return 0 if calls_pass(program, workbench, families) and passed else 1
+    return 0 if calls_pass(program, workbench, flows, families) and passed else 1
 
 
 if __name__ == "__main__":

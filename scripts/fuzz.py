@@ -2,7 +2,7 @@
 """Batters the program with random files in, near and outside the first form, and with random words; and the calls of libraries
 that no command makes yet.
 
-usage: fuzz.py PROGRAM WORKBENCH [COUNT [SEED]]
+usage: fuzz.py PROGRAM WORKBENCH FLOWS [COUNT [SEED]]
 
 A run must end by itself within ten seconds, write nothing to standard output, and give for a file the
 status and the bytes on standard error that `rules.py` and `reference` work out from the rules alone. Random words and files with
@@ -10,6 +10,8 @@ headers must have the bytes and the status that `reference` works out.
 
 Units of random conditionals and definitions, and random macros, go through the tools of WORKBENCH, which must print what
 `workbench_answers.py` works out. A unit with another answer is made smaller before it is printed.
+
+Random control flow graphs go through FLOWS, which must print the answers that `made_flows.py` finds by following their paths.
 
 Where a compiler is installed, random macros go through it and through `reference`, and both must come to the same tokens.
 """
@@ -21,6 +23,7 @@ import tempfile
 
 import compilers
 from fuzz_units import check_commands, check_headers, check_readings, check_tools, run
+from made_flows import answer as flow_answer, flow_text, random_flow
 from made_units import Maker
 from reference.commands import answer
 
@@ -154,6 +157,22 @@ def check_first_form(program, folder, chance, count):
     return True
 
 
+def check_flows(flows, folder, chance, count):
+    """Compares the answers to so many flows, a line each; true where all are alike."""
+    made = [random_flow(chance) for _ in range(count)]
+    with open(os.path.join(folder, "f.txt"), "w", encoding="utf-8") as file:
+        file.writelines(flow_text(*flow) for flow in made)
+    status, out, err = run(flows, ["f.txt"], folder)
+    if status != 0 or err:
+        print(f"fuzz: flows: status {status}, {err!r}")
+        return False
+    for flow, found in zip(made, out.decode().splitlines(), strict=True):
+        if found != flow_answer(*flow):
+            print(f"fuzz: flow {flow_text(*flow)!r}: {found} in place of {flow_answer(*flow)}")
+            return False
+    return True
+
+
 def check_expansions(folder, chance, count):
     """Compares so many expansions with those of the compilers that are installed; true where all are alike."""
     for compiler in filter(shutil.which, COMPILERS):
@@ -166,9 +185,9 @@ def check_expansions(folder, chance, count):
 
 
 def main():
-    program, workbench = map(os.path.abspath, sys.argv[1:3])
-    count = int(sys.argv[3]) if len(sys.argv) > 3 else 2000
-    seed = int(sys.argv[4]) if len(sys.argv) > 4 else random.randrange(1 << 32)
+    program, workbench, flows = map(os.path.abspath, sys.argv[1:4])
+    count = int(sys.argv[4]) if len(sys.argv) > 4 else 2000
+    seed = int(sys.argv[5]) if len(sys.argv) > 5 else random.randrange(1 << 32)
     chance = random.Random(seed)
     print(f"fuzz: {count} files, seed {seed}")
     with tempfile.TemporaryDirectory() as folder:
@@ -177,6 +196,7 @@ def main():
             and check_commands(program, folder, chance, count)
             and check_readings(program, folder, chance, count)
             and check_tools(workbench, folder, chance, count)
+            and check_flows(flows, folder, chance, count)
             and check_headers(workbench, folder, chance, count)
             and check_expansions(folder, chance, count // 4)
         )

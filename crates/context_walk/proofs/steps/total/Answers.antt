@@ -1,0 +1,22 @@
+-- One step more.
+use Rattle.std.proofs.Common.{List, map, ap, arith}
+use Rattle.std.proofs.lemmas.Int.{ints}
+use Rattle.meaning_paths.specs.Graphs.{size_of_steps}
+use Rattle.control_flow.specs.declared.step.Step.{Step}
+use Rattle.control_flow.specs.Seen.{step_of, the_key}
+use Rattle.context_walk.specs.Counts.{total}
+use Rattle.context_walk.proofs.CountLemmas.{change_of_size}
+use Rattle.context_walk.proofs.steps.total.Goals as goal
+
+pub steps-preserved : goal.steps-preserved
+steps-preserved c =
+    let split = c.in-Some.ensures.cases.0 in
+    let totals = ap (λ (steps : List Step). total the_key (map step_of steps)) split in
+    let sizes = ap (λ (steps : List Step). size_of_steps (map step_of steps)) split in
+    let size = change_of_size the_key (step_of c.in-Some.step.now) in
+    let before = c.steps.invariant in
+    record {
+      sum = omega (arith, ints, before.sum, before.high, before.low, totals, sizes, size.high, size.low, c.change-sum.ensures, c.requires);
+      high = omega (arith, ints, before.sum, before.high, before.low, totals, sizes, size.high, size.low, c.change-sum.ensures, c.requires);
+      low = omega (arith, ints, before.sum, before.high, before.low, totals, sizes, size.high, size.low, c.change-sum.ensures, c.requires);
+    }

@@ -1,0 +1,6 @@
+pub mod Counts
+pub mod Spread
+pub mod Reached
+pub mod Passed
+pub mod Scans
+pub mod Met

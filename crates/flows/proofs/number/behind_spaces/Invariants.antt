@@ -1,0 +1,8 @@
+use Rattle.std.proofs.Common.{◌≤◌, length}
+use Rattle.flows.proofs.number.behind_spaces.Given as goal
+
+abbrev pub invariant-spaces : goal.invariant-spaces
+invariant-spaces l = length l.rest ≤ length l.text
+
+abbrev pub decreases-spaces : goal.decreases-spaces
+decreases-spaces l = length l.rest

@@ -1,0 +1,92 @@
+// The command: the flows of a file to their answers. Who writes them isn't known here.
+ghost use Rattle.std.specs.Prelude.{◌≡◌, IsErrOf};
+ghost use Rattle.meaning_outside.specs.Faults.{Told};
+
+use crate::text::{NoAnswer, push_answers};
+use crate::wrong::Place;
+use itoa::Buffer;
+use sparse_outside::{Files, Load, load_leaves_buffer};
+use std::alloc::{AllocError, Global};
+
+/// The most bytes that a file may have.
+const MOST_BYTES: usize = 1_073_741_824;
+
+/// Why the answers end where they do.
+#[derive(Clone, Copy)]
+pub enum Stop {
+    /// The line at this place isn't in the notation, or its flow isn't one that is walked.
+    Wrong(Place),
+    NoFile,
+    ReadFault,
+    NoMemory,
+}
+
+impl From<NoAnswer> for Stop {
+    ghost use Rattle.flows.specs.Stops.{IsStopOf};
+
+    ghost from_gives = { IsStopOf };
+
+    fn from(why: NoAnswer) -> Self {
+        match why {
+            NoAnswer::Wrong(place) => Stop::Wrong(place),
+            NoAnswer::NoMemory => Stop::NoMemory,
+        }
+    }
+}
+
+impl From<AllocError> for Stop {
+    ghost use Rattle.std.specs.Prelude.{◌≡◌};
+    ghost use Rattle.flows.specs.declared.command.Stop.TheVariants.{NoMemory};
+
+    ghost from_gives = { λ _ stop. stop ≡ NoMemory };
+
+    fn from(_error: AllocError) -> Self {
+        Stop::NoMemory
+    }
+}
+
+/// Appends the answers to the flows of the file at this path, a line each, up to the first line that has none.
+///
+/// # Errors
+/// `Wrong` at that line; `NoFile`; `ReadFault` exactly where the count of faults rose; `NoMemory`.
+pub fn flow_answers<F: Files>(
+    shown: &mut Vec<u8>,
+    alloc: Global,
+    path: &[u8],
+    files: &mut F,
+) -> Result<(), Stop>
+    ensures read { Told (F.faults files.old) (F.faults files.new) (IsErrOf result Stop.ReadFault) }
+    ensures keeps { F.holds files.new ≡ F.holds files.old }
+{
+    load_leaves_buffer();
+    let mut text = Vec::new(alloc);
+    match files.load(path, MOST_BYTES, &mut text) {
+        Load::Whole => Ok(push_answers(shown, alloc, &text)?),
+        Load::Missing | Load::TooLong => Err(Stop::NoFile),
+        Load::Failed => Err(Stop::ReadFault),
+        Load::NoMemory => Err(Stop::NoMemory),
+    }
+}
+
+/// Appends what is told of a stop, in a line.
+pub fn push_stop(text: &mut Vec<u8>, path: &[u8], stop: Stop) -> Result<(), AllocError> {
+    text.extend_from_slice(path)?;
+    match stop {
+        Stop::Wrong(place) => push_place(text, place)?,
+        Stop::NoFile => text.extend_from_slice(b": no such file, or more than 1073741824 bytes")?,
+        Stop::ReadFault => text.extend_from_slice(b": reading failed")?,
+        Stop::NoMemory => text.extend_from_slice(b": out of memory")?,
+    }
+    text.push(b'\n')?;
+    Ok(())
+}
+
+fn push_place(text: &mut Vec<u8>, place: Place) -> Result<(), AllocError> {
+    let mut buffer = Buffer::new();
+    text.push(b':')?;
+    text.extend_from_slice(buffer.format(place.line).as_bytes())?;
+    text.push(b':')?;
+    text.extend_from_slice(buffer.format(place.column).as_bytes())?;
+    text.extend_from_slice(b": ")?;
+    text.extend_from_slice(place.wrong.text())
+}

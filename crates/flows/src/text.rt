@@ -1,0 +1,102 @@
+// The lines of a text to their answers, a line each.
+ghost use Rattle.std.specs.Prelude.{◌≡◌, ◌<◌, ◌++◌, OnOk, codes, length};
+ghost use Rattle.std.specs.Fmt.{decimal};
+ghost use Rattle.flows.specs.Shown.{shown_answer, shown_exit};
+
+use crate::check::asked_fault;
+use crate::line::{Line, NoLine, read_line};
+use crate::wrong::{Fault, Place};
+use context_walk::{ContextAnswer, walk};
+use itoa::Buffer;
+use memchr::memchr;
+use std::alloc::{AllocError, Global};
+
+/// Why a text is answered no further.
+#[derive(Clone, Copy)]
+pub enum NoAnswer {
+    Wrong(Place),
+    NoMemory,
+}
+
+impl From<AllocError> for NoAnswer {
+    fn from(_error: AllocError) -> Self {
+        NoAnswer::NoMemory
+    }
+}
+
+/// Appends the answers to the lines of a text, up to the first line that has none.
+pub fn push_answers(shown: &mut Vec<u8>, alloc: Global, text: &[u8]) -> Result<(), NoAnswer> {
+    let mut rest = text;
+    let mut number: usize = 0;
+    'lines: while !rest.is_empty() {
+        let (line, others) = first_line(rest);
+        number = number.saturating_add(1);
+        match answer_line(alloc, line) {
+            Ok(answer) => push_answer(shown, answer)?,
+            Err(NoLine::NoMemory) => return Err(NoAnswer::NoMemory),
+            Err(NoLine::Wrong(fault)) => return Err(NoAnswer::Wrong(place_of(number, line, fault))),
+        }
+        rest = others;
+    }
+    Ok(())
+}
+
+// The first line without its new-line, and what stands behind that.
+fn first_line(text: &[u8]) -> (&[u8], &[u8])
+    requires { 0 < length text.now }
+    ensures { length result.1.now < length text.now }
+{
+    match memchr(b'\n', text) {
+        Some(end) => (&text[..end], &text[end + 1..]),
+        None => (text, &[]),
+    }
+}
+
+fn place_of(number: usize, line: &[u8], fault: Fault) -> Place {
+    Place {
+        line: number,
+        column: line.len().saturating_sub(fault.left).saturating_add(1),
+        wrong: fault.wrong,
+    }
+}
+
+// The answer for the flow of a line.
+fn answer_line(alloc: Global, text: &[u8]) -> Result<ContextAnswer, NoLine> {
+    let Line { flow, note, lefts } = read_line(alloc, text)?;
+    if let Some((number, wrong)) = asked_fault(flow.blocks.as_slice(), note.enters) {
+        let left = lefts.get(number).copied().unwrap_or(0);
+        return Err(NoLine::Wrong(Fault { left, wrong }));
+    }
+    Ok(walk(alloc, &flow, &note)?)
+}
+
+fn push_answer(shown: &mut Vec<u8>, answer: ContextAnswer) -> Result<(), AllocError>
+    ensures { OnOk result (shown.new.items ≡ shown.old.items ++ shown_answer answer) }
+{
+    match answer {
+        ContextAnswer::Balanced => shown.extend_from_slice(b"Balanced\n"),
+        ContextAnswer::Different(token) => push_token(shown, b"Different(", token),
+        ContextAnswer::Below(token) => push_token(shown, b"Below(", token),
+        ContextAnswer::WrongExit(token, found) => push_exit(shown, token, found),
+    }
+}
+
+fn push_token(shown: &mut Vec<u8>, front: &[u8], token: u32) -> Result<(), AllocError>
+    ensures { OnOk result (shown.new.items ≡ shown.old.items ++ front.now ++ decimal token ++ codes ")\n") }
+{
+    let mut buffer = Buffer::new();
+    shown.extend_from_slice(front)?;
+    shown.extend_from_slice(buffer.format(token).as_bytes())?;
+    shown.extend_from_slice(b")\n")
+}
+
+fn push_exit(shown: &mut Vec<u8>, token: u32, found: i64) -> Result<(), AllocError>
+    ensures { OnOk result (shown.new.items ≡ shown.old.items ++ shown_exit token found) }
+{
+    let mut buffer = Buffer::new();
+    shown.extend_from_slice(b"WrongExit(")?;
+    shown.extend_from_slice(buffer.format(token).as_bytes())?;
+    shown.extend_from_slice(b", ")?;
+    shown.extend_from_slice(buffer.format(found).as_bytes())?;
+    shown.extend_from_slice(b")\n")
+}

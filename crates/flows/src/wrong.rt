@@ -1,0 +1,53 @@
+// What can be wrong with a line, and where.
+
+/// What is wrong with a line.
+#[derive(Clone, Copy, Debug, PartialEq, Eq)]
+pub enum Wrong {
+    NoStep,
+    NoNumber,
+    LargeNumber,
+    NoOpening,
+    NoComma,
+    NoClosing,
+    NoEnd,
+    NoCounts,
+    TooManySuccessors,
+    NoPointFirst,
+    NoSuchBlock,
+    LargeSum,
+}
+
+impl Wrong {
+    /// What is written of it.
+    pub fn text(self) -> &'static [u8] {
+        match self {
+            Wrong::NoStep => b"a step or `-` is expected".as_slice(),
+            Wrong::NoNumber => b"a number is expected".as_slice(),
+            Wrong::LargeNumber => b"the number is too large".as_slice(),
+            Wrong::NoOpening => b"`(` is expected".as_slice(),
+            Wrong::NoComma => b"`,` is expected".as_slice(),
+            Wrong::NoClosing => b"`)` is expected".as_slice(),
+            Wrong::NoEnd => b"the end of the line is expected".as_slice(),
+            Wrong::NoCounts => b"`>`, `|` or `;` is expected".as_slice(),
+            Wrong::TooManySuccessors => b"the block has too many successors".as_slice(),
+            Wrong::NoPointFirst => b"the block has steps and doesn't begin with a point".as_slice(),
+            Wrong::NoSuchBlock => b"the block has a successor that is no block".as_slice(),
+            Wrong::LargeSum => b"the numbers sum up to 2^63 or more".as_slice(),
+        }
+    }
+}
+
+/// What is wrong, and how many bytes of the line stand there and behind.
+#[derive(Clone, Copy, Debug, PartialEq, Eq)]
+pub struct Fault {
+    pub left: usize,
+    pub wrong: Wrong,
+}
+
+/// What is wrong with a text, by line and column, both counted from 1.
+#[derive(Clone, Copy, Debug, PartialEq, Eq)]
+pub struct Place {
+    pub line: usize,
+    pub column: usize,
+    pub wrong: Wrong,
+}

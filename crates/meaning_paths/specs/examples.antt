@@ -1,0 +1,3 @@
+-- Worked examples.
+pub mod Graphs
+pub mod Loops

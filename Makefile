@@ -37,6 +37,12 @@ $(FLOWS): $(SOURCES) | kit
 	mkdir -p build
 	cp crates/flows_cli/out/flows_cli $@
 
+# How a file is read, for developers: build/trees FILE
+build/trees: $(SOURCES) | kit
+	$(PYTHON) scripts/build.py $(RT) trees_cli /dev/null
+	mkdir -p build
+	cp crates/trees_cli/out/trees_cli $@
+
 # The example has a warning, so the status of the check is 1.
 run: $(PROGRAM)
 	cd examples && ../$(PROGRAM) user_pointer.c; test $$? -eq 1

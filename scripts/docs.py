@@ -114,7 +114,7 @@ def blocks(text):
 @functools.lru_cache(None)
 def targets():
     with open(os.path.join(TOP, "Makefile"), encoding="utf-8") as text:
-        return set(re.findall(r"^([\w-]+):", text.read(), re.MULTILINE))
+        return set(re.findall(r"^([\w/-]+):", text.read(), re.MULTILINE))
 
 
 def row_findings(told, header, near):

@@ -2,6 +2,7 @@
 use ksparse::{Exit, ksparse};
 use sparse_outside::{HonestFiles, MemorySink, Sink, Words};
 use std::alloc::{AllocError, Global};
+use trees::trees;
 use workbench::{Stop, workbench};
 
 /// A program, each over a public call. A further one has its variant here, its name and its call.
@@ -9,6 +10,8 @@ use workbench::{Stop, workbench};
 pub enum Program {
     /// The checker, over its top call.
     Ksparse,
+    /// The tree of a file, as developers see it.
+    Trees,
     /// Calls of libraries that no command of the checker makes yet. Why there is no text isn't written.
     Workbench,
 }
@@ -34,6 +37,7 @@ impl Program {
     pub fn named(name: &str) -> Option<Self> {
         match name {
             "ksparse" => Some(Program::Ksparse),
+            "trees" => Some(Program::Trees),
             "workbench" => Some(Program::Workbench),
             _ => None,
         }
@@ -50,6 +54,7 @@ impl Program {
         let mut err = MemorySink::new(alloc, ROOM)?;
         let exit = match self {
             Program::Ksparse => ksparse(alloc, words, files, &mut out, &mut err),
+            Program::Trees => trees(alloc, words, files, &mut out, &mut err),
             Program::Workbench => run_workbench(alloc, words, files, &mut out),
         };
         Ok(Ran {

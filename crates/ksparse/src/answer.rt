@@ -129,8 +129,8 @@ fn expand_file<F: Files>(
     }
 }
 
-// The reply to a unit that ends early.
-fn tell_stop(alloc: Global, names: &Names, fault: PreFault) -> Result<Written, Stop>
+/// The reply to a unit that ends early.
+pub fn tell_stop(alloc: Global, names: &Names, fault: PreFault) -> Result<Written, Stop>
     requires { IsKnownFault names.now fault }
     ensures right { IfOk result (λ written. TellsStop (stop_of names.now fault) (reply_seen written)) }
     ensures read { IsErrOf result Stop.ReadFault ↔ (fault ≡ PreFault.ReadFault) }

@@ -21,9 +21,12 @@ mod top;
 mod warnings;
 mod write;
 
+pub use answer::{Stop, tell_stop};
 pub use check::check_tokens;
 pub use command::{Command, WordFault, read_words};
 pub use examples::worked_examples;
 pub use exit::Exit;
+pub use parsing::tell_fault;
 pub use reply::Written;
 pub use top::ksparse;
+pub use write::deliver;

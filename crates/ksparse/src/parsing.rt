@@ -35,7 +35,7 @@ pub(crate) fn parse_fault(alloc: Global, names: &Names, tokens: &[Token]) -> Opt
 }
 
 /// The reply to tokens that parsing refuses for this.
-pub(crate) fn tell_fault(
+pub fn tell_fault(
     alloc: Global,
     names: &Names,
     toks: &UnitTokens,

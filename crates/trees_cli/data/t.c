@@ -1,0 +1,2 @@
+typedef int t;
+void f(t *a) { *a = 1; }

@@ -1,3 +1,4 @@
 -- Worked examples.
 pub mod Graphs
 pub mod Loops
+pub mod Calls

@@ -2,6 +2,7 @@
 ghost use Rattle.meaning_paths.specs.laws.Rules.{BalancedPathsBalance, HasOneAnswer, HaveEqualAnswers};
 ghost use Rattle.meaning_paths.specs.laws.Walks.{FrontsArePaths};
 ghost use Rattle.meaning_paths.specs.examples.Loops.{LoopExamples, JoinExamples};
+ghost use Rattle.meaning_paths.specs.examples.Calls.{CallExamples};
 
 /// Any set of paths, for laws to speak of. Nothing has to be a value of such a type.
 pub trait PathSet {
@@ -28,8 +29,9 @@ pub fn fronts_of_paths_are_paths<S>()
     ensures { FrontsArePaths S }
 {}
 
-/// A loop that acquires once a turn, on two turns, and two ways that meet, by hand.
+/// A loop that acquires once a turn, on two turns, two ways that meet, and calls, by hand.
 pub fn worked_examples()
     ensures loops { LoopExamples }
     ensures joins { JoinExamples }
+    ensures calls { CallExamples }
 {}

@@ -1,5 +1,6 @@
 -- The walks of the examples.
-use Rattle.std.proofs.Common.{pos, false, [], refl, inl, inr}
+use Rattle.std.proofs.Common.{pos, false, [], refl, inl, inr, arith}
+use Rattle.std.proofs.lemmas.Int.{ints}
 use Rattle.meaning_paths.specs.Walks.{begins, passes, turns}
 use Rattle.meaning_paths.proofs.paths.worked_examples.Goals as goal
 
@@ -25,3 +26,6 @@ returns-clause-joins c = record {
   );
   wrong = ((_, (2, [], passes (passes (turns (passes (passes (turns (passes (begins refl)) (inl refl) refl))) (inl refl) refl))), refl), λ equal. cc);
 }
+
+pub returns-clause-calls : goal.returns-clause-calls
+returns-clause-calls c = record { counted = refl; meets_too_few = (refl, inl (omega (arith, ints))); leaves_too_few = (refl, inr (omega (arith, ints))) }

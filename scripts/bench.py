@@ -48,7 +48,7 @@ COUNTED_TOKENS = 100000
 MOST_CALL_RATIO = 11
 # The sets of names that a chain hides outgrow the caches.
 MOST_CHAIN_RATIO = 16
-# So do the tables of a million different names.
+# So do the tables of a million different names or types.
 MOST_NAMES_RATIO = 20
 MOST_DOUBLING_SECONDS = 0.3
 # So often is a guarded header included, 51 MB by the count of the limit, in no more than this.
@@ -122,7 +122,7 @@ def of_parsing(name, before, front, middle, back, after, sizes):
 
 class Call(NamedTuple):
     """Calls of a library: their name, the words of the command before and behind the file, files of each of the sizes,
-    and how many times as long one of ten times the size may take.
+    how many times as long one of ten times the size may take, and what is written for a size, where that is asked.
     """
 
     name: str
@@ -131,6 +131,7 @@ class Call(NamedTuple):
     make: Callable
     sizes: tuple
     most_ratio: int
+    answer: Callable | None = None
 
 
 def of_if(name, make):
@@ -158,9 +159,9 @@ def of_types(name, make, most_ratio=MOST_NAMES_RATIO):
     return Call("types: " + name, ["types"], [], make, CALL_TOKENS, most_ratio)
 
 
-def of_texts(name, make, sizes, most_ratio=MOST_CALL_RATIO):
+def of_texts(name, make, sizes, answer, most_ratio=MOST_CALL_RATIO):
     """The texts of types, or of failures."""
-    return Call("texts: " + name, ["texts"], [], make, sizes, most_ratio)
+    return Call("texts: " + name, ["texts"], [], make, sizes, most_ratio, answer)
 
 
 def of_constants(name, make, sizes):
@@ -226,9 +227,9 @@ CALLS = (
     of_types("aggregates", texts.aggregates),
     of_types("identities", texts.identities),
     of_types("repeats", texts.repeated_types, MOST_CALL_RATIO),
-    of_texts("stars", texts.spelled_levels(b"pointers"), (10000, 100000, 1000000)),
-    of_texts("levels of arrays", texts.spelled_levels(b"arrays"), (50000, 500000)),
-    of_texts("failures in order", texts.failures, (1000, 10000, 100000)),
+    of_texts("stars", texts.spelled_levels(b"pointers"), (10000, 100000, 1000000), texts.spelling_of(b"*"), MOST_NAMES_RATIO),
+    of_texts("levels of arrays", texts.spelled_levels(b"arrays"), (50000, 500000), texts.spelling_of(b"[1]")),
+    of_texts("failures in order", texts.failures, (1000, 10000, 100000), texts.failures_in_order),
     of_constants("a sum", texts.folded_chain(b"literal_1", b"sums"), (60000, 600000)),
     of_constants("a chain of &&", texts.folded_chain(b"literal_1", b"ands"), (60000, 600000)),
     of_constants("?: to the right", texts.folded_chain(b"literal_3", b"arms"), (40000, 400000)),
@@ -455,7 +456,20 @@ def call_grows_in_step(workbench, call):
         before = seconds.get(size // 10)
         if before is not None and seconds[size] > call.most_ratio * max(before, LEAST_CALL_SECONDS):
             passed = False
-    return passed
+    return has_the_answer(workbench, call) and passed
+
+
+def has_the_answer(workbench, call):
+    """Whether what the largest text of a call must write is written, where that is asked."""
+    if call.answer is None:
+        return True
+    size = call.sizes[-1]
+    with Folder(call.make(size)) as folder:
+        done = subprocess.run([workbench, *call.words, "t.c", *call.behind], cwd=folder, stdout=subprocess.PIPE, check=False)
+    if done.stdout == call.answer(size):
+        return True
+    print(f"bench: {call.name}: another answer, or status {done.returncode}")
+    return False
 
 
 def doubles_in_time(workbench):

@@ -365,6 +365,21 @@ def failures(count):
     return b"commands called n on S1 " + b"".join(b"at_%d S1 " % token for token in order) + b"warnings\n"
 
 
+def spelling_of(word):
+    """How that type is spelled, where this word stands for a level."""
+    return lambda count: b"int" + b" %b" % word * count + b"\n"
+
+
+def failures_in_order(count):
+    """The lines of those failures: one for each of the first tokens."""
+    columns, column = [], 1
+    for word in failures(count).split(b" ")[:count]:
+        columns.append(column)
+        column += len(word) + 1
+    line = b"t.c:1:%d: warning: symbol 'n' was not declared. Should it be static?\n"
+    return b"".join(line % column for column in columns)
+
+
 def folded_chain(front, link):
     """A chain of so many links over a literal, each folded."""
     return lambda count: b"int nodes int %b %b_%d show\n" % (front, link, count)

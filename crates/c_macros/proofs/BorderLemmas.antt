@@ -26,6 +26,7 @@ use Rattle.c_macros.specs.declared.definition.Macro.{Macro}
 use Rattle.c_macros.specs.declared.item.Item.{Item}
 use Rattle.c_macros.specs.declared.run.Run.{Run}
 use Rattle.c_macros.specs.Ends.{budget_by}
+use Rattle.number_sets.proofs.PlainLemmas.{numbers_at-plain}
 use Rattle.c_macros.specs.Expanded.{expanded_of, fresh_item, no_sets, token_of}
 use Rattle.c_macros.specs.Meaning.{IsExpansion}
 use Rattle.c_macros.specs.Parameters.{params_in}
@@ -144,7 +145,7 @@ last-reads names table apart more = record {
   spells = record {
     texts = spelled_by-known names;
     apart = spelled_by-KeepsApart names apart;
-    empty = λ set none. ap (names_of (spelled_by names)) (ap (numbers_at table) none ∙ ap (λ t. numbers_at t 0) more.1);
+    empty = λ set none. ap (names_of (spelled_by names)) (ap (numbers_at table) none ∙ ap (λ t. numbers_at t 0) more.1 ∙ numbers_at-plain more.0);
   };
   hides = λ set is. refl;
 }

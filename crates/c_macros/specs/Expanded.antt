@@ -34,9 +34,9 @@ EndsWith left e = e.end ≡ expansion.Finished (budget_by left)
 abbrev pub FaultIsOf : ExpandFault → expansion.Expanded → Type 0
 FaultIsOf fault e = Ends fault e
 
--- the sets of a new table: the empty one, and that of 0 alone
+-- the sets of a new table: the empty one, and that of each number alone
 abbrev pub no_sets : sets.Table
-no_sets = [] ∷ (0 ∷ []) ∷ []
+no_sets = sets.plain_sets
 
 -- a token that hides no name
 abbrev pub fresh_item : Token → Item

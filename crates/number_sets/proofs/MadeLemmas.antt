@@ -11,10 +11,11 @@ use Rattle.number_sets.specs.declared.pair.Operation.{Operation}
 use Rattle.number_sets.specs.declared.pair.Operation.TheVariants.{Union, Intersection}
 use Rattle.number_sets.specs.declared.pair.Pair.{Pair}
 use Rattle.number_sets.specs.NumberSets.{Table, has}
-use Rattle.number_sets.specs.Branches.{sets_of, count, levels_of, IsSplit, of_both, IsMade, HasToo}
+use Rattle.number_sets.specs.Branches.{sets_of, bits_of, count, levels_of, IsSplit, of_both, IsMade, HasToo}
 use Rattle.number_sets.specs.Branches.{Grows}
 use Rattle.number_sets.proofs.TableLemmas.{or-false}
-use Rattle.number_sets.proofs.BranchLemmas.{has-empty, has-zero, has-Grows, levels_of-plain, levels_of-some}
+use Rattle.number_sets.proofs.PlainLemmas.{bits_of-most, bits_of-within}
+use Rattle.number_sets.proofs.BranchLemmas.{has-empty, has-single, has-Grows, levels_of-empty, levels_of-plain, levels_of-some}
 
 module _ (bs : List Branch) (pair : Pair) (left_stands : pair.left < count bs) (right_stands : pair.right < count bs) where
   -- the union with the empty set on the left
@@ -54,7 +55,7 @@ module _ (bs : List Branch) (pair : Pair) (left_stands : pair.left < count bs) (
         left_stands = left_stands;
         right_stands = right_stands;
         stands = omega arith;
-        levels = λ most l r. omega (arith, levels_of-plain bs 0 (omega arith));
+        levels = λ most l r. omega (arith, levels_of-empty bs);
         numbers = λ n. has-empty bs n ∙ sym (ap (λ o. of_both o (has (sets_of bs) pair.left n) (has (sets_of bs) pair.right n)) intersection
             ∙ ap (λ l. has (sets_of bs) l n && has (sets_of bs) pair.right n) empty
             ∙ ap (λ l. l && has (sets_of bs) pair.right n) (has-empty bs n));
@@ -67,7 +68,7 @@ module _ (bs : List Branch) (pair : Pair) (left_stands : pair.left < count bs) (
         left_stands = left_stands;
         right_stands = right_stands;
         stands = omega arith;
-        levels = λ most l r. omega (arith, levels_of-plain bs 0 (omega arith));
+        levels = λ most l r. omega (arith, levels_of-empty bs);
         numbers = λ n. has-empty bs n ∙ sym (ap (λ o. of_both o (has (sets_of bs) pair.left n) (has (sets_of bs) pair.right n)) intersection
             ∙ ap (λ r. has (sets_of bs) pair.left n && has (sets_of bs) r n) empty
             ∙ ap (λ r. has (sets_of bs) pair.left n && r) (has-empty bs n) ∙ and-false (has (sets_of bs) pair.left n));
@@ -130,31 +131,40 @@ grown_above bs most set bit lower upper number rest grown whole next old past le
     by n true e = sym (ap (λ same. same || has (sets_of bs) lower n) (ne_eqb n number (λ same. omega (arith, ltb-true n (2 ^ bit) e))))
     by n false e = new.numbers (n - 2 ^ bit) ∙ ap (λ same. same || has (sets_of bs) upper (n - 2 ^ bit)) (ap (nat_eq (n - 2 ^ bit)) left ∙ same_rest n (2 ^ bit) (ltb-false n (2 ^ bit) e) past)
 
--- a set without a branch, and the number 0
-pub grown_plain : (bs : List Branch) (set : ℕ) → set < 2 → HasToo bs 0 set 0 1
-grown_plain bs set plain =
+-- a number that joins none
+pub grown_empty : (bs : List Branch) (most number : ℕ) → number < 2 ^ 30 → number < 2 ^ most → HasToo bs most 0 number (number + 1)
+grown_empty bs most number small within =
+    let alone : number + 1 - 1 ≡ number = omega arith in
     record {
       stands = omega arith;
-      levels = omega (arith, levels_of-plain bs 1 (omega arith));
-      numbers = λ n. by n set plain;
+      levels = omega (arith, levels_of-plain bs (number + 1) (omega arith), ap bits_of alone, bits_of-most number most (omega arith) within);
+      numbers = λ n. has-single bs (number + 1) n (omega arith) (omega arith) ∙ ap (λ m. nat_eq n m || false) alone ∙ sym (ap (λ found. nat_eq n number || found) (has-empty bs n));
     }
-  where
-    twice : (b : Bool) → b || false ≡ b || (b || false)
-    twice true = refl
-    twice false = refl
 
-    by : (n set : ℕ) → set < 2 → has (sets_of bs) 1 n ≡ nat_eq n 0 || has (sets_of bs) set n
-    by n zero p = has-zero bs n ∙ sym (ap (λ found. nat_eq n 0 || found) (has-empty bs n))
-    by n (suc zero) p = has-zero bs n ∙ twice (nat_eq n 0) ∙ sym (ap (λ found. nat_eq n 0 || found) (has-zero bs n))
-    by n (suc (suc k)) p = absurd (omega arith)
+-- and so in a table that is the sets of branches
+pub grown_from_empty : (bs : List Branch) (table : Table) → sets_of bs ≡ table → (set number grown : ℕ) → set ≡ 0 → grown ≡ number + 1 → number < 2 ^ 30 → (n : ℕ) → has table grown n ≡ nat_eq n number || has table set n
+grown_from_empty bs table view set number grown empty made small n =
+    subst (λ s. has table grown n ≡ nat_eq n number || has table s n) (sym empty)
+    (subst (λ g. has table g n ≡ nat_eq n number || has table 0 n) (sym made)
+    (subst (λ t. has t (number + 1) n ≡ nat_eq n number || has t 0 n) view ((grown_empty bs 30 number small small).numbers n)))
 
--- the same of any set of no levels and any number of no bits
-pub grown_at_zero : (bs : List Branch) (most set number : ℕ) → most ≡ 0 → set < count bs → levels_of bs set ≤ most → number < 2 ^ most → HasToo bs most set number 1
-grown_at_zero bs most set number none stands levels within =
+-- a number of no bits joins a set of no more, which has it already
+pub grown_at_zero : (bs : List Branch) (most set number : ℕ) → most ≡ 0 → 1 ≤ set → set < count bs → levels_of bs set ≤ most → number < 2 ^ most → HasToo bs most set number set
+grown_at_zero bs most set number none some stands levels within =
     let one : 2 ^ most ≡ 1 = ap (λ m. 2 ^ m) none in
     let number_is : 0 ≡ number = omega (arith, within, one) in
-    let plain : set < 2 = ⊎_elim (λ less. less) (λ two. absurd (omega (arith, levels_of-some bs set two stands, levels, none))) (cases_lt set 2) in
-    subst (λ m. HasToo bs m set number 1) (sym none) (subst (λ n. HasToo bs 0 set n 1) number_is (grown_plain bs set plain))
+    let plain : set < 1073741825 = ⊎_elim (λ less. less) (λ past. absurd (omega (arith, levels_of-some bs set past stands, levels, none))) (cases_lt set 1073741825) in
+    let few : bits_of (set - 1) ≡ 0 = omega (arith, levels_of-plain bs set plain, levels, none) in
+    let zero_is : set - 1 ≡ 0 = omega (arith, subst (λ k. set - 1 < 2 ^ k) few (bits_of-within (set - 1) (omega arith))) in
+    record {
+      stands = stands;
+      levels = levels;
+      numbers = λ n. subst (λ m. has (sets_of bs) set n ≡ nat_eq n m || has (sets_of bs) set n) number_is (twice (nat_eq n 0) _ (has-single bs set n some plain ∙ ap (λ m. nat_eq n m || false) zero_is));
+    }
+  where
+    twice : (b found : Bool) → found ≡ b || false → found ≡ b || found
+    twice true found same = same
+    twice false found same = refl
 
 -- what holds of each value that an option may have holds of its own
 pub IfSome_from : {X : Type 0} (P : X → Type 0) (o : Option X) → ((x : X) → o ≡ Some x → P x) → IfSome o P

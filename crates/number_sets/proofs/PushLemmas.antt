@@ -6,7 +6,7 @@ use Rattle.std.proofs.lemmas.Nat.{pow-add}
 use Rattle.std.proofs.lemmas.Option.{same_Some, slice_get_within, slice_get_past}
 use Rattle.indexmap.specs.IndexSet.{insert_key}
 use Rattle.number_sets.specs.declared.branch.Branch.{Branch}
-use Rattle.number_sets.specs.NumberSets.{numbers_at, has}
+use Rattle.number_sets.specs.NumberSets.{numbers_at, has, plain_sets}
 use Rattle.number_sets.specs.Branches.{numbers_of, sets_of, count, levels_of, IsSplit, AreBranches, Grows}
 use Rattle.number_sets.proofs.TableLemmas.{and_left, and_right, slice_get-append, slice_get-last, list_any-halves}
 use Rattle.number_sets.proofs.BranchLemmas.{sets_behind-append, length-sets_of, Grows-refl, has-Grows, levels_of-Grows, levels_of-branch, IsSplit-Grows, below}
@@ -35,7 +35,7 @@ module _ (bs : List Branch) (all : AreBranches bs) (b : Branch) (lower : b.lower
   grows = (b ∷ [], refl)
 
   more_sets : sets_of more ≡ sets_of bs ++ numbers_of (sets_of bs) b ∷ []
-  more_sets = sets_behind-append ([] ∷ (0 ∷ []) ∷ []) bs (b ∷ [])
+  more_sets = sets_behind-append plain_sets bs (b ∷ [])
 
   -- the numbers of the new set
   new_numbers : numbers_at (sets_of more) (count bs) ≡ numbers_of (sets_of bs) b
@@ -69,15 +69,15 @@ module _ (bs : List Branch) (all : AreBranches bs) (b : Branch) (lower : b.lower
             ∙ sym (λ i. if nat_lt n (2 ^ b.bit) then has-Grows bs more grows b.lower n lower i else has-Grows bs more grows b.upper (n - 2 ^ b.bit) upper i);
       }
 
-  split_at : (set : ℕ) (c : Branch) → 2 ≤ set → slice_get more (set - 2) ≡ Some c → IsSplit more set c.bit c.lower c.upper
+  split_at : (set : ℕ) (c : Branch) → 1073741825 ≤ set → slice_get more (set - 1073741825) ≡ Some c → IsSplit more set c.bit c.lower c.upper
   split_at set c two found =
       ⊎_elim
-      (λ old. IsSplit-Grows bs more grows set c.bit c.lower c.upper (all.parts set c two (sym (slice_get-append bs (b ∷ []) (set - 2) old) ∙ found)))
+      (λ old. IsSplit-Grows bs more grows set c.bit c.lower c.upper (all.parts set c two (sym (slice_get-append bs (b ∷ []) (set - 1073741825) old) ∙ found)))
       (λ past.
-      let last = last_place bs b (set - 2) c found past in
+      let last = last_place bs b (set - 1073741825) c found past in
       let place : count bs ≡ set = omega (arith, last.0) in
       subst (λ s. IsSplit more s c.bit c.lower c.upper) place (subst (λ d. IsSplit more (count bs) d.bit d.lower d.upper) last.1 IsSplit-push))
-      (cases_lt (set - 2) (length bs))
+      (cases_lt (set - 1073741825) (length bs))
 
   bits_at : b.bit < 30 → (place : ℕ) (c : Branch) → slice_get more place ≡ Some c → c.bit < 30
   bits_at bit place c found =

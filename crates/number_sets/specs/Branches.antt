@@ -6,7 +6,8 @@ use Rattle.number_sets.specs.declared.branch.Branch.{Branch}
 use Rattle.number_sets.specs.declared.pair.Operation.{Operation}
 use Rattle.number_sets.specs.declared.pair.Operation.TheVariants.{Union, Intersection}
 use Rattle.number_sets.specs.declared.pair.Pair.{Pair}
-use Rattle.number_sets.specs.NumberSets.{Table, numbers_at, has}
+use Rattle.std.specs.Int.{w32, leading_zeros}
+use Rattle.number_sets.specs.NumberSets.{Table, numbers_at, has, plain_sets}
 
 -- the numbers of a branch, whose halves are sets that stand already
 abbrev pub numbers_of : Table → Branch → List ℕ
@@ -17,21 +18,25 @@ abbrev pub sets_behind : Table → List Branch → Table
 sets_behind table [] = table
 sets_behind table (b ∷ bs) = sets_behind (table ++ numbers_of table b ∷ []) bs
 
--- two sets have no branch: the empty one, and that of 0 alone
+-- the sets from the start have no branch
 abbrev pub sets_of : List Branch → Table
-sets_of bs = sets_behind ([] ∷ (0 ∷ []) ∷ []) bs
+sets_of bs = sets_behind plain_sets bs
 
 -- how many sets there are
 abbrev pub count : List Branch → ℕ
-count bs = length bs + 2
+count bs = length bs + 1073741825
 
 abbrev pub levels_at : Option Branch → ℕ
 levels_at None = 0
 levels_at (Some b) = b.bit + 1
 
+-- how many bits a number has
+abbrev pub bits_of : ℕ → ℕ
+bits_of number = 32 - leading_zeros w32 number
+
 -- how many bits the numbers of a set have at most
 abbrev pub levels_of : List Branch → ℕ → ℕ
-levels_of bs set = if nat_lt set 2 then 0 else levels_at (slice_get bs (set - 2))
+levels_of bs set = if nat_lt set 1073741825 then bits_of (set - 1) else levels_at (slice_get bs (set - 1073741825))
 
 -- the numbers of the set without the bit are those of the lower set, and those with it are those of the upper one, with the bit
 pub record IsSplit (bs : List Branch) (set bit lower upper : ℕ) : Type 0 where
@@ -45,7 +50,7 @@ pub record IsSplit (bs : List Branch) (set bit lower upper : ℕ) : Type 0 where
 
 -- each branch parts its set, and no number has more bits than its set says
 pub record AreBranches (bs : List Branch) : Type 0 where
-  pub parts : (set : ℕ) (b : Branch) → 2 ≤ set → slice_get bs (set - 2) ≡ Some b → IsSplit bs set b.bit b.lower b.upper
+  pub parts : (set : ℕ) (b : Branch) → 1073741825 ≤ set → slice_get bs (set - 1073741825) ≡ Some b → IsSplit bs set b.bit b.lower b.upper
   pub bits : (place : ℕ) (b : Branch) → slice_get bs place ≡ Some b → b.bit < 30
   pub bounded : (set n : ℕ) → has (sets_of bs) set n ≡ true → n < 2 ^ levels_of bs set
   pub few : length bs ≤ 2 ^ 30

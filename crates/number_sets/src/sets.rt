@@ -1,6 +1,6 @@
 // The table of sets as its callers see it.
 use crate::addition::{Addition, Additions};
-use crate::branch::EMPTY;
+use crate::branch::{EMPTY, single};
 use crate::pair::{Operation, Pair};
 use crate::trie::Trie;
 use std::alloc::{AllocError, Global};
@@ -37,13 +37,13 @@ impl Model for NumberSets {
 }
 
 impl NumberSets {
-    ghost use Rattle.std.specs.Prelude.{◌≡◌, ◌<◌, ◌^◌, ◌||◌, ◌&&◌, ℕ, [], ◌∷◌, ◌↔◌, false, nat_eq, IfOk, IsTrue};
-    ghost use Rattle.number_sets.specs.NumberSets.{Extends, IsSet, holds};
+    ghost use Rattle.std.specs.Prelude.{◌≡◌, ◌<◌, ◌^◌, ◌||◌, ◌&&◌, ℕ, ◌↔◌, false, nat_eq, IfOk, IsTrue};
+    ghost use Rattle.number_sets.specs.NumberSets.{Extends, IsSet, holds, plain_sets};
     ghost use Rattle.number_sets.specs.Branches.{of_both};
 
-    /// A table that takes no memory. It has the empty set, and that of 0 alone.
+    /// A table that takes no memory. It has the empty set, and that of each number alone.
     pub fn new(alloc: Global) -> NumberSets
-        ensures { result ≡ [] ∷ (0 ∷ []) ∷ [] }
+        ensures { result ≡ plain_sets }
     {
         NumberSets {
             trie: Trie::new(alloc),
@@ -83,6 +83,10 @@ impl NumberSets {
         ensures numbers { IfOk result (λ found. (n : ℕ) → holds self.new found n ≡ nat_eq n number || holds self.old set n) }
         ensures keeps { Extends self.old self.new }
     {
+        if set.0 == EMPTY {
+            let _sets = &self.trie;
+            return Ok(SetId(single(number)));
+        }
         let addition = Addition { set: set.0, number };
         if let Some(known) = self.additions.get(addition) {
             return Ok(SetId(known));

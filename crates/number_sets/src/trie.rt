@@ -1,5 +1,5 @@
 // The branches of all sets, and what was made of pairs of them.
-use crate::branch::{Branch, EMPTY, PLAIN_SETS, ZERO_ALONE, half};
+use crate::branch::{Branch, EMPTY, PLAIN_SETS, half, plain_levels, single};
 use crate::pair::{Pair, settled};
 use indexmap::{IndexMap, IndexSet};
 use std::alloc::{AllocError, Global};
@@ -43,9 +43,9 @@ impl Trie {
     // The branch of a set that has one.
     fn branch(&self, set: u32) -> Branch
         requires branches { AreBranches self.now.branches.keys }
-        requires has_one { 2 ≤ set }
+        requires has_one { 1073741825 ≤ set }
         requires stands { set < count self.now.branches.keys }
-        ensures stands { slice_get self.now.branches.keys (set - 2) ≡ Some result }
+        ensures stands { slice_get self.now.branches.keys (set - 1073741825) ≡ Some result }
         ensures parts { IsSplit self.now.branches.keys set result.bit result.lower result.upper }
         ensures bit { result.bit < 30 }
     {
@@ -60,7 +60,7 @@ impl Trie {
         ensures most { result ≤ 30 }
     {
         if set < PLAIN_SETS {
-            return 0;
+            return plain_levels(set);
         }
         self.branch(set).bit + 1
     }
@@ -74,6 +74,9 @@ impl Trie {
     {
         if self.levels(set) <= bit {
             return (set, EMPTY);
+        }
+        if set < PLAIN_SETS {
+            return (EMPTY, set - half(bit));
         }
         let branch = self.branch(set);
         (branch.lower, branch.upper)
@@ -95,6 +98,9 @@ impl Trie {
     {
         if upper == EMPTY {
             return Ok(lower);
+        }
+        if lower == EMPTY && upper < PLAIN_SETS {
+            return Ok(upper + half(bit));
         }
         if self.branches.len() >= MAX_BRANCHES {
             return Err(AllocError);
@@ -121,7 +127,7 @@ impl Trie {
             rest = branch.upper;
             left -= split;
         }
-        rest == ZERO_ALONE && left == 0
+        rest != EMPTY && left == rest - 1
     }
 
     /// The set with a number too, both of at most so many bits.
@@ -137,8 +143,11 @@ impl Trie {
         ensures done { AreDone self.new.branches.keys self.new.done.entries }
         ensures grows { Grows self.old.branches.keys self.new.branches.keys }
     {
+        if set == EMPTY {
+            return Ok(single(number));
+        }
         if levels == 0 {
-            return Ok(ZERO_ALONE);
+            return Ok(set);
         }
         let bit = levels - 1;
         let split = half(bit);
@@ -159,7 +168,7 @@ impl Trie {
         self.done.get(&pair).copied()
     }
 
-    // The highest bit of the numbers of two sets, of which one has a branch.
+    // The highest bit of the numbers of two sets, of which one has a number but 0.
     fn top_bit(&self, pair: Pair) -> u32
         requires branches { AreBranches self.now.branches.keys }
         requires left_stands { pair.left < count self.now.branches.keys }

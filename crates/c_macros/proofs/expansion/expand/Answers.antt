@@ -7,6 +7,7 @@ use Rattle.c_tokens.specs.Seen.{IsKnown, toks_of}
 use Rattle.c_tokens.proofs.SeenLemmas.{Extends-Extends}
 use Rattle.c_macros.specs.declared.item.Item.{Item}
 use Rattle.c_macros.specs.Ends.{Ends}
+use Rattle.number_sets.proofs.PlainLemmas.{length-plain}
 use Rattle.c_macros.specs.Expanded.{fresh_item, no_sets, token_of}
 use Rattle.c_macros.specs.Reading.{hidings_by}
 use Rattle.c_macros.specs.Run.{IsKnownItem}
@@ -24,11 +25,11 @@ steps-init c =
       grows = ([], sym (append-nil c.args.names.now));
       known = record {
         work = subst (λ (items : List Item). All (IsKnownItem c.args.names.now run.sets) items) (sym c.in_ok-run.ensures.holds.work)
-            (fresh-known c.args.names.now run.sets c.args.toks.now (omega (arith, ap length c.in_ok-run.ensures.sets)) c.requires.tokens);
+            (fresh-known c.args.names.now run.sets c.args.toks.now (omega (arith, ap length c.in_ok-run.ensures.sets, length-plain)) c.requires.tokens);
         put = subst (λ (items : List Item). All (IsKnownItem c.args.names.now run.sets) items) (sym c.in_ok-run.ensures.holds.put) (λ k d below. absurd (omega (arith, below)));
         raw = subst (λ (items : List Item). All (IsKnownItem c.args.names.now run.sets) items) (sym c.in_ok-run.ensures.holds.raw) (λ k d below. absurd (omega (arith, below)));
         calls = λ k d below. absurd (omega (arith, below, ap length c.in_ok-run.ensures.holds.calls));
-        some_set = omega (arith, ap length c.in_ok-run.ensures.sets);
+        some_set = omega (arith, ap length c.in_ok-run.ensures.sets, length-plain);
         closings = none-noted run.work.items run.closings.items c.in_ok-run.ensures.closings;
       };
       sum = c.requires.sum;

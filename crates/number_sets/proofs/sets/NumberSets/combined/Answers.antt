@@ -2,7 +2,7 @@
 use Rattle.std.proofs.Common.{length, ap, subst, arith}
 use Rattle.number_sets.specs.Branches.{sets_of}
 use Rattle.number_sets.specs.NumberSets.{Extends}
-use Rattle.number_sets.proofs.BranchLemmas.{length-sets_of, sets_of-Grows, AreGrown-Grows}
+use Rattle.number_sets.proofs.BranchLemmas.{length-sets_of, levels_of-most, sets_of-Grows, AreGrown-Grows}
 use Rattle.number_sets.proofs.MadeLemmas.{made_of_old}
 use Rattle.number_sets.proofs.sets.NumberSets.combined.Goals as goal
 
@@ -11,6 +11,12 @@ combined-requires-clause-left_stands c = omega (arith, length-sets_of c.self.ins
 
 pub combined-requires-clause-right_stands : goal.combined-requires-clause-right_stands
 combined-requires-clause-right_stands c = omega (arith, length-sets_of c.self.inside.trie.branches.keys, ap length c.self.view_is, c.requires.other)
+
+pub combined-requires-clause-left : goal.combined-requires-clause-left
+combined-requires-clause-left c = levels_of-most c.self.inside.trie.branches.keys c.self.invariant.0 c.args.set.0 (omega (arith, length-sets_of c.self.inside.trie.branches.keys, ap length c.self.view_is, c.requires.set))
+
+pub combined-requires-clause-right : goal.combined-requires-clause-right
+combined-requires-clause-right c = levels_of-most c.self.inside.trie.branches.keys c.self.invariant.0 c.args.other.0 (omega (arith, length-sets_of c.self.inside.trie.branches.keys, ap length c.self.view_is, c.requires.other))
 
 pub returns-clause-set : goal.returns-clause-set
 returns-clause-set c = omega (arith, length-sets_of c.combined.new.self.branches.keys, c.in_ok-combined.ensures.made.stands)

@@ -1,10 +1,20 @@
 -- The table is the sets of its branches, and what is remembered of additions stays right where they grow.
-use Rattle.std.proofs.Common.{◌<◌, length, ap, subst, sym, arith}
+use Rattle.std.proofs.Common.{◌≡◌, ◌<◌, length, ap, subst, sym, arith}
 use Rattle.number_sets.specs.Branches.{sets_of, count, AreGrown}
 use Rattle.number_sets.specs.NumberSets.{Extends}
-use Rattle.number_sets.proofs.BranchLemmas.{length-sets_of, sets_of-Grows, count-Grows, AreGrown-Grows}
-use Rattle.number_sets.proofs.MadeLemmas.{grown_of_old}
+use Rattle.number_sets.proofs.BranchLemmas.{length-sets_of, levels_of-most, sets_of-Grows, count-Grows, AreGrown-Grows}
+use Rattle.number_sets.proofs.MadeLemmas.{grown_from_empty, grown_of_old}
 use Rattle.number_sets.proofs.sets.NumberSets.with.Goals as goal
+
+pub returns-then-set-eq-EMPTY-clause-set : goal.returns-then-set-eq-EMPTY-clause-set
+returns-then-set-eq-EMPTY-clause-set c = omega (arith, length-sets_of c.self.inside.trie.branches.keys, ap length c.self.view_is, c.single.ensures, c.requires.number)
+
+pub returns-then-set-eq-EMPTY-clause-numbers : goal.returns-then-set-eq-EMPTY-clause-numbers
+returns-then-set-eq-EMPTY-clause-numbers c = λ n.
+    grown_from_empty c.self.inside.trie.branches.keys _ c.self.view_is c.args.set.0 c.args.number _ c.if-set-eq-EMPTY.true c.single.ensures c.requires.number n
+
+pub with-requires-clause-set : goal.with-requires-clause-set
+with-requires-clause-set c = levels_of-most c.self.inside.trie.branches.keys c.self.invariant.0 c.args.set.0 (omega (arith, length-sets_of c.self.inside.trie.branches.keys, ap length c.self.view_is, c.requires.set))
 
 pub with-requires-clause-stands : goal.with-requires-clause-stands
 with-requires-clause-stands c = omega (arith, length-sets_of c.self.inside.trie.branches.keys, ap length c.self.view_is, c.requires.set)

@@ -1,13 +1,25 @@
 -- Facts of the old table are told of the later ones, and the half with the number makes the whole.
-use Rattle.std.proofs.Common.{◌≡◌, ◌+◌, ◌-◌, ◌*◌, ◌^◌, ap, sym, ◌∙◌, arith}
+use Rattle.std.proofs.Common.{◌≡◌, ◌+◌, ◌-◌, ◌*◌, ◌<◌, ◌^◌, ap, sym, subst, ◌∙◌, arith}
 use Rattle.std.proofs.lemmas.Nat.{pow-add}
+use Rattle.std.proofs.Math.Pow.{pow_mono}
 use Rattle.std.proofs.lemmas.Result.{IfOk-weaker}
+use Rattle.number_sets.specs.Branches.{HasToo}
 use Rattle.number_sets.proofs.BranchLemmas.{IsSplit-Grows, HasToo-Grows, Grows-Grows}
-use Rattle.number_sets.proofs.MadeLemmas.{grown_below, grown_above, grown_at_zero}
+use Rattle.number_sets.proofs.MadeLemmas.{grown_below, grown_above, grown_at_zero, grown_empty}
 use Rattle.number_sets.proofs.trie.Trie.+with.Goals as goal
 
+pub single-requires : goal.single-requires
+single-requires t c = omega (arith, pow_mono {i = c.args.levels} {j = 30} c.requires.most, c.requires.number)
+
+pub returns-then-set-eq-EMPTY-clause-more : goal.returns-then-set-eq-EMPTY-clause-more
+returns-then-set-eq-EMPTY-clause-more t c =
+    let bs = c.args.self.now.branches.keys in
+    let small : c.args.number < 2 ^ 30 = omega (arith, pow_mono {i = c.args.levels} {j = 30} c.requires.most, c.requires.number) in
+    subst (λ set. HasToo bs c.args.levels set c.args.number c.single.result) (sym c.if-set-eq-EMPTY.true)
+    (subst (λ grown. HasToo bs c.args.levels 0 c.args.number grown) (sym c.single.ensures) (grown_empty bs c.args.levels c.args.number small c.requires.number))
+
 pub returns-then-levels-eq0-clause-more : goal.returns-then-levels-eq0-clause-more
-returns-then-levels-eq0-clause-more t c = grown_at_zero _ c.args.levels c.args.set c.args.number c.if-levels-eq0.true c.requires.stands c.requires.set c.requires.number
+returns-then-levels-eq0-clause-more t c = grown_at_zero _ c.args.levels c.args.set c.args.number c.if-levels-eq0.true (omega (arith, c.if-set-eq-EMPTY.false)) c.requires.stands c.requires.set c.requires.number
 
 pub joined-requires-clause-upper_levels : goal.joined-requires-clause-upper_levels
 joined-requires-clause-upper_levels t c = (IsSplit-Grows _ _ c.with.ensures.grows _ _ _ _ c.halves-lower.ensures).upper_levels

@@ -1,7 +1,7 @@
 use Rattle.std.proofs.Common.{◌≡◌, ◌+◌, ◌-◌, ◌&&◌, Some, nat_eq, slice_get, subst, sym, ap, ◌∙◌, arith}
 use Rattle.number_sets.specs.declared.branch.Branch.{Branch}
 use Rattle.number_sets.specs.Branches.{AreBranches, Grows, IsSplit}
-use Rattle.number_sets.proofs.BranchLemmas.{IsSplit-whole, AreDone-Grows}
+use Rattle.number_sets.proofs.BranchLemmas.{IsSplit-whole, joined_single, AreDone-Grows}
 use Rattle.number_sets.proofs.PushLemmas.{inserted, same_branch}
 use Rattle.number_sets.proofs.trie.Trie.joined.Goals as goal
 
@@ -9,6 +9,10 @@ pub returns-then-upper-eq-EMPTY-clause-parts : goal.returns-then-upper-eq-EMPTY-
 returns-then-upper-eq-EMPTY-clause-parts c =
     subst (λ upper. IsSplit c.args.self.now.branches.keys c.args.lower c.args.bit c.args.lower upper) (sym c.if-upper-eq-EMPTY.true)
     (IsSplit-whole c.args.self.now.branches.keys c.requires.branches c.args.lower c.args.bit c.requires.lower_stands c.requires.lower_levels)
+
+pub returns-then-upper-lt-PLAIN_SETS-clause-parts : goal.returns-then-upper-lt-PLAIN_SETS-clause-parts
+returns-then-upper-lt-PLAIN_SETS-clause-parts c =
+    joined_single c.args.self.now.branches.keys c.args.bit c.args.lower c.args.upper _ c.half.ensures c.requires.bit c.if-lower-eq-EMPTY.true (omega (arith, c.if-upper-eq-EMPTY.false)) c.if-upper-lt-PLAIN_SETS.true c.requires.upper_levels
 
 -- the branch stands now, behind the others or among them
 grown : (c : goal.In_ok-index) → AreBranches c.insert_full.new.self.keys × Grows c.args.self.now.branches.keys c.insert_full.new.self.keys
@@ -20,9 +24,9 @@ pub returns-clause-parts : goal.returns-clause-parts
 returns-clause-parts c =
     let branch : Branch = record { bit = c.args.bit; lower = c.args.lower; upper = c.args.upper } in
     let stored = c.in_ok-index.ensures.stored in
-    let place : c.in_ok-index.index + 2 - 2 ≡ c.in_ok-index.index = omega arith in
-    let found : slice_get c.insert_full.new.self.keys (c.in_ok-index.index + 2 - 2) ≡ Some branch = ap (slice_get c.insert_full.new.self.keys) place ∙ stored.1 ∙ ap Some (sym (same_branch branch stored.0 stored.2)) in
-    (grown c).0.parts (c.in_ok-index.index + 2) branch (omega arith) found
+    let place : c.in_ok-index.index + 1073741825 - 1073741825 ≡ c.in_ok-index.index = omega arith in
+    let found : slice_get c.insert_full.new.self.keys (c.in_ok-index.index + 1073741825 - 1073741825) ≡ Some branch = ap (slice_get c.insert_full.new.self.keys) place ∙ stored.1 ∙ ap Some (sym (same_branch branch stored.0 stored.2)) in
+    (grown c).0.parts (c.in_ok-index.index + 1073741825) branch (omega arith) found
 
 pub returns-clause-branches : goal.returns-clause-branches
 returns-clause-branches c = (grown c).0

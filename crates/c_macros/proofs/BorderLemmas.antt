@@ -16,6 +16,7 @@ use Rattle.meaning_macros.proofs.Cases.{expansion-is}
 use Rattle.meaning_macros.proofs.TableLemmas.{expand_by-table}
 use Rattle.number_sets.specs.NumberSets as sets
 use Rattle.number_sets.specs.NumberSets.{IsSet, numbers_at}
+use Rattle.number_sets.proofs.PlainLemmas.{numbers_at-plain}
 use Rattle.sparse_model.specs.declared.ids.NameId.{NameId}
 use Rattle.c_tokens.specs.declared.token.Token.{Token}
 use Rattle.c_tokens.specs.Seen.{Extends, IsKnown, text_of, tok_of, toks_of}
@@ -26,7 +27,6 @@ use Rattle.c_macros.specs.declared.definition.Macro.{Macro}
 use Rattle.c_macros.specs.declared.item.Item.{Item}
 use Rattle.c_macros.specs.declared.run.Run.{Run}
 use Rattle.c_macros.specs.Ends.{budget_by}
-use Rattle.number_sets.proofs.PlainLemmas.{numbers_at-plain}
 use Rattle.c_macros.specs.Expanded.{expanded_of, fresh_item, no_sets, token_of}
 use Rattle.c_macros.specs.Meaning.{IsExpansion}
 use Rattle.c_macros.specs.Parameters.{params_in}

@@ -2,12 +2,12 @@ use Rattle.std.proofs.Common.{◌∙◌, sym, ap, refl, subst, map, List, length
 use Rattle.std.proofs.lemmas.List.{append-nil}
 use Rattle.meaning_macros.specs.Expansion as expansion
 use Rattle.meaning_macros.specs.Expansion.{Expanded}
+use Rattle.number_sets.proofs.PlainLemmas.{length-plain}
 use Rattle.c_tokens.specs.declared.token.Token.{Token}
 use Rattle.c_tokens.specs.Seen.{IsKnown, toks_of}
 use Rattle.c_tokens.proofs.SeenLemmas.{Extends-Extends}
 use Rattle.c_macros.specs.declared.item.Item.{Item}
 use Rattle.c_macros.specs.Ends.{Ends}
-use Rattle.number_sets.proofs.PlainLemmas.{length-plain}
 use Rattle.c_macros.specs.Expanded.{fresh_item, no_sets, token_of}
 use Rattle.c_macros.specs.Reading.{hidings_by}
 use Rattle.c_macros.specs.Run.{IsKnownItem}
@@ -33,7 +33,7 @@ steps-init c =
         closings = none-noted run.work.items run.closings.items c.in_ok-run.ensures.closings;
       };
       sum = c.requires.sum;
-      sets = ([], c.in_ok-run.ensures.sets);
+      sets = ([], c.in_ok-run.ensures.sets ∙ sym (append-nil no_sets));
       comes = record {
         shape = record { waits = []; made = []; now = map fresh_item c.args.toks.now; holds = c.in_ok-run.ensures.holds };
         means = λ r reads f is. refl;

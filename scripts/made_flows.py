@@ -1,10 +1,10 @@
 """Random control flow graphs in the notation of the program `flows`, and their answers, found apart: by following paths with their
-counts, as many as a thousand.
-"""
-from collections import deque
+counts, each as far as twice as many blocks as there are.
 
-# So many pairs of a block and a count are followed. A cycle that changes a count goes on for ever, and has met two counts by then.
-MOST_PAIRS = 1000
+That is far enough. Give each block the count of a shortest path to it. A path that comes to a block with another count has gone somewhere
+from one block to another whose count isn't the one that comes of the first block's. So two paths come to that other block with different
+counts, each a shortest one, to it or to the block before; and both go on from there by a shortest way.
+"""
 MOST_BLOCKS = 6
 MOST_TOKEN = 7
 
@@ -59,20 +59,33 @@ def change(step):
     return step[3] - step[2] if step[0] == "C" else 0
 
 
-def passed_steps(blocks, enters):
-    """Each step that a path passes, with each count with which one comes to it, as far as paths are followed."""
-    found, seen, waiting = set(), {(0, enters)}, deque([(0, enters)])
-    while waiting and len(seen) < MOST_PAIRS:
-        number, count = waiting.popleft()
-        steps, successors = blocks[number]
-        for step in steps:
-            found.add((step, count))
-            count += change(step)
-        for other in successors:
-            if (other, count) not in seen:
-                seen.add((other, count))
-                waiting.append((other, count))
+def counts_at_starts(blocks, enters):
+    """The counts with which paths come to each block, along all paths of at most twice as many blocks as there are."""
+    totals = [sum(map(change, steps)) for steps, _ in blocks]
+    found = [set() for _ in blocks]
+    found[0].add(enters)
+    fresh = {0: {enters}}
+    for _ in range(2 * len(blocks) - 1):
+        coming = {}
+        for number, counts in fresh.items():
+            behind = {count + totals[number] for count in counts}
+            for other in blocks[number][1]:
+                coming.setdefault(other, set()).update(behind)
+        fresh = {number: counts - found[number] for number, counts in coming.items()}
+        for number, counts in fresh.items():
+            found[number] |= counts
     return found
+
+
+def passed_steps(blocks, enters):
+    """Each step that such a path passes, with each count with which one comes to it."""
+    passed = set()
+    for (steps, _), counts in zip(blocks, counts_at_starts(blocks, enters), strict=True):
+        added = 0
+        for step in steps:
+            passed.update((step, count + added) for count in counts)
+            added += change(step)
+    return passed
 
 
 def is_too_low(step, count):

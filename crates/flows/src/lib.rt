@@ -11,6 +11,8 @@ mod command;
 mod line;
 mod number;
 mod step;
+#[cfg(test)]
+mod tests;
 mod text;
 mod wrong;
 

@@ -1,5 +1,5 @@
 -- Walks, whatever their places are.
-use Rattle.std.proofs.Common.{◌≡◌, List, [], ◌∷◌, refl, subst}
+use Rattle.std.proofs.Common.{◌≡◌, List, ◌∷◌, refl, subst}
 use Rattle.meaning_paths.specs.Steps.{Step}
 use Rattle.meaning_paths.specs.Walks.{Walk, begins, passes, turns, IsPath}
 
@@ -12,7 +12,7 @@ module _ {S : Type 0} (steps : S → List Step) (next : S → List S) (start : S
       let same_step : other ≡ step = cc in
       let same_path : front ≡ path = cc in
       (place, rest, subst (λ now. Walk steps next start now place (step ∷ rest)) same_path (subst (λ now. Walk steps next start front place (now ∷ rest)) same_step walk))
-  walk-before step path all place rest is (turns {place = from} walk there e) = walk-before step path all from [] is walk
+  walk-before step path all place rest is (turns {place = from} walk there e) = walk-before step path all from _ is walk
 
   pub front-path : (step : Step) (path : List Step) → IsPath steps next start (step ∷ path) → IsPath steps next start path
   front-path step path (place, rest, walk) =

@@ -12,6 +12,8 @@ two_turns = acquires 3 ∷ enters 3 ∷ acquires 3 ∷ enters 3 ∷ []
 pub record LoopExamples : Type 0 where
   pub path : IsPathOf acquiring_loop two_turns
   pub counted : count 0 (pos 0) two_turns ≡ pos 2
+  -- no path goes back without acquiring
+  pub whole : IsPathOf acquiring_loop (enters 3 ∷ enters 3 ∷ []) → ⊥
   -- its point is reached with 0 and with 1
   pub differs : Differ (IsPathOf acquiring_loop) 0 (pos 0) 3
   -- before the second turn of the other one the count is 0 again

@@ -9,24 +9,25 @@ ghost use Rattle.meaning_derivation.specs.Actions.{act};
 ghost use Rattle.parse_state.specs.Seen.{state_of};
 ghost use Rattle.parse_state.specs.Steps.{IsToldBy};
 
-use parse_state::{ActionFault, ParseState, Place, Row, Source};
+use parse_state::{ActionFault, ParseState, Place, Row, Shape, Source};
 use vocabulary::{ErrorKind, NameSpace, NodeKind};
 
-/// A name that is declared.
+/// A name that is declared, with the handle of the declarator or enumerator that declares it.
 pub fn use_name(state: &mut ParseState<'_>) -> Result<(), ActionFault>
     requires finds { IsSome (effect (Do UseName) (sorts_of (state_of state.old).values)) }
     ensures goes { OnOk result (act UseName (state_of state.old) ≡ Goes (state_of state.new)) }
     ensures told { IfErr result (IsToldBy (act UseName (state_of state.old))) }
     ensures names { state.new.names ≡ state.old.names }
 {
+    let token = state.token(0);
     match state.find(NameSpace::Ordinary, 0) {
-        None => Err(ActionFault::Refused(ErrorKind::NotDeclared, state.token(0))),
-        Some(_) => state.make_row(&Row {
+        None => Err(ActionFault::Refused(ErrorKind::NotDeclared, token)),
+        Some((declaration, _, _)) => state.make(&Shape {
             takes: 1,
             kind: NodeKind::Name,
-            place: Place::AtWord(0),
+            token,
             name: Some(0),
-            number: None,
+            number: u64::from(declaration),
             sources: &[],
         }),
     }

@@ -101,7 +101,7 @@ pub(crate) fn is_attribute_word(class: TokenClass) -> bool
 }
 
 /// An expression can begin with it.
-pub(crate) fn begins_expression(class: TokenClass) -> bool
+pub fn begins_expression(class: TokenClass) -> bool
     ensures { result ≡ is_among expression_start class }
 {
     matches!(

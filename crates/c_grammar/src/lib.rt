@@ -13,5 +13,6 @@ mod rows;
 mod table;
 
 pub use choice::choose;
+pub use classes::begins_expression;
 pub use production::Production;
 pub use table::productions_of;

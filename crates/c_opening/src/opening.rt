@@ -2,13 +2,11 @@
 ghost use Rattle.std.specs.Prelude.{◌≡◌, ◌≤◌, IfNone, IfSome, None, length};
 ghost use Rattle.vocabulary.specs.declared.symbol.Symbol.TheVariants as symbols;
 ghost use Rattle.vocabulary.specs.declared.token_class.TokenClass.{TokenClass};
-ghost use Rattle.meaning_grammar.specs.Classes.{is_among};
-ghost use Rattle.meaning_grammar.specs.ClassLists.{expression_start};
 ghost use Rattle.meaning_grammar.specs.Choice.{choice};
 ghost use Rattle.c_opening.specs.Opening.{IsFront, Opens};
 ghost use Rattle.c_grammar.specs.Seen.{behind_of, next_of};
 
-use c_grammar::choose;
+use c_grammar::{begins_expression, choose};
 use vocabulary::Action::{MakeCharacterConstant, MakeIntegerConstant, MakeOver, UseName};
 use vocabulary::ProductionItem::{Do, Nonterminal, Token};
 use vocabulary::Symbol::{
@@ -62,32 +60,6 @@ static NEGATION: [ProductionItem; 3] = [
     Nonterminal(CastExpression),
     Do(MakeOver(NodeKind::LogicalNot, Role::Condition)),
 ];
-
-// An expression begins with a token of this class.
-fn begins_expression(class: TokenClass) -> bool
-    ensures { result ≡ is_among expression_start class }
-{
-    matches!(
-        class,
-        TokenClass::Identifier
-            | TokenClass::LeftParenthesis
-            | TokenClass::Number
-            | TokenClass::Character
-            | TokenClass::String
-            | TokenClass::Ampersand
-            | TokenClass::Star
-            | TokenClass::Plus
-            | TokenClass::Minus
-            | TokenClass::Tilde
-            | TokenClass::Exclamation
-            | TokenClass::PlusPlus
-            | TokenClass::MinusMinus
-            | TokenClass::SizeofKeyword
-            | TokenClass::AlignofKeyword
-            | TokenClass::BuiltinExpectKeyword
-            | TokenClass::BuiltinOffsetofKeyword
-    )
-}
 
 // What a cast expression opens to before a token of this class, where that alone decides.
 #[tactic(auto, using(crate::proofs::Opened::name_opens, crate::proofs::Opened::number_opens, crate::proofs::Opened::character_opens, crate::proofs::Opened::string_opens, crate::proofs::Opened::address_opens, crate::proofs::Opened::indirection_opens, crate::proofs::Opened::negation_opens))]

@@ -148,11 +148,12 @@ abbrev pub found_here : Option (Found (List ℕ)) → Option (Found (List ℕ))
 found_here None = None
 found_here (Some first) = if first.is_innermost then Some first else None
 
--- Names in expressions
+-- Names in expressions, each with the handle of the declarator or enumerator that it stands for
 
 abbrev pub name_used : State → Option (Found (List ℕ)) → Value → ActionOutcome
 name_used s None word = Refuses (IsError NotDeclared) (token_of word)
-name_used s (Some declaration) word = made s 1 (named_tree kinds.Name (token_of word) (text_of word) NoParts)
+name_used s (Some declaration) word =
+    made s 1 (Node kinds.Name (token_of word) (text_of word) declaration.entry.declaration NoParts)
 
 -- the name of a type, with the handle of the declarator that declares it
 abbrev pub typedef_named : State → Option (Found (List ℕ)) → Value → ActionOutcome

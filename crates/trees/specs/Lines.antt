@@ -77,6 +77,7 @@ number_use kinds.EnumSpecifier = OfToken
 number_use kinds.CompoundStatement = OfToken
 number_use kinds.DoStatement = OfToken
 number_use kinds.TypedefName = OfNode
+number_use kinds.Name = OfNode
 number_use kind = Nothing
 
 -- the number of a node, which is this

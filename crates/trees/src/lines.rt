@@ -43,7 +43,7 @@ fn number_use(kind: NodeKind) -> NumberUse
         | NodeKind::EnumSpecifier
         | NodeKind::CompoundStatement
         | NodeKind::DoStatement => NumberUse::OfToken,
-        NodeKind::TypedefName => NumberUse::OfNode,
+        NodeKind::TypedefName | NodeKind::Name => NumberUse::OfNode,
         _ => NumberUse::Nothing,
     }
 }

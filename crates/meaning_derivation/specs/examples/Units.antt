@@ -103,6 +103,7 @@ pub record TreeExamples : Type 0 where
       (typed (plain_tree kinds.ExternSpecifier 0 NoParts) (typed (plain_tree kinds.IntSpecifier 1 NoParts) NoParts)))
       (evaluated (named_tree kinds.Declarator 2 (codes "x") NoParts) NoParts)))
       NoParts)
+  -- a name stands for the third node, the declarator of `y`
   pub function :
       unit (codes "int y; int f(void) { return y + 1; }")
       ≡ tree
@@ -117,7 +118,7 @@ pub record TreeExamples : Type 0 where
       (plain_tree kinds.ReturnStatement 9
       (evaluated
       (plain_tree kinds.Addition 11
-      (evaluated (named_tree kinds.Name 10 (codes "y") NoParts)
+      (evaluated (Node kinds.Name 10 (codes "y") 2 NoParts)
       (evaluated (Node (kinds.IntegerConstant Int) 12 [] 1 NoParts) NoParts)))
       NoParts))
       NoParts))

@@ -18,7 +18,7 @@ use Rattle.meaning_attributes.specs.Contexts.{ChangeFault, BadChange, ChangePass
 use Rattle.meaning_literals.specs.Constants.{Constant, Fault}
 use Rattle.meaning_literals.specs.Integers.{integer_of}
 use Rattle.meaning_literals.specs.Quoted.{char_of}
-use Rattle.meaning_tree.specs.Trees.{Node, Parts, NoParts, Part}
+use Rattle.meaning_tree.specs.Trees.{SyntaxTree, Node, Parts, NoParts, Part}
 use Rattle.meaning_scopes.specs.Scopes.{Found, is_open}
 use Rattle.meaning_scopes.specs.Redeclaration.{bound_here, is_redeclared}
 use Rattle.meaning_grammar.specs.Sorts.{Sort, AWord, ATree, AList, is_same_sort, action_effect, exchanged, effect, effects}
@@ -28,7 +28,7 @@ use Rattle.meaning_derivation.specs.Lists.{has_spelling, name_or, unnamed_declar
 use Rattle.meaning_derivation.specs.State as states
 use Rattle.meaning_derivation.specs.Literals.{BadLiteral, bad_piece, constant_made, string_made}
 use Rattle.meaning_derivation.specs.Contexts.{in_parentheses, tokens_behind, context_made}
-use Rattle.meaning_derivation.specs.Scoping.{declared, bound, bound_as, last_handle, parameter_bound, tag_at, found_name, found_here, parts_below, ends_with_parameters, name_used, typedef_named, without_closed}
+use Rattle.meaning_derivation.specs.Scoping.{declared, bound, bound_as, last_handle, parameter_bound, tag_at, is_lone_tag, is_new_here, with_own_keyword, tag_declared, found_name, found_here, parts_below, ends_with_parameters, name_used, typedef_named, without_closed}
 use Rattle.meaning_derivation.specs.Specifiers.{is_bad_in_file, is_bad_in_block, is_bad_member, is_refused_parameter, parameter_error, held_where}
 use Rattle.meaning_derivation.specs.Actions.{below, specified}
 use Rattle.meaning_derivation.specs.laws.Sorts.{ActionsAreSorted, ActionsLeadOn}
@@ -234,6 +234,23 @@ tag-sorted action s next None tag keyword after is = replaced action 0 (WordValu
 tag-sorted action s next (Some first) tag keyword after is =
     replaced action 0 (WordValue first.entry.declaration [] ∷ []) s next after (reached _ next is)
 
+-- a tree is put in the place of another one, or not
+declared_tag-either :
+    (test : Bool) (s next : State) (tag : List ℕ) (keyword : ℕ) (tree : SyntaxTree) (after : List Sort)
+    → Goes (if test then with_own_keyword s tag keyword tree else s) ≡ Goes next → Finds DeclareTag s after → sorts_of next.values ≡ after
+declared_tag-either true s next tag keyword tree after is = replaced DeclareTag 1 (TreeValue tree ∷ []) s next after (reached _ next is) (λ rest. refl)
+declared_tag-either false s next tag keyword tree after is = kept-sorted DeclareTag s next after (reached _ next is) (λ rest. refl)
+
+declared_tag-sorted :
+    (s next : State) (specifiers : Value) (after : List Sort) → tag_declared s specifiers ≡ Goes next → Finds DeclareTag s after → sorts_of next.values ≡ after
+declared_tag-sorted s next (TreeValue (Node kind token name number (Part role (Node specifier keyword tag first parts) NoParts))) after is =
+    declared_tag-either (is_lone_tag specifier tag parts && is_new_here s tag) s next tag keyword _ after is
+declared_tag-sorted s next (TreeValue (Node kind token name number NoParts)) after is = kept-sorted DeclareTag s next after (reached _ next is) (λ rest. refl)
+declared_tag-sorted s next (TreeValue (Node kind token name number (Part role (Node specifier keyword tag first parts) (Part other_role other others)))) after is =
+    kept-sorted DeclareTag s next after (reached _ next is) (λ rest. refl)
+declared_tag-sorted s next (WordValue token text) after is = kept-sorted DeclareTag s next after (reached _ next is) (λ rest. refl)
+declared_tag-sorted s next (ListValue parts) after is = kept-sorted DeclareTag s next after (reached _ next is) (λ rest. refl)
+
 name-sorted :
     (s next : State) (found : Option (Found (List ℕ))) (word : Value) (after : List Sort) → name_used s found word ≡ Goes next
     → Finds UseName s after → sorts_of next.values ≡ after
@@ -298,7 +315,7 @@ actions_are_sorted MakeTypeNameSpecifiers s next sorts is finds =
 actions_are_sorted RequireType s next sorts is finds = kept-sorted RequireType s next sorts (reached _ next is) (λ rest. refl) finds
 actions_are_sorted RequireTypeOrAttributes s next sorts is finds =
     kept-sorted RequireTypeOrAttributes s next sorts (reached _ next is) (λ rest. refl) finds
-actions_are_sorted DeclareTag s next sorts is finds = kept-sorted DeclareTag s next sorts (reached _ next is) (λ rest. refl) finds
+actions_are_sorted DeclareTag s next sorts is finds = declared_tag-sorted s next (below s 0) sorts is finds
 actions_are_sorted UseTypedefName s next sorts is finds =
     typedef-sorted s next (found_name s Ordinary (text_of (below s 0))) (below s 0) sorts is finds
 actions_are_sorted DefineTag s next sorts is finds =

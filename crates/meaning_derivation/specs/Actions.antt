@@ -17,7 +17,7 @@ use Rattle.meaning_derivation.specs.State.{State, ActionOutcome, Goes, pushed, w
 use Rattle.meaning_derivation.specs.Storage.{noted_class, specifiers_tree}
 use Rattle.meaning_derivation.specs.Specifiers.{Specified, specified_by, is_bad_in_file, is_bad_in_block, is_bad_member, is_refused_parameter, parameter_error, lacks_type, lacks_type_or_attributes, held_where}
 use Rattle.meaning_derivation.specs.Lists.{appended, joined, suffixed, name_or, declarator_values, optional_declarator, attributes_list, leading_attributes, with_parameter, part_of_for, type_name}
-use Rattle.meaning_derivation.specs.Scoping.{with_scopes, found_name, found_here, bound_as, declared, tag_at, place, with_first_keyword, name_used, typedef_named, parameter_bound, parts_below, function_noted, parameters_closed, without_closed, body_awaited, body_opened, takes_no_body}
+use Rattle.meaning_derivation.specs.Scoping.{with_scopes, found_name, found_here, bound_as, declared, tag_at, tag_declared, place, with_first_keyword, name_used, typedef_named, parameter_bound, parts_below, function_noted, parameters_closed, without_closed, body_awaited, body_opened, takes_no_body}
 use Rattle.meaning_derivation.specs.Literals.{constant_made, bad_piece, string_made}
 use Rattle.meaning_derivation.specs.Contexts.{in_parentheses, tokens_behind, context_made}
 
@@ -84,7 +84,7 @@ act MakeTypeNameSpecifiers s =
 act RequireType s = Goes (held_where (lacks_type (specified_tree s)) BadDeclaration (stands_at (below s 0)) s)
 act RequireTypeOrAttributes s =
     Goes (held_where (lacks_type_or_attributes (specified_tree s)) BadDeclaration (stands_at (below s 0)) s)
-act DeclareTag s = Goes s
+act DeclareTag s = tag_declared s (below s 0)
 act UseTypedefName s = typedef_named s (found_name s Ordinary (text_of (below s 0))) (below s 0)
 act DefineTag s = tag_at s (found_here (found_name s Tags (text_of (below s 0)))) (text_of (below s 0)) (token_of (below s 2))
 act UseTag s = tag_at s (found_name s Tags (text_of (below s 0))) (text_of (below s 0)) (token_of (below s 2))

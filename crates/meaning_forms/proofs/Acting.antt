@@ -14,7 +14,7 @@ use Rattle.vocabulary.specs.declared.node_kind.NodeKind.TheVariants as kinds
 use Rattle.vocabulary.specs.declared.action.Action.{Action}
 use Rattle.vocabulary.specs.declared.action.Action.TheVariants.{Append, AppendAttribute, AppendDeclarator, AppendLeadingAttributes, AwaitBody, BeginAtNext, BeginDeclarators, BeginList, BindDeclarator, BindEnumerator, BindFurtherDeclarator, BindParameter, CloseParameters, CloseScope, CountParameter, DeclareTag, DefineTag, JoinAnyParts, JoinParts, JoinSuffixes, MakeBlockSpecifiers, MakeCharacterConstant, MakeContextStatement, MakeFileSpecifiers, MakeForPart, MakeIntegerConstant, MakeMemberSpecifiers, MakeOptionalDeclarator, MakeParameterSpecifiers, MakeParenthesizedAttributes, MakeStringLiteral, MakeTypeName, MakeTypeNameSpecifiers, NoteFunctionDeclarator, OpenBody, OpenScope, RequireType, RequireTypeOrAttributes, UseName, UseTag, UseTypedefName, WithoutTag}
 use Rattle.meaning_tree.specs.Trees.{SyntaxTree, Node, Parts, NoParts, Part, with_parts}
-use Rattle.meaning_tree.specs.Forms.{PartSort, LeadingLists, SpecifierList, ADeclarator, ADeclaratorPart, ASpecifier, AnExpression, AConstant, AString, attribute_lists, expressions, optional_expressions, IsOf, Slot, One, Perhaps, Each, slots_of, Fits, nothing, one, left_out, there, no_more, one_more, IsFormedTree, AreFormedTrees, AStatement}
+use Rattle.meaning_tree.specs.Forms.{PartSort, LeadingLists, SpecifierList, ADeclarator, ADeclaratorPart, ASpecifier, AnExpression, AConstant, AString, attribute_lists, expressions, optional_expressions, IsOf, Slot, One, Perhaps, Each, slots_of, Fits, nothing, one, left_out, there, no_more, one_more, no_declarator, declarator, no_member, member, nameless_member, IsFormedTree, AreFormedTrees, AStatement}
 use Rattle.meaning_scopes.specs.Scopes.{Found, is_open}
 use Rattle.meaning_attributes.specs.Contexts.{ChangeFault, BadChange, ChangePassesLimit, change_of}
 use Rattle.meaning_literals.specs.Constants.{Constant, Fault}
@@ -28,7 +28,7 @@ use Rattle.meaning_derivation.specs.Storage.{specifiers_tree}
 use Rattle.meaning_derivation.specs.Specifiers.{is_bad_in_file, is_bad_in_block, is_bad_member, is_refused_parameter, parameter_error, held_where}
 use Rattle.meaning_derivation.specs.Contexts.{in_parentheses, tokens_behind, context_made}
 use Rattle.meaning_derivation.specs.Literals.{BadLiteral, bad_piece, constant_made, constant_tree, string_made}
-use Rattle.meaning_derivation.specs.Scoping.{declared, bound, bound_as, last_handle, parameter_bound, tag_at, found_name, found_here, parts_below, ends_with_parameters, name_used, typedef_named, without_closed}
+use Rattle.meaning_derivation.specs.Scoping.{declared, bound, bound_as, last_handle, parameter_bound, tag_at, is_lone_tag, is_new_here, with_own_keyword, tag_declared, found_name, found_here, parts_below, ends_with_parameters, name_used, typedef_named, without_closed}
 use Rattle.meaning_derivation.specs.Shapes.{Shape, shape_of, shaped_tree}
 use Rattle.meaning_derivation.specs.Actions.{act, below, specified}
 use Rattle.meaning_derivation.proofs.Shaping.{shapes_are_made}
@@ -60,6 +60,21 @@ reversed-fits role sorts slots (Part its_role tree parts) others (one_more is fi
 reversed-formed : (parts others : Parts (List ℕ)) → AreFormedTrees parts → AreFormedTrees others → AreFormedTrees (reversed_before parts others)
 reversed-formed NoParts others formed also = also
 reversed-formed (Part role tree parts) others formed also = reversed-formed parts (Part role tree others) formed.1 (formed.0, also)
+
+-- a tree with another number
+with_number-fits :
+    {slots : List Slot} {role : Role} {kind : NodeKind} {token number other : ℕ} {name : List ℕ} {parts others : Parts (List ℕ)}
+    → Fits slots (Part role (Node kind token name number parts) others) → Fits slots (Part role (Node kind token name other parts) others)
+with_number-fits (one is fits) = one is fits
+with_number-fits (left_out fits) = left_out (with_number-fits fits)
+with_number-fits (there is fits) = there is fits
+with_number-fits (no_more fits) = no_more (with_number-fits fits)
+with_number-fits (one_more is fits) = one_more is fits
+with_number-fits (no_declarator fits) = no_declarator (with_number-fits fits)
+with_number-fits (declarator fits) = declarator (with_number-fits fits)
+with_number-fits (no_member fits) = no_member (with_number-fits fits)
+with_number-fits (member fits) = member (with_number-fits fits)
+with_number-fits (nameless_member fits) = nameless_member (with_number-fits fits)
 
 module _ (begun : Parts (List ℕ)) (s next : State) (rest : List Value) where
   abbrev Stands : List Known → Type 0
@@ -387,6 +402,37 @@ module _ (begun : Parts (List ℕ)) (s next : State) (rest : List Value) where
   tag_acts (Some first) tag keyword known after is same stand =
       put AWord known after (WordValue first.entry.declaration []) (reached _ next is) tt (same_Some _ _ same) stand
 
+  -- a specifier's number has no say in its form
+  with_number_acts :
+      (test : Bool) (tag : List ℕ) (keyword : ℕ) (tree : SyntaxTree) (sorts : List PartSort) (known after : List Known) (left : List Value) → drop 1 s.values ≡ left
+      → Goes (if test then with_own_keyword s tag keyword tree else s) ≡ Goes next → IsFormedTree tree × IsOf sorts tree
+      → ATree sorts ∷ known ≡ after → Stands (ATree sorts ∷ known) → Stand begun known left rest → Leaves after
+  with_number_acts true tag keyword tree sorts known after left values is formed same stand below_it =
+      replace (ATree sorts) known after (TreeValue tree) left (reached _ next is ∙ beneath values) formed same below_it
+  with_number_acts false tag keyword tree sorts known after left values is formed same stand below_it =
+      kept (ATree sorts ∷ known) after (reached _ next is) (ap Some same) stand
+
+  declared_tag_acts :
+      (tree : SyntaxTree) (sorts : List PartSort) (known after : List Known) (left : List Value) → drop 1 s.values ≡ left
+      → tag_declared s (TreeValue tree) ≡ Goes next → IsFormedTree tree × IsOf sorts tree
+      → ATree sorts ∷ known ≡ after → Stands (ATree sorts ∷ known) → Stand begun known left rest → Leaves after
+  declared_tag_acts (Node kind token name number NoParts) sorts known after left values is formed same stand below_it =
+      kept (ATree sorts ∷ known) after (reached _ next is) (ap Some same) stand
+  declared_tag_acts (Node kind token name number (Part role (Node specifier keyword tag first parts) (Part other_role other others))) sorts known after left values is formed same stand below_it =
+      kept (ATree sorts ∷ known) after (reached _ next is) (ap Some same) stand
+  declared_tag_acts (Node kind token name number (Part role (Node specifier keyword tag first parts) NoParts)) sorts known after left values is formed same stand below_it =
+      with_number_acts (is_lone_tag specifier tag parts && is_new_here s tag) tag keyword
+      (Node kind token name number (Part role (Node specifier keyword tag keyword parts) NoParts)) sorts known after left values is
+      ((with_number-fits formed.0.0, formed.0.1), formed.1) same stand below_it
+
+  declare_tag_acts :
+      (sorts : List PartSort) (known after : List Known) → act DeclareTag s ≡ Goes next → Some (ATree sorts ∷ known) ≡ Some after
+      → Stands (ATree sorts ∷ known) → Leaves after
+  declare_tag_acts sorts known after is found stand =
+      let (tree, others, top, formed, below_it) = tree_first begun sorts known s.values rest stand in
+      declared_tag_acts tree sorts known after others (ap (drop 1) top)
+      (subst (λ value. tag_declared s value ≡ Goes next) (ap (λ all. value_at all 0) top) is) formed (same_Some _ _ found) stand below_it
+
   name_acts :
       (found : Option (Found (List ℕ))) (word : Value) (known after : List Known) → name_used s found word ≡ Goes next → Some (ATree (AnExpression ∷ []) ∷ known) ≡ Some after
       → Stands (AWord ∷ known) → Leaves after
@@ -458,7 +504,8 @@ module _ (begun : Parts (List ℕ)) (s next : State) (rest : List Value) where
       specifiers_act known after (made-values (held_where (is_bad_member (specified s)) BadDeclaration (token_of (below s 1)) s) next 2 (TreeValue (specifiers_tree (below s 1) (below s 0))) is) found stand
   acts RequireType known after is found stand = kept known after (reached _ next is) found stand
   acts RequireTypeOrAttributes known after is found stand = kept known after (reached _ next is) found stand
-  acts DeclareTag known after is found stand = kept known after (reached _ next is) found stand
+  acts DeclareTag (ATree sorts ∷ known) after is found stand = declare_tag_acts sorts known after is found stand
+  acts DeclareTag known after is found stand = absurd (cc found)
   acts UseTypedefName (AWord ∷ known) after is found stand = typedef_acts (found_name s Ordinary (text_of (below s 0))) (below s 0) known after is found stand
   acts UseTypedefName known after is found stand = absurd (cc found)
   acts DefineTag known after is found stand =

@@ -161,9 +161,9 @@ is_member_list kinds.MemberList = true
 is_member_list kind = false
 
 -- a structure's or a union's tag without members
-abbrev pub is_lone_tag : NodeKind → (tag : List ℕ) → Parts (List ℕ) → Bool
-is_lone_tag kind [] parts = false
-is_lone_tag kind (byte ∷ bytes) parts = is_structure kind && not (has_kind is_member_list parts)
+abbrev pub is_lone_tag : NodeKind → (tag : List ℕ) → (has_members : Bool) → Bool
+is_lone_tag kind [] has_members = false
+is_lone_tag kind (byte ∷ bytes) has_members = is_structure kind && not has_members
 
 -- it is no tag of the innermost scope yet
 abbrev pub is_new_here : State → (tag : List ℕ) → Bool
@@ -177,7 +177,7 @@ with_own_keyword s tag keyword tree = with_value (bound s Tags tag keyword Tag) 
 -- Nothing was found or bound behind the tag, so this is as if it had been so there.
 abbrev pub tag_declared : State → (specifiers : Value) → ActionOutcome
 tag_declared s (TreeValue (Node kind token name number (Part role (Node specifier keyword tag first parts) NoParts))) =
-    Goes (if is_lone_tag specifier tag parts && is_new_here s tag
+    Goes (if is_lone_tag specifier tag (has_kind is_member_list parts) && is_new_here s tag
     then with_own_keyword s tag keyword (Node kind token name number (Part role (Node specifier keyword tag keyword parts) NoParts))
     else s)
 tag_declared s specifiers = Goes s

@@ -34,7 +34,7 @@ use Rattle.meaning_derivation.specs.Lists.{appended, has_spelling, name_or, unna
 use Rattle.meaning_derivation.specs.State as states
 use Rattle.meaning_derivation.specs.Literals.{BadLiteral, bad_piece, constant_made, string_made}
 use Rattle.meaning_derivation.specs.Contexts.{tokens_behind, context_made}
-use Rattle.meaning_derivation.specs.Attributes.{tokens_from, listed_tokens, attributes_made, constant_at, context_tree, and_then, context_appended, item_appended}
+use Rattle.meaning_derivation.specs.Attributes.{tokens_from, listed_tokens, attributes_made, constant_at, context_tree, and_then, attribute_appended, word_dropped, context_appended, item_appended}
 use Rattle.meaning_derivation.specs.Scoping.{declared, bound, bound_as, last_handle, parameter_bound, tag_at, is_member_list, is_lone_tag, is_new_here, with_own_keyword, tag_declared, found_name, found_here, parts_below, ends_with_parameters, name_used, typedef_named, without_closed}
 use Rattle.meaning_derivation.specs.Storage.{has_kind}
 use Rattle.meaning_derivation.specs.Specifiers.{is_bad_in_file, is_bad_in_block, is_bad_member, is_refused_parameter, parameter_error, held_where}
@@ -308,38 +308,61 @@ pub and_then-between :
 and_then-between (Goes middle) step next is = (middle, refl, is)
 and_then-between (Refuses fault stands) step next is = absurd (cc is)
 
+-- a node comes in the place of so many values, and goes to the end of the list below them
+pub attribute_appended-values :
+    (s next : State) (count : ℕ) (tree : SyntaxTree) → attribute_appended s count tree ≡ Goes next
+    → next.values ≡ appended TypePart (value_at (drop count s.values) 0) (TreeValue tree) ∷ drop 1 (drop count s.values)
+attribute_appended-values s next count tree is =
+    let (middle, first, behind) = and_then-between (made s count tree) _ next is in
+    reached _ next behind
+    ∙ ap (λ all. appended TypePart (value_at all 1) (value_at all 0) ∷ drop 2 all) (made-values s middle count (TreeValue tree) first)
+
 -- a context's two numbers come and go
 pub context_appended-values :
     (s next : State) (word : Value) (leaves enters : PlacedConstant) (others : List PlacedConstant) → context_appended s word (leaves ∷ enters ∷ others) ≡ Goes next
-    → next.values ≡ appended TypePart (value_at s.values 1) (TreeValue (context_tree (token_of word) (constant_at enters) (constant_at leaves))) ∷ drop 2 s.values
+    → next.values
+    ≡ appended TypePart (value_at (drop 1 s.values) 0) (TreeValue (context_tree (token_of word) (constant_at enters) (constant_at leaves))) ∷ drop 1 (drop 1 s.values)
 context_appended-values s next word leaves enters others is =
     let (one, first, behind) = and_then-between (made s 0 (constant_at enters)) _ next is in
     let (two, second, last) = and_then-between (made one 0 (constant_at leaves)) _ next behind in
     let values : two.values ≡ TreeValue (constant_at leaves) ∷ TreeValue (constant_at enters) ∷ s.values =
     made-values one two 0 _ second ∙ ap (λ all. TreeValue (constant_at leaves) ∷ all) (made-values s one 0 _ first) in
-    made-values two next 4 _ last
-    ∙ ap (λ all. appended TypePart (value_at all 3) (TreeValue (context_tree (token_of word) (constant_at enters) (constant_at leaves))) ∷ drop 4 all) values
+    attribute_appended-values two next 3 _ last
+    ∙ ap
+    (λ all. appended TypePart (value_at (drop 3 all) 0) (TreeValue (context_tree (token_of word) (constant_at enters) (constant_at leaves))) ∷ drop 1 (drop 3 all))
+    values
+
+drop_two : (values : List Value) → drop 1 (drop 1 values) ≡ drop 2 values
+drop_two [] = refl
+drop_two (value ∷ []) = refl
+drop_two (value ∷ other ∷ values) = refl
+
+attribute-sorted :
+    (s next : State) (list : Parts (List ℕ)) (after : List Sort) → next.values ≡ ListValue list ∷ drop 1 (drop 1 s.values)
+    → Finds AppendAttribute s after → sorts_of next.values ≡ after
+attribute-sorted s next list after is =
+    replaced AppendAttribute 2 (ListValue list ∷ []) s next after (is ∙ ap (λ rest. ListValue list ∷ rest) (drop_two s.values)) (λ rest. refl)
+
+word_dropped-sorted : (s next : State) (after : List Sort) → word_dropped s ≡ Goes next → Finds AppendAttribute s after → sorts_of next.values ≡ after
+word_dropped-sorted s next after is = replaced AppendAttribute 1 [] s next after (reached _ next is) (λ rest. refl)
 
 context_appended-sorted :
-    (s next : State) (word : Value) (constants : List PlacedConstant) (after : List Sort) → sort_of (value_at s.values 1) ≡ AList
+    (s next : State) (word : Value) (constants : List PlacedConstant) (after : List Sort)
     → context_appended s word constants ≡ Goes next → Finds AppendAttribute s after → sorts_of next.values ≡ after
-context_appended-sorted s next word [] after is_list is =
-    replaced AppendAttribute 2 (value_at s.values 1 ∷ []) s next after (reached _ next is) (λ rest. ap (λ sort. sort ∷ rest) is_list)
-context_appended-sorted s next word (only ∷ []) after is_list is =
-    replaced AppendAttribute 2 (value_at s.values 1 ∷ []) s next after (reached _ next is) (λ rest. ap (λ sort. sort ∷ rest) is_list)
-context_appended-sorted s next word (leaves ∷ enters ∷ others) after is_list is =
-    replaced AppendAttribute 2 (ListValue _ ∷ []) s next after (context_appended-values s next word leaves enters others is) (λ rest. refl)
+context_appended-sorted s next word [] after is = word_dropped-sorted s next after is
+context_appended-sorted s next word (only ∷ []) after is = word_dropped-sorted s next after is
+context_appended-sorted s next word (leaves ∷ enters ∷ others) after is =
+    attribute-sorted s next _ after (context_appended-values s next word leaves enters others is)
 
 item_appended-sorted :
-    (s next : State) (word : Value) (found : Option Attribute) (after : List Sort) → sort_of (value_at s.values 1) ≡ AList
+    (s next : State) (word : Value) (found : Option Attribute) (after : List Sort)
     → item_appended s word found ≡ Goes next → Finds AppendAttribute s after → sorts_of next.values ≡ after
-item_appended-sorted s next word None after is_list is =
-    replaced AppendAttribute 2 (value_at s.values 1 ∷ []) s next after (reached _ next is) (λ rest. ap (λ sort. sort ∷ rest) is_list)
-item_appended-sorted s next word (Some (HasSpace space)) after is_list is = made-sorted AppendAttribute 2 (ListValue _) s next after is (λ rest. refl)
-item_appended-sorted s next word (Some (HasAlign align)) after is_list is = made-sorted AppendAttribute 2 (ListValue _) s next after is (λ rest. refl)
-item_appended-sorted s next word (Some (HasFlag flag)) after is_list is = made-sorted AppendAttribute 2 (ListValue _) s next after is (λ rest. refl)
-item_appended-sorted s next word (Some (HasContext context)) after is_list is =
-    context_appended-sorted s next word (reverse (constants_from (token_of word) (tokens_from s word))) after is_list is
+item_appended-sorted s next word None after is = word_dropped-sorted s next after is
+item_appended-sorted s next word (Some (HasSpace space)) after is = attribute-sorted s next _ after (attribute_appended-values s next 1 _ is)
+item_appended-sorted s next word (Some (HasAlign align)) after is = attribute-sorted s next _ after (attribute_appended-values s next 1 _ is)
+item_appended-sorted s next word (Some (HasFlag flag)) after is = attribute-sorted s next _ after (attribute_appended-values s next 1 _ is)
+item_appended-sorted s next word (Some (HasContext context)) after is =
+    context_appended-sorted s next word (reverse (constants_from (token_of word) (tokens_from s word))) after is
 
 -- Each action
 
@@ -383,7 +406,7 @@ actions_are_sorted BindEnumerator s next sorts is finds = kept-sorted BindEnumer
 actions_are_sorted MakeAttributeList s next sorts is finds =
     attributes_made-sorted s next (below s 1) (below s 0) (attributes_read no_attributes (listed_tokens s (below s 1))) sorts is finds
 actions_are_sorted AppendAttribute s next sorts is finds =
-    item_appended-sorted s next (below s 0) (attribute_of (tokens_from s (below s 0))) sorts (sort_below AppendAttribute s sorts 1 AList (λ rest. refl) finds) is finds
+    item_appended-sorted s next (below s 0) (attribute_of (tokens_from s (below s 0))) sorts is finds
 actions_are_sorted JoinParts s next sorts is finds =
     replaced JoinParts 3 (_ ∷ below s 1 ∷ []) s next sorts (reached _ next is)
     (λ rest. ap (λ sort. AList ∷ sort ∷ rest) (sort_below JoinParts s sorts 1 AWord (λ others. refl) finds)) finds

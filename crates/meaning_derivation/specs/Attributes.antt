@@ -13,9 +13,9 @@ use Rattle.meaning_attributes.specs.Words.{Flag, NoderefFlag, BitwiseFlag, Force
 use Rattle.meaning_attributes.specs.Attributes.{Attributes, Attribute, HasSpace, HasContext, HasAlign, HasFlag}
 use Rattle.meaning_attributes.specs.Reading.{Refusal, HasBad, HasLimit}
 use Rattle.meaning_tree.specs.Trees.{SyntaxTree, Node, NoParts, Part}
-use Rattle.meaning_derivation.specs.Values.{Value, TreeValue, token_of, parts_of, value_at, plain_tree}
+use Rattle.meaning_derivation.specs.Values.{Value, token_of, parts_of, value_at, plain_tree}
 use Rattle.meaning_derivation.specs.Lists.{appended}
-use Rattle.meaning_derivation.specs.State.{State, IsError, PassesLimit, ActionOutcome, Goes, Refuses, with_value, made, made_as}
+use Rattle.meaning_derivation.specs.State.{State, IsError, PassesLimit, ActionOutcome, Goes, Refuses, with_values, with_value, made}
 
 -- the tokens of the unit from that of a word up to that of the next terminal
 abbrev pub tokens_from : State → (word : Value) → List Tok
@@ -31,11 +31,15 @@ listed_tokens s word = in_parentheses (in_parentheses (tokens_from s word))
 abbrev pub list_start : State → (word : Value) → ℕ
 list_start s word = token_of word + length_to_inside (tokens_from s word) + length_to_inside (in_parentheses (tokens_from s word))
 
--- the node of a list in the place of it and of the word below, or what is told of it: at its first bad word
+-- what is told of a list at this token, whose first token has this index
+abbrev pub list_refused : (token start : ℕ) → Refusal → ActionOutcome
+list_refused token start (HasBad bad index) = Refuses (IsError BadAttribute) (start + index)
+list_refused token start HasLimit = Refuses (PassesLimit ContextStep) token
+
+-- the node of a list in the place of it and of the word below
 abbrev pub attributes_made : State → (word list : Value) → Result Attributes Refusal → ActionOutcome
 attributes_made s word list (Ok attributes) = made s 2 (plain_tree kinds.AttributeList (token_of word) (parts_of list))
-attributes_made s word list (Err (HasBad bad index)) = Refuses (IsError BadAttribute) (list_start s word + index)
-attributes_made s word list (Err HasLimit) = Refuses (PassesLimit ContextStep) (token_of word)
+attributes_made s word list (Err refusal) = list_refused (token_of word) (list_start s word) refusal
 
 -- Attributes
 
@@ -64,22 +68,30 @@ abbrev pub and_then : ActionOutcome → (State → ActionOutcome) → ActionOutc
 and_then (Goes s) step = step s
 and_then (Refuses fault stands) step = Refuses fault stands
 
--- a node at the end of the list that stands so far below the top, in the place of both and of all above the list
-abbrev pub attribute_appended : State → (depth : ℕ) → SyntaxTree → ActionOutcome
-attribute_appended s depth tree = made_as s (depth + 1) (appended TypePart (value_at s.values depth) (TreeValue tree))
+-- the tree on top at the end of the list below it
+abbrev pub tree_appended : State → ActionOutcome
+tree_appended s = Goes (with_value s 2 (appended TypePart (value_at s.values 1) (value_at s.values 0)))
 
--- the nodes of a context's numbers, which are the last two constants of its item, and then its own
+-- a node in the place of so many values, at the end of the list below them
+abbrev pub attribute_appended : State → (count : ℕ) → SyntaxTree → ActionOutcome
+attribute_appended s count tree = and_then (made s count tree) tree_appended
+
+-- the word on top goes
+abbrev pub word_dropped : State → ActionOutcome
+word_dropped s = Goes (with_values s (drop 1 s.values))
+
+-- The nodes of a context's numbers, and then its own. They are the last two constants of its item.
 abbrev pub context_appended : State → (word : Value) → (constants_from_the_last : List PlacedConstant) → ActionOutcome
 context_appended s word (leaves ∷ enters ∷ others) =
     and_then (made s 0 (constant_at enters)) (λ one.
     and_then (made one 0 (constant_at leaves)) (λ two.
     attribute_appended two 3 (context_tree (token_of word) (constant_at enters) (constant_at leaves))))
-context_appended s word (only ∷ []) = Goes (with_value s 2 (value_at s.values 1))
-context_appended s word [] = Goes (with_value s 2 (value_at s.values 1))
+context_appended s word (only ∷ []) = word_dropped s
+context_appended s word [] = word_dropped s
 
--- a word, and the list below it with the node of what its item means, if that is something
+-- the node of what a word's item means in its place, at the end of the list below it, if that is something
 abbrev pub item_appended : State → (word : Value) → Option Attribute → ActionOutcome
-item_appended s word None = Goes (with_value s 2 (value_at s.values 1))
+item_appended s word None = word_dropped s
 item_appended s word (Some (HasSpace space)) = attribute_appended s 1 (space_tree (token_of word) space)
 item_appended s word (Some (HasAlign align)) = attribute_appended s 1 (Node kinds.AlignedAttribute (token_of word) [] align NoParts)
 item_appended s word (Some (HasFlag flag)) = attribute_appended s 1 (plain_tree (kind_of_flag flag) (token_of word) NoParts)

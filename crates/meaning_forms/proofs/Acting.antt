@@ -40,7 +40,7 @@ use Rattle.meaning_derivation.specs.Scoping.{declared, bound, bound_as, last_han
 use Rattle.meaning_derivation.specs.Shapes.{Shape, shape_of, shaped_tree}
 use Rattle.meaning_derivation.specs.Actions.{act, below, specified}
 use Rattle.meaning_derivation.proofs.Shaping.{shapes_are_made}
-use Rattle.meaning_derivation.proofs.Sorting.{context_appended-values}
+use Rattle.meaning_derivation.proofs.Sorting.{attribute_appended-values, context_appended-values}
 use Rattle.meaning_forms.proofs.Slots.{is_within, IsOf-more, within-fits, both}
 use Rattle.meaning_forms.proofs.Knowledge.{Known, AWord, ATree, AList, AreOf, Is, grown, is_list, grown-is, alone-is, are_of-behind, with_parts-none}
 use Rattle.meaning_forms.proofs.Effects.{behind_known, behind_shape, type_name_shape, specifiers_known, where_, declarator_parts, one_attribute, lists_of_attributes, slots_from}
@@ -350,23 +350,23 @@ module _ (begun : Parts (List ℕ)) (s next : State) (rest : List Value) where
   put_attribute :
       (token : ℕ) (text : List ℕ) (tree : SyntaxTree) (list : Known) (parts : Parts (List ℕ)) (known after : List Known) (left : List Value)
       → s.values ≡ WordValue token text ∷ ListValue parts ∷ left
-      → next.values ≡ appended TypePart (value_at s.values 1) (TreeValue tree) ∷ drop 2 s.values
+      → next.values ≡ appended TypePart (value_at (drop 1 s.values) 0) (TreeValue tree) ∷ drop 1 (drop 1 s.values)
       → IsFormedTree tree × IsOf (AnAttribute ∷ []) tree → is_list list ≡ true → Is begun list (ListValue parts)
       → grown list one_attribute ∷ known ≡ after → Stand begun known left rest → Leaves after
   put_attribute token text tree list parts known after left values is formed test list_is same stand =
       replace (grown list one_attribute) known after (ListValue (with_parts parts (Part TypePart tree NoParts))) left
-      (is ∙ ap (λ all. appended TypePart (value_at all 1) (TreeValue tree) ∷ drop 2 all) values)
+      (is ∙ ap (λ all. appended TypePart (value_at (drop 1 all) 0) (TreeValue tree) ∷ drop 1 (drop 1 all)) values)
       (grown-is begun list parts (Part TypePart tree NoParts) one_attribute test list_is (there formed.1 nothing, (formed.0, tt))) same stand
 
   -- or none
   put_no_attribute :
       (token : ℕ) (text : List ℕ) (list : Known) (parts : Parts (List ℕ)) (known after : List Known) (left : List Value)
-      → s.values ≡ WordValue token text ∷ ListValue parts ∷ left → next.values ≡ value_at s.values 1 ∷ drop 2 s.values
+      → s.values ≡ WordValue token text ∷ ListValue parts ∷ left → next.values ≡ drop 1 s.values
       → is_list list ≡ true → Is begun list (ListValue parts)
       → grown list one_attribute ∷ known ≡ after → Stand begun known left rest → Leaves after
   put_no_attribute token text list parts known after left values is test list_is same stand =
       replace (grown list one_attribute) known after (ListValue parts) left
-      (is ∙ ap (λ all. value_at all 1 ∷ drop 2 all) values)
+      (is ∙ ap (drop 1) values)
       (subst (λ p. Is begun (grown list one_attribute) (ListValue p)) (with_parts-none parts)
       (grown-is begun list parts NoParts one_attribute test list_is (left_out nothing, tt))) same stand
 
@@ -378,11 +378,11 @@ module _ (begun : Parts (List ℕ)) (s next : State) (rest : List Value) where
   item_acts word None token text list parts known after left is values test list_is same stand =
       put_no_attribute token text list parts known after left values (reached _ next is) test list_is same stand
   item_acts word (Some (HasSpace space)) token text list parts known after left is values test list_is same stand =
-      put_attribute token text _ list parts known after left values (made-values s next 2 _ is) (space_is (token_of word) space) test list_is same stand
+      put_attribute token text _ list parts known after left values (attribute_appended-values s next 1 _ is) (space_is (token_of word) space) test list_is same stand
   item_acts word (Some (HasAlign align)) token text list parts known after left is values test list_is same stand =
-      put_attribute token text _ list parts known after left values (made-values s next 2 _ is) ((nothing, tt), refl) test list_is same stand
+      put_attribute token text _ list parts known after left values (attribute_appended-values s next 1 _ is) ((nothing, tt), refl) test list_is same stand
   item_acts word (Some (HasFlag flag)) token text list parts known after left is values test list_is same stand =
-      put_attribute token text _ list parts known after left values (made-values s next 2 _ is) (flag_is (token_of word) flag) test list_is same stand
+      put_attribute token text _ list parts known after left values (attribute_appended-values s next 1 _ is) (flag_is (token_of word) flag) test list_is same stand
   item_acts word (Some (HasContext context)) token text list parts known after left is values test list_is same stand =
       context_item (reverse (constants_from (token_of word) (tokens_from s word))) is
     where

@@ -2,3 +2,4 @@ pub mod Finding
 pub mod Dropping
 pub mod Listing
 pub mod Parameters
+pub mod Attributes

@@ -37,6 +37,6 @@ pub IsUnitList-numbered : (list : NodeList NameId) (handle number : ℕ) → IsU
 IsUnitList-numbered list handle number unit = record {
   small = omega (arith, unit.small, length-numbered list.nodes (handle - list.first) number);
   order = λ other node has.
-    let (before, was, children) = node-numbered list.nodes (handle - list.first) number (other - list.first) node has.1 in
-    subst (All (λ child. (list.first ≤ child.0) × (child.0 < other))) children (unit.order other before (has.0, was));
+      let (before, was, children) = node-numbered list.nodes (handle - list.first) number (other - list.first) node has.1 in
+      subst (All (λ child. (list.first ≤ child.0) × (child.0 < other))) children (unit.order other before (has.0, was));
 }

@@ -17,3 +17,4 @@ pub mod Finished
 pub mod SpecifiedKinds
 pub mod HandedOn
 pub mod Numbered
+pub mod OwnKeywords

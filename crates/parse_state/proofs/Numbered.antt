@@ -156,7 +156,7 @@ trees_from-behind trees [] second = refl
 trees_from-behind trees (node ∷ first) second = trees_from-behind (trees ++ tree_over trees node ∷ []) first second
 
 module _ (names : List (List ℕ)) (begins : ℕ) (front : List (TreeNode NameId)) (node top : TreeNode NameId) (place tag : ℕ) (many : length front ≡ place) (only : top.children ≡ (place, tag) ∷ []) where
-  abbrev trees_before : List SyntaxTree
+  abbrev pub trees_before : List SyntaxTree
   trees_before = spelled_trees names (record { first = begins; nodes = front })
 
   -- the specifier, with this number
@@ -170,16 +170,16 @@ module _ (names : List (List ℕ)) (begins : ℕ) (front : List (TreeNode NameId
   abbrev numbered_nodes : ℕ → NodeList NameId
   numbered_nodes number = record { first = begins; nodes = front ++ record node { number = number } ∷ top ∷ [] }
 
-  abbrev over_both : ℕ → SyntaxTree
+  abbrev pub over_both : ℕ → SyntaxTree
   over_both number = tree_over (trees_before ++ specifier_tree number ∷ []) (renamed_node (text_of names) top)
 
-  all_trees : (number : ℕ) → spelled_trees names (numbered_nodes number) ≡ trees_before ++ specifier_tree number ∷ over_both number ∷ []
+  pub all_trees : (number : ℕ) → spelled_trees names (numbered_nodes number) ≡ trees_before ++ specifier_tree number ∷ over_both number ∷ []
   all_trees number =
       ap (trees_from []) (map-append (renamed_node (text_of names)) front (record node { number = number } ∷ top ∷ []))
       ∙ trees_from-behind [] (map (renamed_node (text_of names)) front) (renamed_node (text_of names) (record node { number = number }) ∷ renamed_node (text_of names) top ∷ [])
       ∙ append_assoc trees_before (specifier_tree number ∷ []) (over_both number ∷ [])
 
-  count : length trees_before ≡ place
+  pub count : length trees_before ≡ place
   count = length-spelled_trees names (record { first = begins; nodes = front }) ∙ many
 
   over_is : (number : ℕ) → over_both number ≡ top_tree number

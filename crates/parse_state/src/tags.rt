@@ -72,7 +72,7 @@ fn is_new_here(found: Option<(Handle, Bound, bool)>) -> bool
 }
 
 impl<'t> ParseState<'t> {
-    ghost use Rattle.std.specs.Prelude.{◌≡◌, ◌<◌, IfNone, IfSome, OnOk, length, true};
+    ghost use Rattle.std.specs.Prelude.{◌≡◌, IfNone, IfSome, OnOk, false, true};
     ghost use Rattle.meaning_derivation.specs.Values.{value_at as value_below};
     ghost use Rattle.meaning_derivation.specs.State.{Goes};
     ghost use Rattle.meaning_derivation.specs.Scoping.{tag_declared};
@@ -111,6 +111,7 @@ impl<'t> ParseState<'t> {
     fn is_new_tag(&self, specifier: Handle) -> bool
         requires lone { IsLone self.now specifier }
         ensures new { HasNodeWith self.now.list specifier (λ node. result ≡ is_new_tag self.now node) }
+        ensures kept { result ≡ false → tag_declared (state_of self.now) (value_below (state_of self.now).values 0) ≡ Goes (state_of self.now) }
     {
         self.names.apart();
         self.unit.each_node_stands_for_one_tree();
@@ -129,7 +130,8 @@ impl<'t> ParseState<'t> {
     {
         self.unit.each_node_stands_for_one_tree();
         let tag = name_of_node(&self.unit, specifier);
-        self.scopes.bind(NameSpace::Tags, tag.name, tag.token, Bound::Tag)?;
+        self.scopes
+            .bind(NameSpace::Tags, tag.name, tag.token, Bound::Tag)?;
         self.unit.set_number(specifier, u64::from(tag.token));
         Ok(())
     }

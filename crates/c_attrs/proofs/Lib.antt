@@ -5,3 +5,5 @@ pub mod ArgumentLemmas
 pub mod NumberLemmas
 pub mod PartLemmas
 pub mod RefusalLemmas
+pub mod Closing
+pub mod IntegerLemmas

@@ -10,7 +10,7 @@ use Rattle.meaning_attributes.specs.Reading.{Refusal, HasBad, HasLimit, attribut
 use Rattle.c_attrs.specs.declared.fault.AttrFault.{AttrFault}
 use Rattle.c_attrs.specs.declared.fault.AttrFault.TheVariants.{Memory}
 use Rattle.c_attrs.specs.Seen.{fault_telling}
-use Rattle.c_attrs.specs.Parts.{first_of, refusal_of}
+use Rattle.c_attrs.specs.Parts.{first_of, refusal_in, refusal_of}
 
 either : (limit : Bool) (bad : Option Refusal) (attributes : Attributes) → cond limit (Err HasLimit) (unless_bad bad attributes) ≡ unless_bad (cond limit (Some HasLimit) bad) attributes
 either true bad attributes = refl
@@ -21,6 +21,15 @@ pub attributes_read-unless : (before : Attributes) (tokens : List Tok) → attri
 attributes_read-unless before tokens =
     let items = comma_pieces tokens in
     either (list_any (λ item. passes_limit (meaning_of item)) items) (first_bad 0 items) (with_items before items)
+
+-- and its refusal is that of the list
+refusal_in-unless : (bad : Option Refusal) (attributes : Attributes) → refusal_in (unless_bad bad attributes) ≡ bad
+refusal_in-unless None attributes = refl
+refusal_in-unless (Some refusal) attributes = refl
+
+pub refusal_in-read : (before : Attributes) (tokens : List Tok) → refusal_in (attributes_read before tokens) ≡ refusal_of (comma_pieces tokens)
+refusal_in-read before tokens =
+    ap refusal_in (attributes_read-unless before tokens) ∙ refusal_in-unless (refusal_of (comma_pieces tokens)) (with_items before (comma_pieces tokens))
 
 -- each refusal has a fault of its own, which isn't want of memory
 fault_telling-apart : (refusal other : Refusal) → fault_telling refusal ≡ fault_telling other → refusal ≡ other

@@ -3,3 +3,5 @@ pub mod Meanings
 pub mod Fronts
 pub mod Cuts
 pub mod Parts
+pub mod Closing
+pub mod Integers

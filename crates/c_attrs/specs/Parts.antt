@@ -1,5 +1,5 @@
 -- The parts of what a list comes to: its refusal, its contexts, and the other attributes.
-use Rattle.std.specs.Prelude.{List, [], ◌∷◌, ◌++◌, Option, Some, None, if◌then◌else◌}
+use Rattle.std.specs.Prelude.{List, [], ◌∷◌, ◌++◌, Option, Some, None, Result, Ok, Err, if◌then◌else◌}
 use Rattle.std.specs.List.{list_any}
 use Rattle.sparse_model.specs.declared.context.ContextEntry.{ContextEntry}
 use Rattle.meaning_text.specs.Tokens.{Tok}
@@ -12,6 +12,11 @@ use Rattle.c_attrs.specs.Seen.{context_seen}
 -- why items are refused, if they are
 abbrev pub refusal_of : List (List Tok) → Option Refusal
 refusal_of items = if list_any (λ item. passes_limit (meaning_of item)) items then Some HasLimit else first_bad 0 items
+
+-- why there are no attributes, if there are none
+abbrev pub refusal_in : Result Attributes Refusal → Option Refusal
+refusal_in (Ok attributes) = None
+refusal_in (Err refusal) = Some refusal
 
 -- the refusal that was found before, or else a later one
 abbrev pub first_of : Option Refusal → Option Refusal → Option Refusal

@@ -1,13 +1,13 @@
 // A whole attribute list: what its items come to, or why it is refused.
 ghost use Rattle.std.specs.Prelude.{◌≡◌, ◌↔◌, ◌++◌, ◌<◌, ◌≤◌, ◌^◌, List, ℕ, Ok, Err, Option, None, IsErrOf, OnErr, OnOk, length, map, option_map, take};
 ghost use Rattle.meaning_attributes.specs.Pieces.{comma_pieces};
-ghost use Rattle.meaning_attributes.specs.Attributes.{FunctionContext};
+ghost use Rattle.meaning_attributes.specs.Attributes.{Attributes, FunctionContext};
 ghost use Rattle.meaning_attributes.specs.Items.{meaning_of};
 ghost use Rattle.meaning_attributes.specs.Reading.{Refusal, attributes_read, bad_or, passes_limit, with_items};
 ghost use Rattle.c_tokens.specs.Seen.{toks_of};
 ghost use Rattle.c_attrs.specs.Seen.{attrs_seen, context_seen, fault_telling};
 ghost use Rattle.c_attrs.specs.Meanings.{meaning_seen};
-ghost use Rattle.c_attrs.specs.Parts.{contexts_among, contexts_meant, contexts_of, first_of, refusal_of, replacing_contexts};
+ghost use Rattle.c_attrs.specs.Parts.{contexts_among, contexts_meant, contexts_of, first_of, refusal_in, refusal_of, replacing_contexts};
 
 use crate::attribute::{Attribute, Attrs};
 use crate::fault::AttrFault;
@@ -47,6 +47,15 @@ pub fn read_attrs(
     append_contexts(names, toks, &mut attrs.contexts)?;
     set_others(names, toks, attrs);
     Ok(())
+}
+
+/// Why a list with these tokens between its double parentheses is refused, if it is, as [`read_attrs`] tells it. It takes no
+/// memory.
+pub fn list_refusal(names: &Names, toks: &[Token]) -> Option<AttrFault>
+    requires few { length toks.now < 2 ^ 32 }
+    ensures { (before : Attributes) → result ≡ option_map fault_telling (refusal_in (attributes_read before (toks_of names.now toks.now))) }
+{
+    refusal(names, toks)
 }
 
 // Why the list is refused, if it is.

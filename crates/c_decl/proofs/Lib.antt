@@ -1,4 +1,4 @@
 pub mod Finding
-pub mod Dropping
 pub mod Listing
 pub mod Parameters
+pub mod Appending

@@ -90,7 +90,7 @@ made_there : (test : Bool) (s next mid : State) (fault : Fault) (stands : ℕ) �
 made_there true s next mid fault stands is = (refl, sym (ap (state_or s) is))
 made_there false s next mid fault stands is = absurd (cc is)
 
-made_state : (s mid : State) (count : ℕ) (value : Value) → made_as s count value ≡ Goes mid
+pub made_state : (s mid : State) (count : ℕ) (value : Value) → made_as s count value ≡ Goes mid
     → (nat_lt s.nodes most_nodes ≡ true) × (mid ≡ record s { values = value ∷ drop count s.values; nodes = s.nodes + 1 })
 made_state s mid count value is = made_there (nat_lt s.nodes most_nodes) s (record s { values = value ∷ drop count s.values; nodes = s.nodes + 1 }) mid (PassesLimit Nodes) s.next_token is
 

@@ -10,7 +10,7 @@ ghost use Rattle.parse_state.specs.Seen.{state_of};
 ghost use Rattle.parse_state.specs.Steps.{IsToldBy};
 
 use crate::attributes::{
-    append_attribute, append_leading_attributes, make_parenthesized_attributes,
+    append_attribute, append_leading_attributes, make_attribute_list, make_parenthesized_attributes,
 };
 use crate::binding::{bind_declarator, bind_enumerator, bind_parameter};
 use crate::declarators::{
@@ -26,7 +26,7 @@ use crate::specifiers::{
     make_block_specifiers, make_file_specifiers, make_member_specifiers, make_parameter_specifiers,
     make_type_name_specifiers, require_type, require_type_or_attributes,
 };
-use crate::tags::{define_tag, use_tag};
+use crate::tags::{declare_tag, define_tag, use_tag};
 use parse_state::{ActionFault, ParseState};
 use vocabulary::Action;
 
@@ -68,15 +68,13 @@ pub fn act(state: &mut ParseState<'_>, action: Action) -> Result<(), ActionFault
             require_type_or_attributes(state);
             Ok(())
         }
-        Action::DeclareTag => Ok(()),
+        Action::DeclareTag => declare_tag(state),
         Action::UseTypedefName => use_typedef_name(state),
         Action::WithoutTag => put_no_tag(state),
         Action::DefineTag => define_tag(state),
         Action::UseTag => use_tag(state),
-        Action::AppendAttribute => {
-            append_attribute(state);
-            Ok(())
-        }
+        Action::MakeAttributeList => make_attribute_list(state),
+        Action::AppendAttribute => append_attribute(state),
         Action::AppendLeadingAttributes => append_leading_attributes(state),
         Action::MakeParenthesizedAttributes => make_parenthesized_attributes(state),
         Action::JoinParts => join_parts(state),

@@ -10,6 +10,7 @@ mod declarators;
 mod functions;
 mod names;
 mod nodes;
+mod numbers;
 mod specifiers;
 mod tags;
 

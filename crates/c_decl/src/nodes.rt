@@ -82,14 +82,6 @@ pub fn make_node(state: &mut ParseState<'_>, action: Action) -> Result<(), Actio
             number: None,
             sources: &[Source::AllTrees(0)],
         }),
-        Action::MakeAttributeList => state.make_row(&Row {
-            takes: 2,
-            kind: NodeKind::AttributeList,
-            place: Place::AtWord(1),
-            name: None,
-            number: None,
-            sources: &[Source::AllTrees(0)],
-        }),
         Action::MakeDeclarator => state.make_row(&Row {
             takes: 2,
             kind: NodeKind::Declarator,

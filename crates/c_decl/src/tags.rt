@@ -1,6 +1,6 @@
 // Tags (C11 6.7.2.3), each with the keyword that first names it in its scope.
 ghost use Rattle.std.specs.Prelude.{◌≡◌, IfErr, OnOk};
-ghost use Rattle.vocabulary.specs.declared.action.Action.TheVariants.{DefineTag, UseTag};
+ghost use Rattle.vocabulary.specs.declared.action.Action.TheVariants.{DeclareTag, DefineTag, UseTag};
 ghost use Rattle.vocabulary.specs.declared.scope.NameSpace.TheVariants.{Tags};
 ghost use Rattle.vocabulary.specs.declared.scope.Bound.TheVariants.{Tag};
 ghost use Rattle.meaning_derivation.specs.Values.{text_of, value_at};
@@ -38,6 +38,16 @@ pub fn use_tag(state: &mut ParseState<'_>) -> Result<(), ActionFault>
         Some((first, _, _)) => put_keyword(state, first),
         None => bind_tag(state, keyword),
     }
+}
+
+/// A structure's or a union's tag that is a declaration on its own: the innermost scope has it from its own keyword on.
+pub fn declare_tag(state: &mut ParseState<'_>) -> Result<(), ActionFault>
+    ensures goes { OnOk result (act DeclareTag (state_of state.old) ≡ Goes (state_of state.new)) }
+    ensures told { IfErr result (IsToldBy (act DeclareTag (state_of state.old))) }
+    ensures names { state.new.names ≡ state.old.names }
+{
+    state.declare_tag()?;
+    Ok(())
 }
 
 // The keyword that first names the tag.

@@ -1,2 +1,3 @@
 mod Nodes
 mod Units
+pub mod Numbers

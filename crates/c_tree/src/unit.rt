@@ -36,6 +36,7 @@ impl Unit {
     ghost use Rattle.std.specs.Prelude.{◌≡◌, ◌<◌, ◌≤◌, ◌↔◌, [], All, IfErr, IfOk, IsErrAnd, OnErr, OnOk};
     ghost use Rattle.meaning_tree.specs.Nodes.{ChildrenStandBefore, HasNode, end_of, joined, with_node};
     ghost use Rattle.c_tree.specs.Seen.{EachStandsForOneTree, HasNodeWith, IsFinished, most_nodes, node_of};
+    ghost use Rattle.c_tree.specs.Numbers.{with_number};
 
     /// An empty unit whose first handle is 0. It takes no memory.
     pub fn new(alloc: Global) -> Unit
@@ -121,6 +122,16 @@ impl Unit {
         ensures { HasNodeWith self.now h (λ node. node.token ≡ result) }
     {
         self.node(h).token
+    }
+
+    /// Gives the node with this handle another number.
+    pub fn set_number(&mut self, h: Handle, number: u64)
+        requires from { self.old.first ≤ h }
+        requires below { h < end_of self.old }
+        ensures { self.new ≡ with_number self.old h number }
+    {
+        let place = h - self.first;
+        self.nodes.get_mut(place).number = number;
     }
 
     /// The handle that the next node will have: the first handle, and one for each node.

@@ -1,5 +1,6 @@
 pub mod Tokens
 pub mod Pieces
+pub mod Integers
 pub mod Words
 pub mod Attributes
 pub mod Meanings

@@ -1,34 +1,42 @@
 -- Each action that goes on leaves values of the sorts that its effect says.
-use Rattle.std.proofs.Common.{◌≡◌, ℕ, zero, suc, ◌+◌, Bool, true, false, ◌&&◌, List, [], ◌∷◌, ◌++◌, drop, length, slice_get, Option, Some, None, refl, sym, ap, subst, ◌∙◌, arith, if◌then◌else◌, nat_lt, Result, Ok, Err, ℤ}
+use Rattle.std.proofs.Common.{◌≡◌, ℕ, zero, suc, ◌+◌, Bool, true, false, ◌&&◌, List, [], ◌∷◌, ◌++◌, drop, length, reverse, slice_get, Option, Some, None, refl, sym, ap, subst, ◌∙◌, arith, if◌then◌else◌, nat_lt, Result, Ok, Err, ℤ}
 use Rattle.std.proofs.lemmas.List.{map-append}
 use Rattle.std.proofs.lemmas.Option.{same_Some, slice_get_within}
 use Rattle.vocabulary.specs.declared.error_kind.ErrorKind.TheVariants.{BadDeclaration}
 use Rattle.vocabulary.specs.declared.limit.LimitKind.TheVariants.{Parameters}
+use Rattle.vocabulary.specs.declared.role.Role.TheVariants.{TypePart}
 use Rattle.vocabulary.specs.declared.scope.NameSpace.TheVariants.{Ordinary, Tags}
 use Rattle.vocabulary.specs.declared.scope.Bound.{Bound}
 use Rattle.vocabulary.specs.declared.scope.Bound.TheVariants.{Enumerator, Unlinked}
 use Rattle.vocabulary.specs.declared.action.Action.{Action}
-use Rattle.vocabulary.specs.declared.action.Action.TheVariants.{Append, AppendAttribute, AppendDeclarator, AppendLeadingAttributes, AwaitBody, BeginAtNext, BeginDeclarators, BeginList, BindDeclarator, BindEnumerator, BindFurtherDeclarator, BindParameter, CloseParameters, CloseScope, CountParameter, DeclareTag, DefineTag, JoinAnyParts, JoinParts, JoinSuffixes, MakeBlockSpecifiers, MakeCharacterConstant, MakeContextStatement, MakeFileSpecifiers, MakeForPart, MakeIntegerConstant, MakeMemberSpecifiers, MakeOptionalDeclarator, MakeParameterSpecifiers, MakeParenthesizedAttributes, MakeStringLiteral, MakeTypeName, MakeTypeNameSpecifiers, NoteFunctionDeclarator, OpenBody, OpenScope, RequireType, RequireTypeOrAttributes, UseName, UseTag, UseTypedefName, WithoutTag}
+use Rattle.vocabulary.specs.declared.action.Action.TheVariants.{Append, AppendAttribute, AppendDeclarator, AppendLeadingAttributes, AwaitBody, BeginAtNext, BeginDeclarators, BeginList, BindDeclarator, BindEnumerator, BindFurtherDeclarator, BindParameter, CloseParameters, CloseScope, CountParameter, DeclareTag, DefineTag, JoinAnyParts, JoinParts, JoinSuffixes, MakeAttributeList, MakeBlockSpecifiers, MakeCharacterConstant, MakeContextStatement, MakeFileSpecifiers, MakeForPart, MakeIntegerConstant, MakeMemberSpecifiers, MakeOptionalDeclarator, MakeParameterSpecifiers, MakeParenthesizedAttributes, MakeStringLiteral, MakeTypeName, MakeTypeNameSpecifiers, NoteFunctionDeclarator, OpenBody, OpenScope, RequireType, RequireTypeOrAttributes, UseName, UseTag, UseTypedefName, WithoutTag}
 use Rattle.vocabulary.specs.declared.int_kind.IntKind.{IntKind}
 use Rattle.vocabulary.specs.declared.node_kind.NodeKind.{NodeKind}
 use Rattle.vocabulary.specs.declared.node_kind.NodeKind.TheVariants as kinds
 use Rattle.vocabulary.specs.declared.production_item.ProductionItem.{ProductionItem}
 use Rattle.vocabulary.specs.declared.production_item.ProductionItem.TheVariants.{Do}
+use Rattle.meaning_attributes.specs.Pieces.{in_parentheses}
+use Rattle.meaning_attributes.specs.Integers.{PlacedConstant, constants_from}
+use Rattle.meaning_attributes.specs.Attributes.{Attributes, Attribute, HasSpace, HasContext, HasAlign, HasFlag, no_attributes}
+use Rattle.meaning_attributes.specs.Items.{attribute_of}
+use Rattle.meaning_attributes.specs.Reading.{Refusal, HasBad, HasLimit, attributes_read}
 use Rattle.meaning_attributes.specs.Contexts.{ChangeFault, BadChange, ChangePassesLimit, change_of}
 use Rattle.meaning_literals.specs.Constants.{Constant, Fault}
 use Rattle.meaning_literals.specs.Integers.{integer_of}
 use Rattle.meaning_literals.specs.Quoted.{char_of}
-use Rattle.meaning_tree.specs.Trees.{Node, Parts, NoParts, Part}
+use Rattle.meaning_tree.specs.Trees.{SyntaxTree, Node, Parts, NoParts, Part}
 use Rattle.meaning_scopes.specs.Scopes.{Found, is_open}
 use Rattle.meaning_scopes.specs.Redeclaration.{bound_here, is_redeclared}
 use Rattle.meaning_grammar.specs.Sorts.{Sort, AWord, ATree, AList, is_same_sort, action_effect, exchanged, effect, effects}
 use Rattle.meaning_derivation.specs.Values.{Value, WordValue, TreeValue, ListValue, sort_of, sorts_of, value_at, token_of, text_of, parts_of, name_of}
-use Rattle.meaning_derivation.specs.State.{State, ActionOutcome, Goes, Refuses, made_as, most_nodes, with_limit}
-use Rattle.meaning_derivation.specs.Lists.{has_spelling, name_or, unnamed_declarator, attributes_list, leading_attributes, part_of_for, part_count, most_parameters, type_name}
+use Rattle.meaning_derivation.specs.State.{State, ActionOutcome, Goes, Refuses, made, made_as, most_nodes, with_limit}
+use Rattle.meaning_derivation.specs.Lists.{appended, has_spelling, name_or, unnamed_declarator, attributes_list, leading_attributes, part_of_for, part_count, most_parameters, type_name}
 use Rattle.meaning_derivation.specs.State as states
 use Rattle.meaning_derivation.specs.Literals.{BadLiteral, bad_piece, constant_made, string_made}
-use Rattle.meaning_derivation.specs.Contexts.{in_parentheses, tokens_behind, context_made}
-use Rattle.meaning_derivation.specs.Scoping.{declared, bound, bound_as, last_handle, parameter_bound, tag_at, found_name, found_here, parts_below, ends_with_parameters, name_used, typedef_named, without_closed}
+use Rattle.meaning_derivation.specs.Contexts.{tokens_behind, context_made}
+use Rattle.meaning_derivation.specs.Attributes.{tokens_from, listed_tokens, attributes_made, constant_at, context_tree, and_then, attribute_appended, word_dropped, context_appended, item_appended}
+use Rattle.meaning_derivation.specs.Scoping.{declared, bound, bound_as, last_handle, parameter_bound, tag_at, is_member_list, is_lone_tag, is_new_here, with_own_keyword, tag_declared, found_name, found_here, parts_below, ends_with_parameters, name_used, typedef_named, without_closed}
+use Rattle.meaning_derivation.specs.Storage.{has_kind}
 use Rattle.meaning_derivation.specs.Specifiers.{is_bad_in_file, is_bad_in_block, is_bad_member, is_refused_parameter, parameter_error, held_where}
 use Rattle.meaning_derivation.specs.Actions.{below, specified}
 use Rattle.meaning_derivation.specs.laws.Sorts.{ActionsAreSorted, ActionsLeadOn}
@@ -234,6 +242,23 @@ tag-sorted action s next None tag keyword after is = replaced action 0 (WordValu
 tag-sorted action s next (Some first) tag keyword after is =
     replaced action 0 (WordValue first.entry.declaration [] ∷ []) s next after (reached _ next is)
 
+-- a tree is put in the place of another one, or not
+declared_tag-either :
+    (test : Bool) (s next : State) (tag : List ℕ) (keyword : ℕ) (tree : SyntaxTree) (after : List Sort)
+    → Goes (if test then with_own_keyword s tag keyword tree else s) ≡ Goes next → Finds DeclareTag s after → sorts_of next.values ≡ after
+declared_tag-either true s next tag keyword tree after is = replaced DeclareTag 1 (TreeValue tree ∷ []) s next after (reached _ next is) (λ rest. refl)
+declared_tag-either false s next tag keyword tree after is = kept-sorted DeclareTag s next after (reached _ next is) (λ rest. refl)
+
+declared_tag-sorted :
+    (s next : State) (specifiers : Value) (after : List Sort) → tag_declared s specifiers ≡ Goes next → Finds DeclareTag s after → sorts_of next.values ≡ after
+declared_tag-sorted s next (TreeValue (Node kind token name number (Part role (Node specifier keyword tag first parts) NoParts))) after is =
+    declared_tag-either (is_lone_tag specifier tag (has_kind is_member_list parts) && is_new_here s tag) s next tag keyword _ after is
+declared_tag-sorted s next (TreeValue (Node kind token name number NoParts)) after is = kept-sorted DeclareTag s next after (reached _ next is) (λ rest. refl)
+declared_tag-sorted s next (TreeValue (Node kind token name number (Part role (Node specifier keyword tag first parts) (Part other_role other others)))) after is =
+    kept-sorted DeclareTag s next after (reached _ next is) (λ rest. refl)
+declared_tag-sorted s next (WordValue token text) after is = kept-sorted DeclareTag s next after (reached _ next is) (λ rest. refl)
+declared_tag-sorted s next (ListValue parts) after is = kept-sorted DeclareTag s next after (reached _ next is) (λ rest. refl)
+
 name-sorted :
     (s next : State) (found : Option (Found (List ℕ))) (word : Value) (after : List Sort) → name_used s found word ≡ Goes next
     → Finds UseName s after → sorts_of next.values ≡ after
@@ -267,6 +292,78 @@ context-sorted s next word (Ok change) after is = made-sorted MakeContextStateme
 context-sorted s next word (Err BadChange) after is = absurd (cc is)
 context-sorted s next word (Err ChangePassesLimit) after is = absurd (cc is)
 
+-- Attributes
+
+attributes_made-sorted :
+    (s next : State) (word list : Value) (found : Result Attributes Refusal) (after : List Sort) → attributes_made s word list found ≡ Goes next
+    → Finds MakeAttributeList s after → sorts_of next.values ≡ after
+attributes_made-sorted s next word list (Ok attributes) after is = made-sorted MakeAttributeList 2 (TreeValue _) s next after is (λ rest. refl)
+attributes_made-sorted s next word list (Err (HasBad bad index)) after is = absurd (cc is)
+attributes_made-sorted s next word list (Err HasLimit) after is = absurd (cc is)
+
+-- the state between two steps
+pub and_then-between :
+    (outcome : ActionOutcome) (step : State → ActionOutcome) (next : State) → and_then outcome step ≡ Goes next
+    → (middle : State) × (outcome ≡ Goes middle) × (step middle ≡ Goes next)
+and_then-between (Goes middle) step next is = (middle, refl, is)
+and_then-between (Refuses fault stands) step next is = absurd (cc is)
+
+-- a node comes in the place of so many values, and goes to the end of the list below them
+pub attribute_appended-values :
+    (s next : State) (count : ℕ) (tree : SyntaxTree) → attribute_appended s count tree ≡ Goes next
+    → next.values ≡ appended TypePart (value_at (drop count s.values) 0) (TreeValue tree) ∷ drop 1 (drop count s.values)
+attribute_appended-values s next count tree is =
+    let (middle, first, behind) = and_then-between (made s count tree) _ next is in
+    reached _ next behind
+    ∙ ap (λ all. appended TypePart (value_at all 1) (value_at all 0) ∷ drop 2 all) (made-values s middle count (TreeValue tree) first)
+
+-- a context's two numbers come and go
+pub context_appended-values :
+    (s next : State) (word : Value) (leaves enters : PlacedConstant) (others : List PlacedConstant) → context_appended s word (leaves ∷ enters ∷ others) ≡ Goes next
+    → next.values
+    ≡ appended TypePart (value_at (drop 1 s.values) 0) (TreeValue (context_tree (token_of word) (constant_at enters) (constant_at leaves))) ∷ drop 1 (drop 1 s.values)
+context_appended-values s next word leaves enters others is =
+    let (one, first, behind) = and_then-between (made s 0 (constant_at enters)) _ next is in
+    let (two, second, last) = and_then-between (made one 0 (constant_at leaves)) _ next behind in
+    let values : two.values ≡ TreeValue (constant_at leaves) ∷ TreeValue (constant_at enters) ∷ s.values =
+    made-values one two 0 _ second ∙ ap (λ all. TreeValue (constant_at leaves) ∷ all) (made-values s one 0 _ first) in
+    attribute_appended-values two next 3 _ last
+    ∙ ap
+    (λ all. appended TypePart (value_at (drop 3 all) 0) (TreeValue (context_tree (token_of word) (constant_at enters) (constant_at leaves))) ∷ drop 1 (drop 3 all))
+    values
+
+drop_two : (values : List Value) → drop 1 (drop 1 values) ≡ drop 2 values
+drop_two [] = refl
+drop_two (value ∷ []) = refl
+drop_two (value ∷ other ∷ values) = refl
+
+attribute-sorted :
+    (s next : State) (list : Parts (List ℕ)) (after : List Sort) → next.values ≡ ListValue list ∷ drop 1 (drop 1 s.values)
+    → Finds AppendAttribute s after → sorts_of next.values ≡ after
+attribute-sorted s next list after is =
+    replaced AppendAttribute 2 (ListValue list ∷ []) s next after (is ∙ ap (λ rest. ListValue list ∷ rest) (drop_two s.values)) (λ rest. refl)
+
+word_dropped-sorted : (s next : State) (after : List Sort) → word_dropped s ≡ Goes next → Finds AppendAttribute s after → sorts_of next.values ≡ after
+word_dropped-sorted s next after is = replaced AppendAttribute 1 [] s next after (reached _ next is) (λ rest. refl)
+
+context_appended-sorted :
+    (s next : State) (word : Value) (constants : List PlacedConstant) (after : List Sort)
+    → context_appended s word constants ≡ Goes next → Finds AppendAttribute s after → sorts_of next.values ≡ after
+context_appended-sorted s next word [] after is = word_dropped-sorted s next after is
+context_appended-sorted s next word (only ∷ []) after is = word_dropped-sorted s next after is
+context_appended-sorted s next word (leaves ∷ enters ∷ others) after is =
+    attribute-sorted s next _ after (context_appended-values s next word leaves enters others is)
+
+item_appended-sorted :
+    (s next : State) (word : Value) (found : Option Attribute) (after : List Sort)
+    → item_appended s word found ≡ Goes next → Finds AppendAttribute s after → sorts_of next.values ≡ after
+item_appended-sorted s next word None after is = word_dropped-sorted s next after is
+item_appended-sorted s next word (Some (HasSpace space)) after is = attribute-sorted s next _ after (attribute_appended-values s next 1 _ is)
+item_appended-sorted s next word (Some (HasAlign align)) after is = attribute-sorted s next _ after (attribute_appended-values s next 1 _ is)
+item_appended-sorted s next word (Some (HasFlag flag)) after is = attribute-sorted s next _ after (attribute_appended-values s next 1 _ is)
+item_appended-sorted s next word (Some (HasContext context)) after is =
+    context_appended-sorted s next word (reverse (constants_from (token_of word) (tokens_from s word))) after is
+
 -- Each action
 
 pub actions_are_sorted : ActionsAreSorted
@@ -298,7 +395,7 @@ actions_are_sorted MakeTypeNameSpecifiers s next sorts is finds =
 actions_are_sorted RequireType s next sorts is finds = kept-sorted RequireType s next sorts (reached _ next is) (λ rest. refl) finds
 actions_are_sorted RequireTypeOrAttributes s next sorts is finds =
     kept-sorted RequireTypeOrAttributes s next sorts (reached _ next is) (λ rest. refl) finds
-actions_are_sorted DeclareTag s next sorts is finds = kept-sorted DeclareTag s next sorts (reached _ next is) (λ rest. refl) finds
+actions_are_sorted DeclareTag s next sorts is finds = declared_tag-sorted s next (below s 0) sorts is finds
 actions_are_sorted UseTypedefName s next sorts is finds =
     typedef-sorted s next (found_name s Ordinary (text_of (below s 0))) (below s 0) sorts is finds
 actions_are_sorted DefineTag s next sorts is finds =
@@ -306,9 +403,10 @@ actions_are_sorted DefineTag s next sorts is finds =
 actions_are_sorted UseTag s next sorts is finds = tag-sorted UseTag s next (found_name s Tags (text_of (below s 0))) _ _ sorts is (λ rest. refl) finds
 actions_are_sorted WithoutTag s next sorts is finds = replaced WithoutTag 0 (_ ∷ _ ∷ []) s next sorts (reached _ next is) (λ rest. refl) finds
 actions_are_sorted BindEnumerator s next sorts is finds = kept-sorted BindEnumerator s next sorts (declared-values s next (below s 0) Enumerator is) (λ rest. refl) finds
+actions_are_sorted MakeAttributeList s next sorts is finds =
+    attributes_made-sorted s next (below s 1) (below s 0) (attributes_read no_attributes (listed_tokens s (below s 1))) sorts is finds
 actions_are_sorted AppendAttribute s next sorts is finds =
-    replaced AppendAttribute 2 (below s 1 ∷ []) s next sorts (reached _ next is)
-    (λ rest. ap (λ sort. sort ∷ rest) (sort_below AppendAttribute s sorts 1 AList (λ others. refl) finds)) finds
+    item_appended-sorted s next (below s 0) (attribute_of (tokens_from s (below s 0))) sorts is finds
 actions_are_sorted JoinParts s next sorts is finds =
     replaced JoinParts 3 (_ ∷ below s 1 ∷ []) s next sorts (reached _ next is)
     (λ rest. ap (λ sort. AList ∷ sort ∷ rest) (sort_below JoinParts s sorts 1 AWord (λ others. refl) finds)) finds

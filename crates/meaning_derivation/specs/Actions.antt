@@ -7,7 +7,11 @@ use Rattle.vocabulary.specs.declared.scope.NameSpace.TheVariants.{Ordinary, Tags
 use Rattle.vocabulary.specs.declared.scope.Bound.TheVariants.{Enumerator}
 use Rattle.vocabulary.specs.declared.action.Action.{Action}
 use Rattle.vocabulary.specs.declared.action.Action.TheVariants.{Append, AppendAttribute, AppendDeclarator, AppendLeadingAttributes, AwaitBody, BeginAtNext, BeginDeclarators, BeginList, BindDeclarator, BindEnumerator, BindFurtherDeclarator, BindParameter, CloseParameters, CloseScope, CountParameter, DeclareTag, DefineTag, JoinAnyParts, JoinParts, JoinSuffixes, MakeAttributeList, MakeBinary, MakeBlockSpecifiers, MakeBuiltinOffsetof, MakeCall, MakeCharacterConstant, MakeCompoundStatement, MakeConditional, MakeContextStatement, MakeDeclaration, MakeDeclarator, MakeDoStatement, MakeEnumerator, MakeFileSpecifiers, MakeForPart, MakeForStatement, MakeFunctionDefinition, MakeIfStatement, MakeInitializerItem, MakeIntegerConstant, MakeLabelStatement, MakeLeaf, MakeLoneDeclaration, MakeMember, MakeMemberDeclaration, MakeMemberSpecifiers, MakeNamed, MakeOptionalDeclarator, MakeOver, MakeOverList, MakeOverTwo, MakeParameter, MakeParameterSpecifiers, MakeParenthesizedAttributes, MakePostfix, MakeSizeofType, MakeStringLiteral, MakeStringPiece, MakeTagged, MakeTranslationUnit, MakeTypeName, MakeTypeNameSpecifiers, NoteFunctionDeclarator, OpenBody, OpenScope, RequireType, RequireTypeOrAttributes, UseName, UseTag, UseTypedefName, WithoutTag}
+use Rattle.meaning_attributes.specs.Pieces.{in_parentheses}
 use Rattle.meaning_attributes.specs.Contexts.{change_of}
+use Rattle.meaning_attributes.specs.Attributes.{no_attributes}
+use Rattle.meaning_attributes.specs.Items.{attribute_of}
+use Rattle.meaning_attributes.specs.Reading.{attributes_read}
 use Rattle.meaning_literals.specs.Integers.{integer_of}
 use Rattle.meaning_literals.specs.Quoted.{char_of}
 use Rattle.meaning_tree.specs.Trees.{Node, NoParts, with_parts}
@@ -17,9 +21,10 @@ use Rattle.meaning_derivation.specs.State.{State, ActionOutcome, Goes, pushed, w
 use Rattle.meaning_derivation.specs.Storage.{noted_class, specifiers_tree}
 use Rattle.meaning_derivation.specs.Specifiers.{Specified, specified_by, is_bad_in_file, is_bad_in_block, is_bad_member, is_refused_parameter, parameter_error, lacks_type, lacks_type_or_attributes, held_where}
 use Rattle.meaning_derivation.specs.Lists.{appended, joined, suffixed, name_or, declarator_values, optional_declarator, attributes_list, leading_attributes, with_parameter, part_of_for, type_name}
-use Rattle.meaning_derivation.specs.Scoping.{with_scopes, found_name, found_here, bound_as, declared, tag_at, place, with_first_keyword, name_used, typedef_named, parameter_bound, parts_below, function_noted, parameters_closed, without_closed, body_awaited, body_opened, takes_no_body}
+use Rattle.meaning_derivation.specs.Scoping.{with_scopes, found_name, found_here, bound_as, declared, tag_at, tag_declared, place, with_first_keyword, name_used, typedef_named, parameter_bound, parts_below, function_noted, parameters_closed, without_closed, body_awaited, body_opened, takes_no_body}
 use Rattle.meaning_derivation.specs.Literals.{constant_made, bad_piece, string_made}
-use Rattle.meaning_derivation.specs.Contexts.{in_parentheses, tokens_behind, context_made}
+use Rattle.meaning_derivation.specs.Contexts.{tokens_behind, context_made}
+use Rattle.meaning_derivation.specs.Attributes.{tokens_from, listed_tokens, attributes_made, item_appended}
 
 -- The value so far below the top of the stack. An action's comment names what it takes, the top on the right.
 abbrev pub below : State → ℕ → Value
@@ -84,7 +89,7 @@ act MakeTypeNameSpecifiers s =
 act RequireType s = Goes (held_where (lacks_type (specified_tree s)) BadDeclaration (stands_at (below s 0)) s)
 act RequireTypeOrAttributes s =
     Goes (held_where (lacks_type_or_attributes (specified_tree s)) BadDeclaration (stands_at (below s 0)) s)
-act DeclareTag s = Goes s
+act DeclareTag s = tag_declared s (below s 0)
 act UseTypedefName s = typedef_named s (found_name s Ordinary (text_of (below s 0))) (below s 0)
 act DefineTag s = tag_at s (found_here (found_name s Tags (text_of (below s 0)))) (text_of (below s 0)) (token_of (below s 2))
 act UseTag s = tag_at s (found_name s Tags (text_of (below s 0))) (text_of (below s 0)) (token_of (below s 2))
@@ -96,9 +101,9 @@ act MakeMemberDeclaration s =
     made s 2 (plain_tree kinds.MemberDeclaration (stands_at (below s 1)) (before TypePart (below s 1) (parts_of (below s 0))))
 act MakeEnumerator s = made s 2 (named_tree kinds.Enumerator (token_of (below s 1)) (text_of (below s 1)) (parts_of (below s 0)))
 act BindEnumerator s = declared s (below s 0) Enumerator
--- Attributes; what their words mean is asked by the rules of attributes
-act MakeAttributeList s = made s 2 (plain_tree kinds.AttributeList (token_of (below s 1)) (parts_of (below s 0)))
-act AppendAttribute s = Goes (with_value s 2 (below s 1))
+-- Attributes
+act MakeAttributeList s = attributes_made s (below s 1) (below s 0) (attributes_read no_attributes (listed_tokens s (below s 1)))
+act AppendAttribute s = item_appended s (below s 0) (attribute_of (tokens_from s (below s 0)))
 -- Declarators and type names (6.7.6, 6.7.7)
 act JoinParts s = declarator_values s 3 (below s 1) (joined (below s 2) (below s 0))
 act JoinAnyParts s = declarator_values s 4 (name_or (below s 3) (below s 1)) (joined (below s 2) (below s 0))

@@ -10,6 +10,7 @@ pub mod Lists
 pub mod Scoping
 pub mod Literals
 pub mod Contexts
+pub mod Attributes
 pub mod Actions
 pub mod Shapes
 pub mod plain

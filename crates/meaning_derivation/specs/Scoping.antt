@@ -2,6 +2,7 @@
 use Rattle.std.specs.Prelude.{ℕ, ◌-◌, Bool, true, false, ◌||◌, ◌&&◌, not, List, [], ◌∷◌, ◌++◌, reverse, nat_eq, Option, Some, None, is_some, if◌then◌else◌}
 use Rattle.std.specs.Str.{bytes_eq}
 use Rattle.vocabulary.specs.declared.error_kind.ErrorKind.TheVariants.{NotDeclared, Redeclared}
+use Rattle.vocabulary.specs.declared.node_kind.NodeKind.{NodeKind}
 use Rattle.vocabulary.specs.declared.node_kind.NodeKind.TheVariants as kinds
 use Rattle.vocabulary.specs.declared.scope.NameSpace.{NameSpace}
 use Rattle.vocabulary.specs.declared.scope.NameSpace.TheVariants.{Ordinary, Tags}
@@ -11,8 +12,8 @@ use Rattle.meaning_tree.specs.Trees.{SyntaxTree, Node, Parts, NoParts, Part}
 use Rattle.meaning_scopes.specs.Scopes.{Entry, ScopeList, Opened, Binds, Found, find, innermost, is_open, with_entries, without_scope}
 use Rattle.meaning_scopes.specs.Redeclaration.{bound_here, is_redeclared}
 use Rattle.meaning_derivation.specs.Values.{Value, WordValue, TreeValue, token_of, text_of, stands_at, name_of, named_tree}
-use Rattle.meaning_derivation.specs.Storage.{StorageClass, TypedefClass, ExternClass, OtherClass, noted_class}
-use Rattle.meaning_derivation.specs.State.{ClosedList, State, IsError, ActionOutcome, Goes, Refuses, with_values, made}
+use Rattle.meaning_derivation.specs.Storage.{StorageClass, TypedefClass, ExternClass, OtherClass, has_kind, noted_class}
+use Rattle.meaning_derivation.specs.State.{ClosedList, State, IsError, ActionOutcome, Goes, Refuses, with_values, with_value, made}
 
 abbrev pub with_scopes : State → ScopeList (List ℕ) → State
 with_scopes s scopes = record s { scopes = scopes }
@@ -147,6 +148,39 @@ tag_at s (Some first) tag keyword = Goes (with_first_keyword s first.entry.decla
 abbrev pub found_here : Option (Found (List ℕ)) → Option (Found (List ℕ))
 found_here None = None
 found_here (Some first) = if first.is_innermost then Some first else None
+
+-- `struct s;` and `union s;` alone declare the tag in the innermost scope (p7)
+
+abbrev pub is_structure : NodeKind → Bool
+is_structure kinds.StructSpecifier = true
+is_structure kinds.UnionSpecifier = true
+is_structure kind = false
+
+abbrev pub is_member_list : NodeKind → Bool
+is_member_list kinds.MemberList = true
+is_member_list kind = false
+
+-- a structure's or a union's tag without members
+abbrev pub is_lone_tag : NodeKind → (tag : List ℕ) → (has_members : Bool) → Bool
+is_lone_tag kind [] has_members = false
+is_lone_tag kind (byte ∷ bytes) has_members = is_structure kind && not has_members
+
+-- it is no tag of the innermost scope yet
+abbrev pub is_new_here : State → (tag : List ℕ) → Bool
+is_new_here s tag = not (is_some (found_here (found_name s Tags tag)))
+
+-- the tree on top, in whose place the tag's specifier has its own keyword as number, which the tag is bound to
+abbrev pub with_own_keyword : State → (tag : List ℕ) → (keyword : ℕ) → SyntaxTree → State
+with_own_keyword s tag keyword tree = with_value (bound s Tags tag keyword Tag) 1 (TreeValue tree)
+
+-- Specifiers that are a declaration on their own: where they are a lone tag that is new here, its keyword first names it.
+-- Nothing was found or bound behind the tag, so this is as if it had been so there.
+abbrev pub tag_declared : State → (specifiers : Value) → ActionOutcome
+tag_declared s (TreeValue (Node kind token name number (Part role (Node specifier keyword tag first parts) NoParts))) =
+    Goes (if is_lone_tag specifier tag (has_kind is_member_list parts) && is_new_here s tag
+    then with_own_keyword s tag keyword (Node kind token name number (Part role (Node specifier keyword tag keyword parts) NoParts))
+    else s)
+tag_declared s specifiers = Goes s
 
 -- Names in expressions, each with the handle of the declarator or enumerator that it stands for
 

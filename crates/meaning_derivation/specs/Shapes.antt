@@ -6,7 +6,7 @@ use Rattle.vocabulary.specs.declared.role.Role.TheVariants.{Evaluated, Condition
 use Rattle.vocabulary.specs.declared.node_kind.NodeKind.{NodeKind}
 use Rattle.vocabulary.specs.declared.node_kind.NodeKind.TheVariants as kinds
 use Rattle.vocabulary.specs.declared.action.Action.{Action}
-use Rattle.vocabulary.specs.declared.action.Action.TheVariants.{MakeAttributeList, MakeBinary, MakeBuiltinOffsetof, MakeCall, MakeCompoundStatement, MakeConditional, MakeDeclaration, MakeDeclarator, MakeDoStatement, MakeEnumerator, MakeForStatement, MakeFunctionDefinition, MakeIfStatement, MakeInitializerItem, MakeLabelStatement, MakeLeaf, MakeLoneDeclaration, MakeMember, MakeMemberDeclaration, MakeNamed, MakeOver, MakeOverList, MakeOverTwo, MakeParameter, MakePostfix, MakeSizeofType, MakeStringPiece, MakeTagged, MakeTranslationUnit}
+use Rattle.vocabulary.specs.declared.action.Action.TheVariants.{MakeBinary, MakeBuiltinOffsetof, MakeCall, MakeCompoundStatement, MakeConditional, MakeDeclaration, MakeDeclarator, MakeDoStatement, MakeEnumerator, MakeForStatement, MakeFunctionDefinition, MakeIfStatement, MakeInitializerItem, MakeLabelStatement, MakeLeaf, MakeLoneDeclaration, MakeMember, MakeMemberDeclaration, MakeNamed, MakeOver, MakeOverList, MakeOverTwo, MakeParameter, MakePostfix, MakeSizeofType, MakeStringPiece, MakeTagged, MakeTranslationUnit}
 use Rattle.meaning_tree.specs.Trees.{SyntaxTree, Node, Parts, NoParts, with_parts}
 use Rattle.meaning_derivation.specs.Values.{Value, value_at, token_of, text_of, parts_of, before, alone, stands_at}
 
@@ -108,7 +108,6 @@ shape_of (MakeTagged kind) =
     })
 shape_of MakeMemberDeclaration = plain_shape 2 kinds.MemberDeclaration (AtTree 1) (OneTree TypePart 1 ∷ AllTrees 0 ∷ [])
 shape_of MakeEnumerator = named_shape 2 kinds.Enumerator (AtWord 1) 1 (AllTrees 0 ∷ [])
-shape_of MakeAttributeList = plain_shape 2 kinds.AttributeList (AtWord 1) (AllTrees 0 ∷ [])
 shape_of MakeDeclarator = named_shape 2 kinds.Declarator (AtWord 1) 1 (AllTrees 0 ∷ [])
 shape_of MakeParameter = plain_shape 2 kinds.Parameter (AtTree 1) (OneTree TypePart 1 ∷ AllTrees 0 ∷ [])
 shape_of MakeInitializerItem = plain_shape 3 kinds.InitializerItem (AtWord 2) (AllTrees 1 ∷ OneTree Evaluated 0 ∷ [])

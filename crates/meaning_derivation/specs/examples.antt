@@ -2,3 +2,4 @@
 pub mod Units
 pub mod Specifiers
 pub mod Literals
+pub mod Tags

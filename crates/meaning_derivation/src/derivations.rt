@@ -5,6 +5,7 @@ ghost use Rattle.meaning_derivation.specs.laws.Shapes.{ShapesAreMade};
 ghost use Rattle.meaning_derivation.specs.laws.Storage.{ClassesHaveNumbers, SpecifiersHaveTheirClass};
 ghost use Rattle.meaning_derivation.specs.examples.Literals.{ContextExamples, LiteralExamples};
 ghost use Rattle.meaning_derivation.specs.examples.Units.{TreeExamples, BodyExamples, BindExamples, ChainExamples, RefusalExamples};
+ghost use Rattle.meaning_derivation.specs.examples.Tags.{TagExamples};
 ghost use Rattle.meaning_derivation.specs.examples.Specifiers.{SetExamples, SpecifierExamples, WordExamples, PlaceExamples, FunctionExamples};
 
 /// A list of tokens has one outcome at most, whatever the actions do, and with those of C it has one: a tree or a refusal.
@@ -50,4 +51,5 @@ pub fn worked_examples()
     ensures functions { FunctionExamples }
     ensures literals { LiteralExamples }
     ensures contexts { ContextExamples }
+    ensures tags { TagExamples }
 {}

@@ -1,5 +1,5 @@
 -- What each action leaves is known.
-use Rattle.std.proofs.Common.{◌≡◌, ℕ, Bool, true, false, ◌&&◌, List, [], ◌∷◌, ◌++◌, drop, Option, Some, None, Result, Ok, Err, ℤ, IfSome, nat_lt, refl, sym, ap, subst, ◌∙◌, if◌then◌else◌}
+use Rattle.std.proofs.Common.{◌≡◌, ℕ, Bool, true, false, ◌&&◌, List, [], ◌∷◌, ◌++◌, drop, reverse, Option, Some, None, Result, Ok, Err, ℤ, IfSome, nat_lt, refl, sym, ap, subst, ◌∙◌, if◌then◌else◌}
 use Rattle.std.proofs.lemmas.Option.{same_Some}
 use Rattle.vocabulary.specs.declared.error_kind.ErrorKind.TheVariants.{BadDeclaration}
 use Rattle.vocabulary.specs.declared.role.Role.{Role}
@@ -12,10 +12,17 @@ use Rattle.vocabulary.specs.declared.int_kind.IntKind.{IntKind}
 use Rattle.vocabulary.specs.declared.node_kind.NodeKind.{NodeKind}
 use Rattle.vocabulary.specs.declared.node_kind.NodeKind.TheVariants as kinds
 use Rattle.vocabulary.specs.declared.action.Action.{Action}
-use Rattle.vocabulary.specs.declared.action.Action.TheVariants.{Append, AppendAttribute, AppendDeclarator, AppendLeadingAttributes, AwaitBody, BeginAtNext, BeginDeclarators, BeginList, BindDeclarator, BindEnumerator, BindFurtherDeclarator, BindParameter, CloseParameters, CloseScope, CountParameter, DeclareTag, DefineTag, JoinAnyParts, JoinParts, JoinSuffixes, MakeBlockSpecifiers, MakeCharacterConstant, MakeContextStatement, MakeFileSpecifiers, MakeForPart, MakeIntegerConstant, MakeMemberSpecifiers, MakeOptionalDeclarator, MakeParameterSpecifiers, MakeParenthesizedAttributes, MakeStringLiteral, MakeTypeName, MakeTypeNameSpecifiers, NoteFunctionDeclarator, OpenBody, OpenScope, RequireType, RequireTypeOrAttributes, UseName, UseTag, UseTypedefName, WithoutTag}
+use Rattle.vocabulary.specs.declared.action.Action.TheVariants.{Append, AppendAttribute, AppendDeclarator, AppendLeadingAttributes, AwaitBody, BeginAtNext, BeginDeclarators, BeginList, BindDeclarator, BindEnumerator, BindFurtherDeclarator, BindParameter, CloseParameters, CloseScope, CountParameter, DeclareTag, DefineTag, JoinAnyParts, JoinParts, JoinSuffixes, MakeAttributeList, MakeBlockSpecifiers, MakeCharacterConstant, MakeContextStatement, MakeFileSpecifiers, MakeForPart, MakeIntegerConstant, MakeMemberSpecifiers, MakeOptionalDeclarator, MakeParameterSpecifiers, MakeParenthesizedAttributes, MakeStringLiteral, MakeTypeName, MakeTypeNameSpecifiers, NoteFunctionDeclarator, OpenBody, OpenScope, RequireType, RequireTypeOrAttributes, UseName, UseTag, UseTypedefName, WithoutTag}
 use Rattle.meaning_tree.specs.Trees.{SyntaxTree, Node, Parts, NoParts, Part, with_parts}
-use Rattle.meaning_tree.specs.Forms.{PartSort, LeadingLists, SpecifierList, ADeclarator, ADeclaratorPart, ASpecifier, AnExpression, AConstant, AString, attribute_lists, expressions, optional_expressions, IsOf, Slot, One, Perhaps, Each, slots_of, Fits, nothing, one, left_out, there, no_more, one_more, IsFormedTree, AreFormedTrees, AStatement}
+use Rattle.meaning_tree.specs.Forms.{PartSort, LeadingLists, SpecifierList, ADeclarator, ADeclaratorPart, AnAttribute, ASpecifier, AnExpression, AConstant, AString, attribute_lists, expressions, optional_expressions, IsOf, Slot, One, Perhaps, Each, slots_of, Fits, nothing, one, left_out, there, no_more, one_more, no_declarator, declarator, no_member, member, nameless_member, IsFormedTree, AreFormedTrees, AStatement}
 use Rattle.meaning_scopes.specs.Scopes.{Found, is_open}
+use Rattle.meaning_attributes.specs.Pieces.{in_parentheses}
+use Rattle.meaning_types.specs.Types.{Space, NoSpace, NumberedSpace, NamedSpace}
+use Rattle.meaning_attributes.specs.Integers.{PlacedConstant, constants_from}
+use Rattle.meaning_attributes.specs.Words.{Flag, NoderefFlag, BitwiseFlag, ForceFlag, PackedFlag, NoreturnFlag}
+use Rattle.meaning_attributes.specs.Attributes.{Attributes, Attribute, HasSpace, HasContext, HasAlign, HasFlag, no_attributes}
+use Rattle.meaning_attributes.specs.Items.{attribute_of}
+use Rattle.meaning_attributes.specs.Reading.{Refusal, HasBad, HasLimit, attributes_read}
 use Rattle.meaning_attributes.specs.Contexts.{ChangeFault, BadChange, ChangePassesLimit, change_of}
 use Rattle.meaning_literals.specs.Constants.{Constant, Fault}
 use Rattle.meaning_literals.specs.Integers.{integer_of}
@@ -24,17 +31,19 @@ use Rattle.meaning_scopes.specs.Redeclaration.{bound_here, is_redeclared}
 use Rattle.meaning_derivation.specs.Values.{Value, WordValue, TreeValue, ListValue, value_at, token_of, text_of, parts_of, before, name_of, plain_tree}
 use Rattle.meaning_derivation.specs.State.{State, Goes, made_as, made, with_limit}
 use Rattle.meaning_derivation.specs.Lists.{reversed_before, part_count, most_parameters, appended, joined, suffixed, has_spelling, name_or, unnamed_declarator, attributes_list, leading_attributes, part_of_for, first_tree_token, type_name, type_name_tree}
-use Rattle.meaning_derivation.specs.Storage.{specifiers_tree}
+use Rattle.meaning_derivation.specs.Storage.{has_kind, specifiers_tree}
 use Rattle.meaning_derivation.specs.Specifiers.{is_bad_in_file, is_bad_in_block, is_bad_member, is_refused_parameter, parameter_error, held_where}
-use Rattle.meaning_derivation.specs.Contexts.{in_parentheses, tokens_behind, context_made}
+use Rattle.meaning_derivation.specs.Contexts.{tokens_behind, context_made}
+use Rattle.meaning_derivation.specs.Attributes.{tokens_from, listed_tokens, attributes_made, kind_of_flag, space_tree, context_appended, item_appended}
 use Rattle.meaning_derivation.specs.Literals.{BadLiteral, bad_piece, constant_made, constant_tree, string_made}
-use Rattle.meaning_derivation.specs.Scoping.{declared, bound, bound_as, last_handle, parameter_bound, tag_at, found_name, found_here, parts_below, ends_with_parameters, name_used, typedef_named, without_closed}
+use Rattle.meaning_derivation.specs.Scoping.{declared, bound, bound_as, last_handle, parameter_bound, tag_at, is_member_list, is_lone_tag, is_new_here, with_own_keyword, tag_declared, found_name, found_here, parts_below, ends_with_parameters, name_used, typedef_named, without_closed}
 use Rattle.meaning_derivation.specs.Shapes.{Shape, shape_of, shaped_tree}
 use Rattle.meaning_derivation.specs.Actions.{act, below, specified}
 use Rattle.meaning_derivation.proofs.Shaping.{shapes_are_made}
+use Rattle.meaning_derivation.proofs.Sorting.{attribute_appended-values, context_appended-values}
 use Rattle.meaning_forms.proofs.Slots.{is_within, IsOf-more, within-fits, both}
 use Rattle.meaning_forms.proofs.Knowledge.{Known, AWord, ATree, AList, AreOf, Is, grown, is_list, grown-is, alone-is, are_of-behind, with_parts-none}
-use Rattle.meaning_forms.proofs.Effects.{behind_known, behind_shape, type_name_shape, specifiers_known, where_, declarator_parts, lists_of_attributes, slots_from}
+use Rattle.meaning_forms.proofs.Effects.{behind_known, behind_shape, type_name_shape, specifiers_known, where_, declarator_parts, one_attribute, lists_of_attributes, slots_from}
 use Rattle.meaning_forms.proofs.Fronts.{Stand, beneath, word_first, tree_first, list_first, some_first, stand_more, stand_same}
 use Rattle.meaning_forms.proofs.Making.{reached, reached_unless, made-values, made_stands}
 
@@ -60,6 +69,35 @@ reversed-fits role sorts slots (Part its_role tree parts) others (one_more is fi
 reversed-formed : (parts others : Parts (List ℕ)) → AreFormedTrees parts → AreFormedTrees others → AreFormedTrees (reversed_before parts others)
 reversed-formed NoParts others formed also = also
 reversed-formed (Part role tree parts) others formed also = reversed-formed parts (Part role tree others) formed.1 (formed.0, also)
+
+-- a tree with another number
+with_number-fits :
+    {slots : List Slot} {role : Role} {kind : NodeKind} {token number other : ℕ} {name : List ℕ} {parts others : Parts (List ℕ)}
+    → Fits slots (Part role (Node kind token name number parts) others) → Fits slots (Part role (Node kind token name other parts) others)
+with_number-fits (one is fits) = one is fits
+with_number-fits (left_out fits) = left_out (with_number-fits fits)
+with_number-fits (there is fits) = there is fits
+with_number-fits (no_more fits) = no_more (with_number-fits fits)
+with_number-fits (one_more is fits) = one_more is fits
+with_number-fits (no_declarator fits) = no_declarator (with_number-fits fits)
+with_number-fits (declarator fits) = declarator (with_number-fits fits)
+with_number-fits (no_member fits) = no_member (with_number-fits fits)
+with_number-fits (member fits) = member (with_number-fits fits)
+with_number-fits (nameless_member fits) = nameless_member (with_number-fits fits)
+
+-- each attribute's node is formed
+
+space_is : (token : ℕ) (space : Space) → IsFormedTree (space_tree token space) × IsOf (AnAttribute ∷ []) (space_tree token space)
+space_is token NoSpace = ((nothing, tt), refl)
+space_is token (NumberedSpace number) = ((nothing, tt), refl)
+space_is token (NamedSpace name) = ((nothing, tt), refl)
+
+flag_is : (token : ℕ) (flag : Flag) → IsFormedTree (plain_tree (kind_of_flag flag) token NoParts) × IsOf (AnAttribute ∷ []) (plain_tree (kind_of_flag flag) token NoParts)
+flag_is token NoderefFlag = ((nothing, tt), refl)
+flag_is token BitwiseFlag = ((nothing, tt), refl)
+flag_is token ForceFlag = ((nothing, tt), refl)
+flag_is token PackedFlag = ((nothing, tt), refl)
+flag_is token NoreturnFlag = ((nothing, tt), refl)
 
 module _ (begun : Parts (List ℕ)) (s next : State) (rest : List Value) where
   abbrev Stands : List Known → Type 0
@@ -308,12 +346,85 @@ module _ (begun : Parts (List ℕ)) (s next : State) (rest : List Value) where
       (subst (λ value. part_of_for s (parts_of value) (value_at s.values 0) ≡ Goes next) (ap (λ all. value_at all 1) values) is)
       (within-fits slots (Perhaps Evaluated expressions ∷ []) tests.0 own are.0, are.1) tests.1 below_it
 
-  attribute_acts : (list : Known) (known after : List Known) → act AppendAttribute s ≡ Goes next → Some (list ∷ known) ≡ Some after → Stands (AWord ∷ list ∷ known) → Leaves after
-  attribute_acts list known after is found stand =
+  -- an attribute at the end of its list
+  put_attribute :
+      (token : ℕ) (text : List ℕ) (tree : SyntaxTree) (list : Known) (parts : Parts (List ℕ)) (known after : List Known) (left : List Value)
+      → s.values ≡ WordValue token text ∷ ListValue parts ∷ left
+      → next.values ≡ appended TypePart (value_at (drop 1 s.values) 0) (TreeValue tree) ∷ drop 1 (drop 1 s.values)
+      → IsFormedTree tree × IsOf (AnAttribute ∷ []) tree → is_list list ≡ true → Is begun list (ListValue parts)
+      → grown list one_attribute ∷ known ≡ after → Stand begun known left rest → Leaves after
+  put_attribute token text tree list parts known after left values is formed test list_is same stand =
+      replace (grown list one_attribute) known after (ListValue (with_parts parts (Part TypePart tree NoParts))) left
+      (is ∙ ap (λ all. appended TypePart (value_at (drop 1 all) 0) (TreeValue tree) ∷ drop 1 (drop 1 all)) values)
+      (grown-is begun list parts (Part TypePart tree NoParts) one_attribute test list_is (there formed.1 nothing, (formed.0, tt))) same stand
+
+  -- or none
+  put_no_attribute :
+      (token : ℕ) (text : List ℕ) (list : Known) (parts : Parts (List ℕ)) (known after : List Known) (left : List Value)
+      → s.values ≡ WordValue token text ∷ ListValue parts ∷ left → next.values ≡ drop 1 s.values
+      → is_list list ≡ true → Is begun list (ListValue parts)
+      → grown list one_attribute ∷ known ≡ after → Stand begun known left rest → Leaves after
+  put_no_attribute token text list parts known after left values is test list_is same stand =
+      replace (grown list one_attribute) known after (ListValue parts) left
+      (is ∙ ap (drop 1) values)
+      (subst (λ p. Is begun (grown list one_attribute) (ListValue p)) (with_parts-none parts)
+      (grown-is begun list parts NoParts one_attribute test list_is (left_out nothing, tt))) same stand
+
+  item_acts :
+      (word : Value) (found : Option Attribute) (token : ℕ) (text : List ℕ) (list : Known) (parts : Parts (List ℕ)) (known after : List Known) (left : List Value)
+      → item_appended s word found ≡ Goes next → s.values ≡ WordValue token text ∷ ListValue parts ∷ left
+      → is_list list ≡ true → Is begun list (ListValue parts)
+      → grown list one_attribute ∷ known ≡ after → Stand begun known left rest → Leaves after
+  item_acts word None token text list parts known after left is values test list_is same stand =
+      put_no_attribute token text list parts known after left values (reached _ next is) test list_is same stand
+  item_acts word (Some (HasSpace space)) token text list parts known after left is values test list_is same stand =
+      put_attribute token text _ list parts known after left values (attribute_appended-values s next 1 _ is) (space_is (token_of word) space) test list_is same stand
+  item_acts word (Some (HasAlign align)) token text list parts known after left is values test list_is same stand =
+      put_attribute token text _ list parts known after left values (attribute_appended-values s next 1 _ is) ((nothing, tt), refl) test list_is same stand
+  item_acts word (Some (HasFlag flag)) token text list parts known after left is values test list_is same stand =
+      put_attribute token text _ list parts known after left values (attribute_appended-values s next 1 _ is) (flag_is (token_of word) flag) test list_is same stand
+  item_acts word (Some (HasContext context)) token text list parts known after left is values test list_is same stand =
+      context_item (reverse (constants_from (token_of word) (tokens_from s word))) is
+    where
+      context_item : (constants : List PlacedConstant) → context_appended s word constants ≡ Goes next → Leaves after
+      context_item [] goes = put_no_attribute token text list parts known after left values (reached _ next goes) test list_is same stand
+      context_item (only ∷ []) goes = put_no_attribute token text list parts known after left values (reached _ next goes) test list_is same stand
+      context_item (leaves ∷ enters ∷ others) goes =
+          put_attribute token text _ list parts known after left values (context_appended-values s next word leaves enters others goes)
+          ((one refl (one refl nothing), ((nothing, tt), ((nothing, tt), tt))), refl) test list_is same stand
+
+  append_attribute_acts :
+      (list : Known) (known after : List Known) → act AppendAttribute s ≡ Goes next → where_ (is_list list) (grown list one_attribute ∷ known) ≡ Some after
+      → Stands (AWord ∷ list ∷ known) → Leaves after
+  append_attribute_acts list known after is found stand =
+      let tests = where_holds (is_list list) (grown list one_attribute ∷ known) after found in
       let (token, text, others, top, second) = word_first begun (list ∷ known) s.values rest stand in
-      let (value, left, under, value_is, below_it) = some_first begun list known others rest second in
-      replace list known after value left
-      (reached _ next is ∙ ap (λ all. value_at all 1 ∷ drop 2 all) (top ∙ ap (λ all. WordValue token text ∷ all) under)) value_is (same_Some _ _ found) below_it
+      let (parts, left, under, list_is, below_it) = list_first begun list known others rest tests.0 second in
+      item_acts (below s 0) (attribute_of (tokens_from s (below s 0))) token text list parts known after left is
+      (top ∙ ap (λ all. WordValue token text ∷ all) under) tests.0 list_is tests.1 below_it
+
+  -- a list of attributes that isn't refused
+  attributes_made-values :
+      (word list : Value) (found : Result Attributes Refusal) → attributes_made s word list found ≡ Goes next
+      → next.values ≡ TreeValue (plain_tree kinds.AttributeList (token_of word) (parts_of list)) ∷ drop 2 s.values
+  attributes_made-values word list (Ok attributes) is = made-values s next 2 _ is
+  attributes_made-values word list (Err (HasBad bad index)) is = absurd (cc is)
+  attributes_made-values word list (Err HasLimit) is = absurd (cc is)
+
+  attribute_list_acts :
+      (slots : List Slot) (known after : List Known) → act MakeAttributeList s ≡ Goes next
+      → where_ (is_within slots (slots_of kinds.AttributeList)) (ATree attribute_lists ∷ known) ≡ Some after → Stands (AList slots ∷ AWord ∷ known) → Leaves after
+  attribute_list_acts slots known after is found stand =
+      let tests = where_holds (is_within slots (slots_of kinds.AttributeList)) (ATree attribute_lists ∷ known) after found in
+      let (own, others, top, are, second) = list_first begun (AList slots) (AWord ∷ known) s.values rest refl stand in
+      let (token, text, left, under, below_it) = word_first begun known others rest second in
+      let values = top ∙ ap (λ all. ListValue own ∷ all) under in
+      replace (ATree attribute_lists) known after _ left
+      (attributes_made-values (below s 1) (below s 0) (attributes_read no_attributes (listed_tokens s (below s 1))) is ∙ beneath (ap (drop 2) values)) (
+        subst (λ value. AreOf (slots_of kinds.AttributeList) (parts_of value)) (sym (ap (λ all. value_at all 0) values))
+            (within-fits slots (slots_of kinds.AttributeList) tests.0 own are.0, are.1),
+        refl,
+      ) tests.1 below_it
 
   -- a constant that has a value
   constant_acts :
@@ -387,6 +498,37 @@ module _ (begun : Parts (List ℕ)) (s next : State) (rest : List Value) where
   tag_acts (Some first) tag keyword known after is same stand =
       put AWord known after (WordValue first.entry.declaration []) (reached _ next is) tt (same_Some _ _ same) stand
 
+  -- a specifier's number has no say in its form
+  with_number_acts :
+      (test : Bool) (tag : List ℕ) (keyword : ℕ) (tree : SyntaxTree) (sorts : List PartSort) (known after : List Known) (left : List Value) → drop 1 s.values ≡ left
+      → Goes (if test then with_own_keyword s tag keyword tree else s) ≡ Goes next → IsFormedTree tree × IsOf sorts tree
+      → ATree sorts ∷ known ≡ after → Stands (ATree sorts ∷ known) → Stand begun known left rest → Leaves after
+  with_number_acts true tag keyword tree sorts known after left values is formed same stand below_it =
+      replace (ATree sorts) known after (TreeValue tree) left (reached _ next is ∙ beneath values) formed same below_it
+  with_number_acts false tag keyword tree sorts known after left values is formed same stand below_it =
+      kept (ATree sorts ∷ known) after (reached _ next is) (ap Some same) stand
+
+  declared_tag_acts :
+      (tree : SyntaxTree) (sorts : List PartSort) (known after : List Known) (left : List Value) → drop 1 s.values ≡ left
+      → tag_declared s (TreeValue tree) ≡ Goes next → IsFormedTree tree × IsOf sorts tree
+      → ATree sorts ∷ known ≡ after → Stands (ATree sorts ∷ known) → Stand begun known left rest → Leaves after
+  declared_tag_acts (Node kind token name number NoParts) sorts known after left values is formed same stand below_it =
+      kept (ATree sorts ∷ known) after (reached _ next is) (ap Some same) stand
+  declared_tag_acts (Node kind token name number (Part role (Node specifier keyword tag first parts) (Part other_role other others))) sorts known after left values is formed same stand below_it =
+      kept (ATree sorts ∷ known) after (reached _ next is) (ap Some same) stand
+  declared_tag_acts (Node kind token name number (Part role (Node specifier keyword tag first parts) NoParts)) sorts known after left values is formed same stand below_it =
+      with_number_acts (is_lone_tag specifier tag (has_kind is_member_list parts) && is_new_here s tag) tag keyword
+      (Node kind token name number (Part role (Node specifier keyword tag keyword parts) NoParts)) sorts known after left values is
+      ((with_number-fits formed.0.0, formed.0.1), formed.1) same stand below_it
+
+  declare_tag_acts :
+      (sorts : List PartSort) (known after : List Known) → act DeclareTag s ≡ Goes next → Some (ATree sorts ∷ known) ≡ Some after
+      → Stands (ATree sorts ∷ known) → Leaves after
+  declare_tag_acts sorts known after is found stand =
+      let (tree, others, top, formed, below_it) = tree_first begun sorts known s.values rest stand in
+      declared_tag_acts tree sorts known after others (ap (drop 1) top)
+      (subst (λ value. tag_declared s value ≡ Goes next) (ap (λ all. value_at all 0) top) is) formed (same_Some _ _ found) stand below_it
+
   name_acts :
       (found : Option (Found (List ℕ))) (word : Value) (known after : List Known) → name_used s found word ≡ Goes next → Some (ATree (AnExpression ∷ []) ∷ known) ≡ Some after
       → Stands (AWord ∷ known) → Leaves after
@@ -458,7 +600,8 @@ module _ (begun : Parts (List ℕ)) (s next : State) (rest : List Value) where
       specifiers_act known after (made-values (held_where (is_bad_member (specified s)) BadDeclaration (token_of (below s 1)) s) next 2 (TreeValue (specifiers_tree (below s 1) (below s 0))) is) found stand
   acts RequireType known after is found stand = kept known after (reached _ next is) found stand
   acts RequireTypeOrAttributes known after is found stand = kept known after (reached _ next is) found stand
-  acts DeclareTag known after is found stand = kept known after (reached _ next is) found stand
+  acts DeclareTag (ATree sorts ∷ known) after is found stand = declare_tag_acts sorts known after is found stand
+  acts DeclareTag known after is found stand = absurd (cc found)
   acts UseTypedefName (AWord ∷ known) after is found stand = typedef_acts (found_name s Ordinary (text_of (below s 0))) (below s 0) known after is found stand
   acts UseTypedefName known after is found stand = absurd (cc found)
   acts DefineTag known after is found stand =
@@ -470,7 +613,9 @@ module _ (begun : Parts (List ℕ)) (s next : State) (rest : List Value) where
       (stand_more begun AWord (AWord ∷ known) (WordValue (token_of (below s 1)) []) (WordValue (token_of (below s 1)) [] ∷ s.values) rest tt
       (stand_more begun AWord known (WordValue (token_of (below s 1)) []) s.values rest tt stand)))
   acts BindEnumerator known after is found stand = kept known after (declared_values (below s 0) Enumerator is) found stand
-  acts AppendAttribute (AWord ∷ list ∷ known) after is found stand = attribute_acts list known after is found stand
+  acts MakeAttributeList (AList slots ∷ AWord ∷ known) after is found stand = attribute_list_acts slots known after is found stand
+  acts MakeAttributeList known after is found stand = absurd (cc found)
+  acts AppendAttribute (AWord ∷ list ∷ known) after is found stand = append_attribute_acts list known after is found stand
   acts AppendAttribute known after is found stand = absurd (cc found)
   acts JoinParts (AList slots ∷ AWord ∷ AList first ∷ known) after is found stand = join_acts slots first known after is found stand
   acts JoinParts known after is found stand = absurd (cc found)

@@ -7,7 +7,7 @@ use Rattle.vocabulary.specs.declared.token_class.TokenClass.TheVariants.{End}
 use Rattle.vocabulary.specs.declared.symbol.Symbol.{Symbol}
 use Rattle.vocabulary.specs.declared.symbol.Symbol.TheVariants.{AdditiveTail, AndTail, AnyDeclarator, AnyDirectDeclarator, Arguments, ArraySize, AssignmentTail, Attribute, AttributeArguments, AttributeList, AttributeLists, BalancedTokens, BlockItem, BlockItems, BodyOrDeclarators, BracedInitializer, CastOperand, CommaTail, CompoundStatement, ConditionalTail, Declaration, Declarator, DeclaratorSuffixes, Declarators, Designator, DirectDeclarator, EnumSpecifier, Enumerator, EnumeratorsBehindComma, EnumeratorsBehindTag, EqualityTail, ExclusiveOrTail, ExternalDeclaration, ExternalDeclarations, ExternalDeclarators, ForInitialization, FurtherArguments, FurtherAttributes, FurtherDeclarators, FurtherDesignators, FurtherEnumerators, FurtherInitializerItems, FurtherMemberDeclarators, FurtherParameters, FurtherStringLiterals, InclusiveOrTail, Initializer, InitializerItem, InitializerItems, LogicalAndTail, LogicalOrTail, MemberDeclaration, MemberDeclarations, MemberDeclarator, MemberDeclarators, MembersBehindTag, MiddleOperand, MultiplicativeTail, OffsetofDesignators, OptionalElse, OptionalEnumeratorValue, OptionalExpression, OptionalInitializer, OptionalWidth, Parameter, ParameterOrEllipsis, Parameters, ParenthesizedExpression, PointerQualifiers, Pointers, PostfixTail, RelationalTail, ShiftTail, SizeofOperand, SizeofTypeEnd, Specifiers, SpecifiersBehindType, Statement, StaticAssertion, StorageClassSpecifier, StringLiterals, StructOrUnionSpecifier, TagOrEnumerators, TagOrMembers, TypeName, TypeQualifier, TypeWord, TypeofOperand, TypeofSpecifier}
 use Rattle.vocabulary.specs.declared.action.Action.{Action}
-use Rattle.vocabulary.specs.declared.action.Action.TheVariants.{Append, AppendAttribute, AppendDeclarator, AppendLeadingAttributes, AwaitBody, BeginAtNext, BeginDeclarators, BeginList, BindDeclarator, BindEnumerator, BindFurtherDeclarator, BindParameter, CloseParameters, CloseScope, CountParameter, DeclareTag, DefineTag, JoinAnyParts, JoinParts, JoinSuffixes, MakeBlockSpecifiers, MakeCharacterConstant, MakeContextStatement, MakeFileSpecifiers, MakeForPart, MakeIntegerConstant, MakeMemberSpecifiers, MakeOptionalDeclarator, MakeParameterSpecifiers, MakeParenthesizedAttributes, MakeStringLiteral, MakeTypeName, MakeTypeNameSpecifiers, NoteFunctionDeclarator, OpenBody, OpenScope, RequireType, RequireTypeOrAttributes, UseName, UseTag, UseTypedefName, WithoutTag}
+use Rattle.vocabulary.specs.declared.action.Action.TheVariants.{Append, AppendAttribute, AppendDeclarator, AppendLeadingAttributes, AwaitBody, BeginAtNext, BeginDeclarators, BeginList, BindDeclarator, BindEnumerator, BindFurtherDeclarator, BindParameter, CloseParameters, CloseScope, CountParameter, DeclareTag, DefineTag, JoinAnyParts, JoinParts, JoinSuffixes, MakeAttributeList, MakeBlockSpecifiers, MakeCharacterConstant, MakeContextStatement, MakeFileSpecifiers, MakeForPart, MakeIntegerConstant, MakeMemberSpecifiers, MakeOptionalDeclarator, MakeParameterSpecifiers, MakeParenthesizedAttributes, MakeStringLiteral, MakeTypeName, MakeTypeNameSpecifiers, NoteFunctionDeclarator, OpenBody, OpenScope, RequireType, RequireTypeOrAttributes, UseName, UseTag, UseTypedefName, WithoutTag}
 use Rattle.vocabulary.specs.declared.production_item.ProductionItem.{ProductionItem}
 use Rattle.vocabulary.specs.declared.production_item.ProductionItem.TheVariants.{Token, Passed, PassedAny, Name, LabelName, AttributeWord, CaseColon, DesignatorEnd, Nonterminal, Do}
 use Rattle.vocabulary.specs.declared.node_kind.NodeKind.TheVariants as kinds
@@ -228,6 +228,10 @@ where_ test known = if test then Some known else None
 abbrev pub declarator_parts : List Slot
 declarator_parts = Each TypePart (ADeclaratorPart ∷ []) ∷ []
 
+-- what an item of an attribute list may mean
+abbrev pub one_attribute : List Slot
+one_attribute = Perhaps TypePart (AnAttribute ∷ []) ∷ []
+
 abbrev pub lists_of_attributes : List Slot
 lists_of_attributes = Each TypePart attribute_lists ∷ []
 
@@ -272,14 +276,17 @@ behind_known MakeParameterSpecifiers known = specifiers_known known
 behind_known MakeTypeNameSpecifiers known = specifiers_known known
 behind_known RequireType known = Some known
 behind_known RequireTypeOrAttributes known = Some known
-behind_known DeclareTag known = Some known
+behind_known DeclareTag (ATree sorts ∷ known) = Some (ATree sorts ∷ known)
+behind_known DeclareTag known = None
 behind_known UseTypedefName (AWord ∷ known) = Some (ATree (ASpecifier ∷ []) ∷ known)
 behind_known UseTypedefName known = None
 behind_known DefineTag known = Some (AWord ∷ known)
 behind_known UseTag known = Some (AWord ∷ known)
 behind_known WithoutTag known = Some (AWord ∷ AWord ∷ known)
 behind_known BindEnumerator known = Some known
-behind_known AppendAttribute (AWord ∷ list ∷ known) = Some (list ∷ known)
+behind_known MakeAttributeList (AList slots ∷ AWord ∷ known) = where_ (is_within slots (slots_of kinds.AttributeList)) (ATree attribute_lists ∷ known)
+behind_known MakeAttributeList known = None
+behind_known AppendAttribute (AWord ∷ list ∷ known) = where_ (is_list list) (grown list one_attribute ∷ known)
 behind_known AppendAttribute known = None
 behind_known JoinParts (AList slots ∷ AWord ∷ AList first ∷ known) = Some (AList (first ++ slots) ∷ AWord ∷ known)
 behind_known JoinParts known = None

@@ -118,7 +118,7 @@ module _ (names : List (List ℕ)) (list : NodeList NameId) (first : list.first 
       ap (λ tree. has_kind is_kind (Part role tree others)) (node_seen names list first order handle node ((node_at-exact list handle node).0 found))
       ∙ sym (ap (λ (one : Option (TreeNode NameId)). is_of_kind is_kind one || has_kind is_kind others) found)
 
-  kinds-seen : (is_kind : NodeKind → Bool) (children : List (ℕ × ℕ)) → list_all (is_below (length list.nodes)) children ≡ true
+  pub kinds-seen : (is_kind : NodeKind → Bool) (children : List (ℕ × ℕ)) → list_all (is_below (length list.nodes)) children ≡ true
       → has_kind is_kind (parts_at (spelled_trees names list) children) ≡ has_child is_kind list children
   kinds-seen is_kind [] below = refl
   kinds-seen is_kind (child ∷ children) below =

@@ -16,3 +16,5 @@ pub mod DeclaredNames
 pub mod Finished
 pub mod SpecifiedKinds
 pub mod HandedOn
+pub mod Numbered
+pub mod OwnKeywords

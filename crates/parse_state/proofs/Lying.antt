@@ -70,7 +70,7 @@ module _ (list : NodeList NameId) where
       (front.0, front.1, stacked-append values back front.0 middle end front.2 behind)
 
   -- and taken apart
-  stacked-parted : (front back : List Value) (first end : ℕ) → AreStacked list (front ++ back) first end
+  pub stacked-parted : (front back : List Value) (first end : ℕ) → AreStacked list (front ++ back) first end
       → (middle : ℕ) × AreStacked list front first middle × AreStacked list back middle end
   stacked-parted [] back first end stacked = (first, refl, stacked)
   stacked-parted (Word token name ∷ values) back first end stacked = stacked-parted values back first end stacked
@@ -138,7 +138,7 @@ module _ (list : NodeList NameId) where
   runs-of_none no_runs is = refl
   runs-of_none (last_run front back last middle runs one) is = absurd (not_empty front back last is)
 
-  run-of_one : {children : List (ℕ × ℕ)} {first end : ℕ} → AreRuns list children first end → (child : ℕ × ℕ) → children ≡ child ∷ []
+  pub run-of_one : {children : List (ℕ × ℕ)} {first end : ℕ} → AreRuns list children first end → (child : ℕ × ℕ) → children ≡ child ∷ []
       → IsRun list first child.0 × (child.0 + 1 ≡ end)
   run-of_one no_runs child is = absurd (cc is)
   run-of_one (last_run front back last middle runs one) child is =

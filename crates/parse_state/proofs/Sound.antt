@@ -26,7 +26,7 @@ use Rattle.parse_state.proofs.OnlyTrees.{only-below}
 use Rattle.parse_state.proofs.Stacks.{all-take, all-drop, all-reverse}
 
 -- one test follows from another
-all-weaker : {X : Type 0} (first second : X → Bool) → ((x : X) → first x ≡ true → second x ≡ true) → (xs : List X) → list_all first xs ≡ true → list_all second xs ≡ true
+pub all-weaker : {X : Type 0} (first second : X → Bool) → ((x : X) → first x ≡ true → second x ≡ true) → (xs : List X) → list_all first xs ≡ true → list_all second xs ≡ true
 all-weaker first second weaker [] all = refl
 all-weaker first second weaker (x ∷ xs) all =
     let halves = and_parts (first x) (list_all first xs) all in
@@ -38,10 +38,10 @@ all-snoc test xs x all one = list_all-append test xs (x ∷ []) ∙ ap₂ (λ (f
 
 -- Handles
 
-below-later : (end later : ℕ) → end ≤ later → (child : ℕ × ℕ) → is_below end child ≡ true → is_below later child ≡ true
+pub below-later : (end later : ℕ) → end ≤ later → (child : ℕ × ℕ) → is_below end child ≡ true → is_below later child ≡ true
 below-later end later grows child below = let before = ltb-true child.0 end below in lt-ltb child.0 later (omega (arith, before, grows))
 
-handles-later : (end later : ℕ) → end ≤ later → (value : Value) → has_handles_below end value ≡ true → has_handles_below later value ≡ true
+pub handles-later : (end later : ℕ) → end ≤ later → (value : Value) → has_handles_below end value ≡ true → has_handles_below later value ≡ true
 handles-later end later grows (Word token name) below = refl
 handles-later end later grows (Tree handle) below = let before = ltb-true handle end below in lt-ltb handle later (omega (arith, before, grows))
 handles-later end later grows (kinds.List children) below = all-weaker (is_below end) (is_below later) (below-later end later grows) children below

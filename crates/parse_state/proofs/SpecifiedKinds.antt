@@ -22,7 +22,7 @@ use Rattle.parse_state.specs.Specifying.{child_kinds, kind_seen}
 use Rattle.parse_state.proofs.Parts.{node_seen, node_there}
 
 -- children before a node are before the end of the list
-below_end : (first bound end : ℕ) → bound ≤ end → (children : List (ℕ × ℕ)) → All (λ child. (first ≤ child.0) × (child.0 < bound)) children
+pub below_end : (first bound end : ℕ) → bound ≤ end → (children : List (ℕ × ℕ)) → All (λ child. (first ≤ child.0) × (child.0 < bound)) children
     → list_all (is_below end) children ≡ true
 below_end first bound end within [] below = refl
 below_end first bound end within (child ∷ children) below =

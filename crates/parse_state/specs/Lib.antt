@@ -16,3 +16,4 @@ pub mod Declaring
 pub mod Finished
 pub mod Specifying
 pub mod Strings
+pub mod Tags

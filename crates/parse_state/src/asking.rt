@@ -1,5 +1,5 @@
 // What is asked of the last values: by how far each stands below the top.
-ghost use Rattle.std.specs.Prelude.{◌≡◌, reverse, slice_get};
+ghost use Rattle.std.specs.Prelude.{◌≡◌, drop, reverse, slice_get, take};
 ghost use Rattle.parse_state.specs.Asking.{count_in, handle_in, name_in, name_in_at, token_in};
 
 use crate::children::value_at;
@@ -49,6 +49,30 @@ pub(crate) fn count_at(values: &[Value], depth: usize) -> u32
     }
 }
 
+// The tokens behind so many.
+fn behind(toks: &[Token], count: usize) -> &[Token]
+    ensures { result.now ≡ drop count toks.now }
+{
+    if count <= toks.len() {
+        let (_, behind) = toks.split_at(count);
+        behind
+    } else {
+        &[]
+    }
+}
+
+// The first so many tokens.
+fn front(toks: &[Token], count: usize) -> &[Token]
+    ensures { result.now ≡ take count toks.now }
+{
+    if count <= toks.len() {
+        let (front, _) = toks.split_at(count);
+        front
+    } else {
+        toks
+    }
+}
+
 /// The name of a node that has the spelling of a word, or none.
 pub(crate) fn name_of_word(values: &[Value], depth: Option<usize>) -> NameId
     ensures { result ≡ name_in_at (reverse values.now) depth }
@@ -63,6 +87,7 @@ impl<'t> ParseState<'t> {
     ghost use Rattle.meaning_derivation.specs.Values.{text_of, token_of, value_at as value_below};
     ghost use Rattle.meaning_derivation.specs.Lists.{has_spelling};
     ghost use Rattle.meaning_derivation.specs.Contexts.{tokens_behind};
+    ghost use Rattle.meaning_derivation.specs.Attributes.{tokens_from};
     ghost use Rattle.c_tokens.specs.Seen.{toks_of};
     ghost use Rattle.parse_state.specs.Seen.{state_of};
 
@@ -84,6 +109,15 @@ impl<'t> ParseState<'t> {
         } else {
             &[]
         }
+    }
+
+    /// The tokens of the unit from that of a word up to that of the next terminal.
+    pub fn tokens_from(&self, depth: usize) -> &[Token]
+        ensures { toks_of self.now.names result.now ≡ tokens_from (state_of self.now) (value_below (state_of self.now).values depth) }
+    {
+        let from = self.token(depth);
+        let count = self.next_token.saturating_sub(from);
+        front(behind(self.tokens, from as usize), count as usize)
     }
 
     /// The index of the token of a word.

@@ -71,8 +71,8 @@ fn is_extern(kind: NodeKind) -> bool
     }
 }
 
-// The name and the token of a node.
-fn name_of_node(unit: &Unit, handle: Handle) -> DeclaredName
+/// The name and the token of a node.
+pub(crate) fn name_of_node(unit: &Unit, handle: Handle) -> DeclaredName
     requires from { unit.now.first ≤ handle }
     requires below { handle < end_of unit.now }
     ensures { HasNodeWith unit.now handle (λ node. (node.name ≡ result.name) × (node.token ≡ result.token)) }

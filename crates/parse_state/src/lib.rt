@@ -25,6 +25,7 @@ mod stacking;
 mod state;
 mod storage;
 mod strings;
+mod tags;
 mod unwrapping;
 mod value;
 

@@ -32,6 +32,18 @@ impl<'t> ParseState<'t> {
         Ok(())
     }
 
+    /// A word on top of the stack whose spelling is that of an id, which is empty where the table doesn't have it.
+    pub fn push_spelled(&mut self, token: u32, name: NameId) -> Result<(), AllocError>
+        ensures word { OnOk result (state_of self.new ≡ pushed (WordValue token (text_of self.old.names name)) (state_of self.old)) }
+        ensures err { OnErr result (self.new ≡ self.old) }
+        ensures names { self.new.names ≡ self.old.names }
+    {
+        if (name.0 as usize) < self.names.len() {
+            return self.push_word(token, name);
+        }
+        self.push_place(token)
+    }
+
     /// The place of a token on top of the stack, as a word without a spelling.
     pub fn push_place(&mut self, token: u32) -> Result<(), AllocError>
         ensures word { OnOk result (state_of self.new ≡ pushed (place token) (state_of self.old)) }

@@ -13,8 +13,8 @@ use c_tree::Handle;
 use std::alloc::AllocError;
 use tag_list::TagList;
 
-// The only child among children.
-fn only_child(children: &TagList) -> Option<Handle>
+/// The only child among children.
+pub(crate) fn only_child(children: &TagList) -> Option<Handle>
     ensures { result ≡ only_child children.now }
 {
     if children.len() == 1 {

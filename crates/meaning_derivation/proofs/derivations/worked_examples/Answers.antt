@@ -204,3 +204,19 @@ returns-clause-words c = record {
   qualified = refl;
   second_class = refl;
 }
+
+pub returns-clause-tags : goal.returns-clause-tags
+unfolding opened
+returns-clause-tags c = record {
+  one_type = refl;
+  members_define = refl;
+  alone = refl;
+  union_alone = refl;
+  qualified = refl;
+  member = refl;
+  enumeration = refl;
+  again = refl;
+  parameters = refl;
+  prototype = refl;
+  without_tags = refl;
+}

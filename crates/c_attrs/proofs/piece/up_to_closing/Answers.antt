@@ -1,7 +1,7 @@
 use Rattle.std.proofs.Common.{take, ap, ◌∙◌}
 use Rattle.c_tokens.specs.Seen.{toks_of}
-use Rattle.c_expr.proofs.Closing.{up_to_closing-seen}
-use Rattle.c_expr.proofs.contexts.up_to_closing.Goals as goal
+use Rattle.c_attrs.proofs.Closing.{up_to_closing-seen}
+use Rattle.c_attrs.proofs.piece.up_to_closing.Goals as goal
 
 pub returns : goal.returns
 returns c = λ names.

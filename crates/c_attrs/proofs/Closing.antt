@@ -1,10 +1,9 @@
 -- The tokens up to a parenthesis that closes, by ids and by their spellings.
 use Rattle.std.proofs.Common.{◌≡◌, ℕ, Bool, true, false, List, [], ◌∷◌, take, refl, ap}
-use Rattle.meaning_attributes.specs.Pieces.{depth_behind}
-use Rattle.meaning_derivation.specs.Contexts.{closes, up_to_closing}
+use Rattle.meaning_attributes.specs.Pieces.{closes, depth_behind, up_to_closing}
 use Rattle.c_tokens.specs.declared.token.Token.{Token}
 use Rattle.c_tokens.specs.Seen.{tok_of, toks_of}
-use Rattle.c_expr.specs.Closing.{length_to_closing}
+use Rattle.c_attrs.specs.Closing.{length_to_closing}
 
 -- so many tokens are those up to it
 abbrev AreUpTo : List (List ℕ) → (depth : ℕ) → List Token → Type 0

@@ -1,7 +1,7 @@
 use Rattle.std.proofs.Common.{◌≡◌, ℕ, List, length}
-use Rattle.meaning_derivation.specs.Contexts.{in_parentheses}
+use Rattle.meaning_attributes.specs.Pieces.{in_parentheses}
 use Rattle.c_tokens.specs.Seen.{toks_of}
-use Rattle.c_expr.proofs.contexts.in_parentheses.Given as goal
+use Rattle.c_attrs.proofs.piece.in_parentheses.Given as goal
 
 -- no token before those that are left opens a parenthesis
 abbrev pub invariant-tokens : goal.invariant-tokens

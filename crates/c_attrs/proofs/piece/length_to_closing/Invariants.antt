@@ -1,6 +1,6 @@
 use Rattle.std.proofs.Common.{◌≡◌, ◌+◌, ◌≤◌, length}
-use Rattle.c_expr.specs.Closing.{length_to_closing}
-use Rattle.c_expr.proofs.contexts.length_to_closing.Given as goal
+use Rattle.c_attrs.specs.Closing.{length_to_closing}
+use Rattle.c_attrs.proofs.piece.length_to_closing.Given as goal
 
 -- the count so far and that to come are all
 abbrev pub invariant-tokens : goal.invariant-tokens

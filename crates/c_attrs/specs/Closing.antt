@@ -1,7 +1,6 @@
 -- Where the parenthesis stands that closes what was opened before these tokens.
 use Rattle.std.specs.Prelude.{ℕ, suc, List, [], ◌∷◌, if◌then◌else◌}
-use Rattle.meaning_attributes.specs.Pieces.{depth_behind}
-use Rattle.meaning_derivation.specs.Contexts.{closes}
+use Rattle.meaning_attributes.specs.Pieces.{closes, depth_behind}
 use Rattle.c_tokens.specs.declared.token.Token.{Token}
 
 -- how many tokens stand before it, where so many parentheses are open before them

@@ -1,0 +1,8 @@
+//! The rules over a whole unit: what fails at its nodes, what it breaks, and what is told of it.
+//!
+//! Definitions over what `meaning_typing` says of each node. Start reading at `specs/Rules.antt`.
+#![tactic(auto)]
+
+mod rules;
+
+pub use rules::worked_examples;

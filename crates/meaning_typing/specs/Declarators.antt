@@ -2,10 +2,9 @@
 -- another.
 use Rattle.std.specs.Prelude.{ℕ, ◌+◌, ◌-◌, ℤ, pos, negsuc, Bool, true, false, ◌&&◌, ◌||◌, not, List, [], ◌∷◌, ◌++◌, length, Option, Some, None, option_map, Result, Ok, Err, if◌then◌else◌}
 use Rattle.std.specs.Option.{option_and_then}
-use Rattle.std.specs.Str.{bytes_eq}
 use Rattle.vocabulary.specs.declared.node_kind.NodeKind.{NodeKind}
 use Rattle.vocabulary.specs.declared.node_kind.NodeKind.TheVariants as kinds
-use Rattle.meaning_types.specs.Types.{Qualifiers, TypeTree, Typed, VoidTree, ArrayTree, FunctionTree, TypeTrees, NoTypes, MoreTypes, no_qualifiers, no_flags, has_flag, pointer_to, decayed}
+use Rattle.meaning_types.specs.Types.{TypeTree, Typed, VoidTree, ArrayTree, FunctionTree, TypeTrees, NoTypes, MoreTypes, no_qualifiers, no_flags, has_flag, pointer_to, decayed}
 use Rattle.meaning_types.specs.Marks.{marked}
 use Rattle.meaning_layout.specs.Layouts.{LayoutFault, Incomplete, TooLarge}
 use Rattle.meaning_layout.specs.Sizes.{Extent, Told, extent_of}

@@ -1,5 +1,5 @@
 -- When two types are equal, qualifiers and flags at every level with them.
-use Rattle.std.specs.Prelude.{ℕ, Bool, true, false, ◌&&◌, nat_eq}
+use Rattle.std.specs.Prelude.{Bool, true, false, ◌&&◌, nat_eq}
 use Rattle.meaning_types.specs.Types.{Qualifiers, TypeTree, Typed, BaseTree, VoidTree, IntegerTree, RestrictedTree, PointerTree, ArrayTree, FunctionTree, AggregateTree, TypeTrees, NoTypes, MoreTypes}
 use Rattle.meaning_types.specs.Equality.{are_equal_kinds, are_equal_flags, are_equal_bools, are_equal_lengths}
 

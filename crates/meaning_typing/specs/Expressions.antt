@@ -1,5 +1,5 @@
 -- Expressions (C11 6.5): one row for each kind of node, over what is known of its parts.
-use Rattle.std.specs.Prelude.{ℕ, ◌+◌, ℤ, Bool, true, false, ◌&&◌, ◌||◌, not, is_some, nat_lt, nat_eq, List, [], ◌∷◌, ◌++◌, map, length, Option, Some, None, option_map, if◌then◌else◌}
+use Rattle.std.specs.Prelude.{ℕ, ◌+◌, Bool, true, false, ◌&&◌, ◌||◌, not, is_some, nat_lt, nat_eq, List, [], ◌∷◌, ◌++◌, length, Option, Some, None, if◌then◌else◌}
 use Rattle.vocabulary.specs.declared.error_kind.ErrorKind.TheVariants.{CannotDereference, CannotTakeAddress, NotModifiable, CalledObjectIsNoFunction, WrongNumberOfArguments, IncompleteType}
 use Rattle.vocabulary.specs.declared.int_kind.IntKind.TheVariants as integers
 use Rattle.vocabulary.specs.declared.operator.Operator.TheVariants as operators
@@ -9,7 +9,7 @@ use Rattle.meaning_types.specs.Spaces.{is_void}
 use Rattle.meaning_operands.specs.Operands.{is_restricted}
 use Rattle.meaning_operands.specs.Answers.{operator_answer}
 use Rattle.meaning_operands.specs.Failures.{Failure, Broken}
-use Rattle.meaning_typing.specs.Facts.{Fact, Unknown, Expression, ExpressionFact, Addressed, NotAddress, ConstantPlace, ConstantAddress, value, place, decays, type_of_value, operand_of}
+use Rattle.meaning_typing.specs.Facts.{Fact, Expression, ExpressionFact, Addressed, NotAddress, ConstantPlace, ConstantAddress, value, place, decays, type_of_value, operand_of}
 use Rattle.meaning_typing.specs.Specifiers.{plain_type}
 use Rattle.meaning_typing.specs.Declarators.{array_type}
 use Rattle.meaning_typing.specs.Rows.{Row, Converted, nothing, gives, breaks, breaks_at, void_used, fails_with, converted, not_converted, both_converted}

@@ -1,7 +1,7 @@
 -- What is known of a node: all that the nodes above it, and those behind it, may ask of it.
-use Rattle.std.specs.Prelude.{ℕ, ℤ, pos, Bool, true, false, ◌&&◌, ◌||◌, not, Option, Some, None, List, get_or, if◌then◌else◌}
+use Rattle.std.specs.Prelude.{ℕ, ℤ, pos, Bool, true, false, ◌&&◌, not, Option, Some, None, List, get_or, if◌then◌else◌}
 use Rattle.std.specs.Ordering.{int_eq}
-use Rattle.meaning_types.specs.Types.{TypeTree, Typed, VoidTree, IntegerTree, ArrayTree, FunctionTree, value_type, decayed}
+use Rattle.meaning_types.specs.Types.{TypeTree, Typed, IntegerTree, ArrayTree, FunctionTree, value_type, decayed}
 use Rattle.meaning_operands.specs.Operands.{Operand}
 use Rattle.meaning_constants.specs.Nodes.{loaded_type}
 

@@ -1,6 +1,6 @@
 -- What a name stands for (C11 6.2.2, 6.5.1): an object or a function of one name with linkage has the type of its first
 -- declaration in the unit.
-use Rattle.std.specs.Prelude.{ℕ, Bool, true, false, ◌&&◌, not, nat_eq, List, [], ◌∷◌, Option, Some, None, is_some, if◌then◌else◌}
+use Rattle.std.specs.Prelude.{ℕ, Bool, true, false, ◌&&◌, nat_eq, List, [], ◌∷◌, Option, Some, None, is_some, if◌then◌else◌}
 use Rattle.std.specs.Str.{bytes_eq}
 use Rattle.vocabulary.specs.declared.error_kind.ErrorKind.TheVariants.{TypedefHasAnotherType}
 use Rattle.vocabulary.specs.declared.rule.RuleCode.TheVariants.{A7}
@@ -8,8 +8,7 @@ use Rattle.meaning_types.specs.Types.{TypeTree}
 use Rattle.meaning_types.specs.Composite.{composite}
 use Rattle.meaning_operands.specs.Failures.{Failure, Broken}
 use Rattle.meaning_typing.specs.Surroundings.{Surrounding}
-use Rattle.meaning_typing.specs.Facts.{Fact, Expression, Declared, DeclaredFact, ExpressionFact, Addressed, NotAddress, ConstantPlace, place}
-use Rattle.meaning_typing.specs.Declarators.{is_function}
+use Rattle.meaning_typing.specs.Facts.{Fact, Declared, DeclaredFact, ExpressionFact, Addressed, NotAddress, ConstantPlace, place}
 use Rattle.meaning_typing.specs.Equality.{are_equal_types}
 use Rattle.meaning_typing.specs.Rows.{Row, nothing, gives, breaks_named, fails_with}
 

@@ -1,5 +1,5 @@
 -- Which units are typed: those whose nodes are all of these kinds. What a node of another kind comes to isn't said yet.
-use Rattle.std.specs.Prelude.{◌≡◌, Bool, true, false, List, All}
+use Rattle.std.specs.Prelude.{◌≡◌, Bool, true, false, All}
 use Rattle.vocabulary.specs.declared.node_kind.NodeKind.{NodeKind}
 use Rattle.vocabulary.specs.declared.node_kind.NodeKind.TheVariants as kinds
 use Rattle.meaning_typing.specs.Units.{UnitNodes}

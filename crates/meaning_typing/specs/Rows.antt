@@ -1,5 +1,5 @@
 -- What a row says of a node: what is known of it, which constraints it breaks, which rules fail, and where a limit is passed.
-use Rattle.std.specs.Prelude.{ℕ, ℤ, pos, List, [], ◌∷◌, ◌++◌, map, Option, Some, None, if◌then◌else◌}
+use Rattle.std.specs.Prelude.{ℕ, pos, List, [], ◌∷◌, ◌++◌, Option, Some, if◌then◌else◌}
 use Rattle.vocabulary.specs.declared.error_kind.ErrorKind.{ErrorKind}
 use Rattle.vocabulary.specs.declared.error_kind.ErrorKind.TheVariants.{VoidValueUsed, IncompatibleTypes}
 use Rattle.vocabulary.specs.declared.rule.RuleCode.{RuleCode}

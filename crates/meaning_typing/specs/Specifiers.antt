@@ -1,5 +1,5 @@
 -- The type that specifiers say, with what attributes among them add (C11 6.7.1 to 6.7.3).
-use Rattle.std.specs.Prelude.{ℕ, ◌+◌, nat_lt, Bool, true, false, List, [], ◌∷◌, ◌++◌, Option, Some, None, option_map, if◌then◌else◌}
+use Rattle.std.specs.Prelude.{ℕ, ◌+◌, nat_lt, Bool, true, false, List, [], ◌∷◌, Option, Some, None, if◌then◌else◌}
 use Rattle.std.specs.List.{flat_map}
 use Rattle.vocabulary.specs.declared.int_kind.IntKind.{IntKind}
 use Rattle.vocabulary.specs.declared.int_kind.IntKind.TheVariants as integers

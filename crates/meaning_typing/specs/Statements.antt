@@ -1,5 +1,5 @@
 -- Statements (C11 6.8): they have no type, and ask something of their parts.
-use Rattle.std.specs.Prelude.{ℕ, Bool, List, [], ◌∷◌, Option, Some, None, if◌then◌else◌}
+use Rattle.std.specs.Prelude.{ℕ, List, Option, Some, None, if◌then◌else◌}
 use Rattle.vocabulary.specs.declared.error_kind.ErrorKind.TheVariants.{ValueReturnedFromVoid, ReturnWithoutValue}
 use Rattle.meaning_types.specs.Types.{TypeTree, Typed, FunctionTree}
 use Rattle.meaning_types.specs.Spaces.{is_void}

@@ -1,5 +1,5 @@
 -- The nodes of a unit by their handles, where the first one has handle 0. What isn't there says nothing.
-use Rattle.std.specs.Prelude.{ℕ, List, [], ◌∷◌, map, length, get_or, drop}
+use Rattle.std.specs.Prelude.{ℕ, List, [], map, length, get_or, drop}
 use Rattle.vocabulary.specs.declared.node_kind.NodeKind.{NodeKind}
 use Rattle.vocabulary.specs.declared.node_kind.NodeKind.TheVariants.{EmptyDeclaration}
 use Rattle.meaning_tree.specs.Nodes.{TreeNode}

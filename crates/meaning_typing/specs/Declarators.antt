@@ -13,6 +13,40 @@ use Rattle.meaning_typing.specs.Surroundings.{Surrounding}
 use Rattle.meaning_typing.specs.Facts.{Fact, Unknown, Expression, Specified, Declared, NamedType, SpecifiedFact, DeclaredFact, StorageFact, fact_at}
 use Rattle.meaning_typing.specs.Specifiers.{Marks, marks_among, plain_type, with_marks, words_of, type_named}
 
+-- Around a declarator
+
+abbrev pub specified_by : Fact → Option SpecifiedFact
+specified_by (Specified specifiers) = Some specifiers
+specified_by fact = None
+
+-- what the specifiers of a declaration, a function or a parameter say: they are its first part
+abbrev pub specifiers_of : UnitNodes → List Fact → (parent : ℕ) → Option SpecifiedFact
+specifiers_of nodes facts parent = specified_by (fact_at facts (child_at nodes parent 0))
+
+-- lists of attributes before a declarator behind the first one are its own
+abbrev pub leading_lists : NodeKind → (children : List ℕ) → List ℕ
+leading_lists kinds.LeadingAttributes children = children
+leading_lists kind children = []
+
+abbrev pub lists_before : UnitNodes → (parent place : ℕ) → List ℕ
+lists_before nodes parent place =
+    leading_lists (kind_at nodes (child_at nodes parent (place - 1))) (children_at nodes (child_at nodes parent (place - 1)))
+
+-- and so are those directly behind it
+abbrev pub list_before : NodeKind → (handle : ℕ) → (others : List ℕ) → List ℕ
+list_before kinds.AttributeList handle others = handle ∷ others
+list_before kind handle others = []
+
+abbrev pub lists_in_front : UnitNodes → (handles : List ℕ) → List ℕ
+lists_in_front nodes [] = []
+lists_in_front nodes (handle ∷ handles) = list_before (kind_at nodes handle) handle (lists_in_front nodes handles)
+
+abbrev pub lists_behind : UnitNodes → (parent place : ℕ) → List ℕ
+lists_behind nodes parent place = lists_in_front nodes (children_from nodes parent (place + 1))
+
+abbrev pub own_marks : UnitNodes → (parent place : ℕ) → Marks
+own_marks nodes parent place = marks_among nodes (lists_before nodes parent place ++ lists_behind nodes parent place)
+
 -- Parts
 
 -- the qualifiers of a pointer itself (6.7.6.1 p1), and what its attributes add
@@ -72,10 +106,6 @@ abbrev pub is_plain_void : TypeTree → Bool
 is_plain_void (Typed VoidTree qualifiers flags) = not (qualifiers.is_const || qualifiers.is_volatile) && not (has_flag flags)
 is_plain_void (Typed base qualifiers flags) = false
 
-abbrev pub names_plain_void : Fact → Bool
-names_plain_void (NamedType type_) = is_plain_void type_
-names_plain_void fact = false
-
 -- a parameter has a declarator where it has a name or parts of one
 abbrev pub is_declarator : NodeKind → Bool
 is_declarator kinds.Declarator = true
@@ -84,8 +114,17 @@ is_declarator kind = false
 abbrev pub has_declarator : UnitNodes → (parameter : ℕ) → Bool
 has_declarator nodes parameter = is_declarator (kind_at nodes (child_at nodes parameter 1))
 
+-- the type of a parameter without one before it is adjusted: its specifiers and the attributes behind them say it
+abbrev pub nameless_type : UnitNodes → (parameter : ℕ) → SpecifiedFact → TypeTree
+nameless_type nodes parameter specifiers =
+    with_marks (node_at nodes parameter).token (marks_among nodes (lists_behind nodes parameter 0)) specifiers.type_
+
+abbrev pub is_void_parameter : UnitNodes → (parameter : ℕ) → Option SpecifiedFact → Bool
+is_void_parameter nodes parameter None = false
+is_void_parameter nodes parameter (Some specifiers) = not (has_declarator nodes parameter) && is_plain_void (nameless_type nodes parameter specifiers)
+
 abbrev pub is_void_list : UnitNodes → List Fact → (handles : List ℕ) → Bool
-is_void_list nodes facts (handle ∷ []) = names_plain_void (fact_at facts handle) && not (has_declarator nodes handle)
+is_void_list nodes facts (handle ∷ []) = is_void_parameter nodes handle (specifiers_of nodes facts handle)
 is_void_list nodes facts handles = false
 
 abbrev pub function_type : TypeTree → (variadic : Bool) → TypeTrees → TypeTree
@@ -112,38 +151,6 @@ derived_by nodes facts identity (part ∷ parts) type_ =
     option_and_then (derived_by nodes facts identity parts) (derived nodes facts identity (kind_at nodes part) (children_at nodes part) type_)
 
 -- Declarations
-
-abbrev pub specified_by : Fact → Option SpecifiedFact
-specified_by (Specified specifiers) = Some specifiers
-specified_by fact = None
-
--- what the specifiers of a declaration, a function or a parameter say: they are its first part
-abbrev pub specifiers_of : UnitNodes → List Fact → (parent : ℕ) → Option SpecifiedFact
-specifiers_of nodes facts parent = specified_by (fact_at facts (child_at nodes parent 0))
-
--- lists of attributes before a declarator behind the first one are its own
-abbrev pub leading_lists : NodeKind → (children : List ℕ) → List ℕ
-leading_lists kinds.LeadingAttributes children = children
-leading_lists kind children = []
-
-abbrev pub lists_before : UnitNodes → (parent place : ℕ) → List ℕ
-lists_before nodes parent place =
-    leading_lists (kind_at nodes (child_at nodes parent (place - 1))) (children_at nodes (child_at nodes parent (place - 1)))
-
--- and so are those directly behind it
-abbrev pub list_before : NodeKind → (handle : ℕ) → (others : List ℕ) → List ℕ
-list_before kinds.AttributeList handle others = handle ∷ others
-list_before kind handle others = []
-
-abbrev pub lists_in_front : UnitNodes → (handles : List ℕ) → List ℕ
-lists_in_front nodes [] = []
-lists_in_front nodes (handle ∷ handles) = list_before (kind_at nodes handle) handle (lists_in_front nodes handles)
-
-abbrev pub lists_behind : UnitNodes → (parent place : ℕ) → List ℕ
-lists_behind nodes parent place = lists_in_front nodes (children_from nodes parent (place + 1))
-
-abbrev pub own_marks : UnitNodes → (parent place : ℕ) → Marks
-own_marks nodes parent place = marks_among nodes (lists_before nodes parent place ++ lists_behind nodes parent place)
 
 -- the type of a parameter
 abbrev pub adjusted_in : NodeKind → TypeTree → TypeTree
@@ -179,6 +186,10 @@ links in_file storage type_ = not storage.is_typedef && (in_file || storage.is_e
 abbrev pub in_file : UnitNodes → Surrounding → Bool
 in_file nodes surrounding = is_unit (kind_at nodes surrounding.around.scope)
 
+abbrev pub links_in : UnitNodes → Surrounding → StorageFact → TypeTree → Bool
+links_in nodes surrounding storage type_ =
+    declares_with_linkage (kind_at nodes surrounding.parent) && links (in_file nodes surrounding) storage type_
+
 -- what a declarator with this name and this type declares behind these specifiers
 abbrev pub declared : UnitNodes → Surrounding → (name : List ℕ) → StorageFact → TypeTree → DeclaredFact
 declared nodes surrounding name storage type_ =
@@ -186,8 +197,8 @@ declared nodes surrounding name storage type_ =
       name = name;
       type_ = type_;
       is_typedef = storage.is_typedef;
-      has_linkage = declares_with_linkage (kind_at nodes surrounding.parent) && links (in_file nodes surrounding) storage type_;
-      is_static = storage.is_static || (declares_with_linkage (kind_at nodes surrounding.parent) && links (in_file nodes surrounding) storage type_);
+      has_linkage = links_in nodes surrounding storage type_;
+      is_static = storage.is_static || links_in nodes surrounding storage type_;
       is_register = storage.is_register;
     }
 
@@ -207,15 +218,10 @@ abbrev pub type_declared : Fact → Option TypeTree
 type_declared (Declared declaration) = Some declaration.type_
 type_declared fact = None
 
--- a parameter without a declarator has the type that its specifiers and the attributes behind them say
-abbrev pub nameless_type : UnitNodes → (parameter : ℕ) → SpecifiedFact → TypeTree
-nameless_type nodes parameter specifiers =
-    adjusted (with_marks (node_at nodes parameter).token (marks_among nodes (lists_behind nodes parameter 0)) specifiers.type_)
-
 abbrev pub parameter_type : UnitNodes → List Fact → (parameter : ℕ) → Option TypeTree
 parameter_type nodes facts parameter =
     if has_declarator nodes parameter then type_declared (fact_at facts (child_at nodes parameter 1))
-    else option_map (nameless_type nodes parameter) (specifiers_of nodes facts parameter)
+    else option_map (λ specifiers. adjusted (nameless_type nodes parameter specifiers)) (specifiers_of nodes facts parameter)
 
 abbrev pub named_if : Option TypeTree → Fact
 named_if None = Unknown
@@ -249,8 +255,8 @@ large_parts nodes facts identity [] type_ = []
 large_parts nodes facts identity (part ∷ parts) None = []
 large_parts nodes facts identity (part ∷ parts) (Some type_) =
     (if is_array_part (kind_at nodes part) && is_too_large_type (derived nodes facts identity (kind_at nodes part) (children_at nodes part) type_)
-     then (node_at nodes part).token ∷ []
-     else [])
+    then (node_at nodes part).token ∷ []
+    else [])
     ++ large_parts nodes facts identity parts (derived nodes facts identity (kind_at nodes part) (children_at nodes part) type_)
 
 abbrev pub large_in : UnitNodes → List Fact → (parent : ℕ) → (parts : List ℕ) → Option SpecifiedFact → List ℕ

@@ -19,10 +19,11 @@ use Rattle.meaning_typing.specs.Rows.{Row, Converted, nothing, gives, breaks, br
 abbrev pub literal_row : TypeTree → Row
 literal_row type_ = gives (value type_) [] []
 
--- an array of so many elements, the last zero among them
+-- an array of so many elements, the last zero among them; it is a constant address itself, and neither what `&` gives of it nor
+-- what it gives of an element is one: our choice
 abbrev pub string_place : (length : ℕ) → ExpressionFact
 string_place length =
-    record (place (array_type (plain_type (IntegerTree integers.Char)) (Some length))) { address = ConstantPlace; is_string = true }
+    record (place (array_type (plain_type (IntegerTree integers.Char)) (Some length))) { address = ConstantAddress; is_string = true }
 
 abbrev pub string_row : (length : ℕ) → Row
 string_row length = gives (string_place length) [] []
@@ -59,9 +60,9 @@ abbrev pub is_array : TypeTree → Bool
 is_array (Typed (ArrayTree element length) qualifiers flags) = true
 is_array (Typed base qualifiers flags) = false
 
-abbrev pub element_address : Bool → Addressed → Addressed
-element_address true address = address
-element_address false address = NotAddress
+abbrev pub element_address : (constant : Bool) → Addressed → Addressed
+element_address true ConstantPlace = ConstantPlace
+element_address constant address = NotAddress
 
 -- a place of array type: its elements lie in it
 abbrev pub is_array_place : ExpressionFact → Bool
@@ -129,8 +130,8 @@ assigned token second left right (broken ∷ others) = breaks (broken ∷ others
 
 abbrev pub assignment_row : (token second : ℕ) → (left right : Fact) → Row
 assignment_row token second (Expression left) (Expression right) = assigned token second left right (store_broken token left)
--- nothing is asked of the right side here
-assignment_row token second (Expression left) right = breaks (store_broken token left)
+-- nothing but a conversion is asked of the right side
+assignment_row token second (Expression left) right = gives (value (value_type left.type_)) (store_broken token left) []
 assignment_row token second left right = nothing
 
 -- Calls (6.5.2.2)

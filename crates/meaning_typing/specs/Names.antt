@@ -28,15 +28,14 @@ linked_types name [] = []
 linked_types name (Declared declaration ∷ facts) = before_types (links_name name declaration) declaration.type_ (linked_types name facts)
 linked_types name (fact ∷ facts) = linked_types name facts
 
--- the first of two that there is
-abbrev pub or_first : Option TypeTree → TypeTree → TypeTree
-or_first None first = first
-or_first (Some type_) first = type_
+abbrev pub type_or : (otherwise : TypeTree) → Option TypeTree → TypeTree
+type_or otherwise None = otherwise
+type_or otherwise (Some type_) = type_
 
 -- with the length that a later one has, where the first has none (6.2.7 p3)
 abbrev pub with_lengths : TypeTree → List TypeTree → TypeTree
 with_lengths first [] = first
-with_lengths first (type_ ∷ types) = with_lengths (or_first (composite first type_) first) types
+with_lengths first (type_ ∷ types) = with_lengths (type_or first (composite first type_)) types
 
 -- the type of what they declare, which is this where there is none
 abbrev pub common_type : (otherwise : TypeTree) → List TypeTree → TypeTree

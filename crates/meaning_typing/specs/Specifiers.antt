@@ -9,7 +9,7 @@ use Rattle.meaning_types.specs.Types.{Space, NumberedSpace, NamedSpace, Qualifie
 use Rattle.meaning_types.specs.Marks.{marked}
 use Rattle.meaning_tree.specs.Nodes.{TreeNode}
 use Rattle.meaning_typing.specs.Units.{UnitNodes, node_at, kind_at, children_at}
-use Rattle.meaning_typing.specs.Facts.{Fact, Specified, NamedType, StorageFact, fact_at}
+use Rattle.meaning_typing.specs.Facts.{Fact, Unknown, Specified, NamedType, StorageFact, fact_at}
 
 -- Words
 
@@ -138,30 +138,24 @@ abbrev pub type_named : Fact → Option TypeTree
 type_named (NamedType type_) = Some type_
 type_named fact = None
 
-abbrev pub first_or : Option TypeTree → Option TypeTree → Option TypeTree
-first_or None other = other
-first_or (Some type_) other = Some type_
+-- a specifier of this kind names a type, so that no words do (6.7.2 p2)
+abbrev pub names_type : NodeKind → Bool
+names_type kinds.TypedefName = true
+names_type kind = false
 
--- the first type that some of them names
-abbrev pub first_named : List Fact → List ℕ → Option TypeTree
-first_named facts [] = None
-first_named facts (handle ∷ handles) = first_or (type_named (fact_at facts handle)) (first_named facts handles)
+-- the type by what one of them names, or else by the words; where the named one isn't known, none is
+abbrev pub type_said : UnitNodes → List Fact → Words → (handles : List ℕ) → Option TypeTree
+type_said nodes facts words [] = Some (type_of_words words)
+type_said nodes facts words (handle ∷ handles) =
+    if names_type (kind_at nodes handle) then type_named (fact_at facts handle) else type_said nodes facts words handles
 
-abbrev pub type_or : Option TypeTree → TypeTree → TypeTree
-type_or None type_ = type_
-type_or (Some named) type_ = named
+-- what they say of this type in a declaration that begins at this token
+abbrev pub specified_as : UnitNodes → (token : ℕ) → (handles : List ℕ) → Words → Option TypeTree → Fact
+specified_as nodes token handles words None = Unknown
+specified_as nodes token handles words (Some type_) =
+    Specified
+    (record { type_ = with_marks token (marks_among nodes handles) (marked words.qualifiers no_flags type_); storage = words.storage })
 
--- the type by the words, and by what they name
-abbrev pub type_said : UnitNodes → List Fact → (handles : List ℕ) → TypeTree
-type_said nodes facts handles = type_or (first_named facts handles) (type_of_words (words_of nodes handles))
-
--- what these say in a declaration that begins at this token
 abbrev pub specified : UnitNodes → List Fact → (token : ℕ) → (handles : List ℕ) → Fact
 specified nodes facts token handles =
-    Specified
-    (record {
-      type_ =
-        with_marks token (marks_among nodes handles)
-        (marked (words_of nodes handles).qualifiers no_flags (type_said nodes facts handles));
-      storage = (words_of nodes handles).storage;
-    })
+    specified_as nodes token handles (words_of nodes handles) (type_said nodes facts (words_of nodes handles) handles)

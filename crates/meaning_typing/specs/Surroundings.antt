@@ -2,7 +2,7 @@
 -- node above.
 use Rattle.std.specs.Prelude.{◌≡◌, ℕ, zero, suc, ◌-◌, ◌<◌, Bool, true, false, ◌&&◌, List, length, get_or, slice_get, Option, Some, None, if◌then◌else◌}
 use Rattle.vocabulary.specs.declared.node_kind.NodeKind.{NodeKind}
-use Rattle.vocabulary.specs.declared.node_kind.NodeKind.TheVariants.{TranslationUnit, FunctionDefinition, FunctionDeclarator, CompoundStatement, ExpressionStatement, ReturnStatement, ForStatement, Subscript, Call, Address, Indirection, Parenthesized, Assignment}
+use Rattle.vocabulary.specs.declared.node_kind.NodeKind.TheVariants.{TranslationUnit, FunctionDefinition, ArrayDeclarator, FunctionDeclarator, CompoundStatement, ExpressionStatement, ReturnStatement, ForStatement, Subscript, Call, Address, Indirection, Parenthesized, Assignment}
 use Rattle.vocabulary.specs.declared.role.Role.{Role}
 use Rattle.vocabulary.specs.declared.role.Role.TheVariants.{Evaluated, Condition, TypePart, Unevaluated}
 use Rattle.vocabulary.specs.Roles.{role_of}
@@ -33,6 +33,7 @@ pub record Surrounding : Type 0 where
   pub parent : ℕ
   pub place : ℕ
   pub want : Want
+  -- neither it nor a node above it is a part of a type, or is only looked at
   pub is_evaluated : Bool
   pub around : Around
 
@@ -49,7 +50,13 @@ want_of Indirection place = ForValue
 want_of Assignment zero = ForStore
 want_of Assignment (suc place) = ForValue
 want_of Parenthesized place = ForPlace
+want_of ArrayDeclarator place = ForValue
 want_of kind place = ForNothing
+
+-- a part of a type is written only
+abbrev pub wanted : NodeKind → (place : ℕ) → Role → Want
+wanted kind place TypePart = ForNothing
+wanted kind place role = want_of kind place
 
 -- nothing is evaluated in a part of a type, nor in what is only looked at (6.5.3.4 p2, 6.6 p6)
 abbrev pub evaluates : Role → Bool
@@ -85,7 +92,7 @@ asked kind handle place role surrounding =
     record {
       parent = handle;
       place = place;
-      want = want_of kind place;
+      want = wanted kind place role;
       is_evaluated = surrounding.is_evaluated && evaluates role;
       around = around_parts kind handle role surrounding.around;
     }

@@ -9,4 +9,7 @@ pub mod Names
 pub mod Expressions
 pub mod Statements
 pub mod Typing
+pub mod Evaluation
+pub mod Building
 pub mod Reach
+pub mod laws

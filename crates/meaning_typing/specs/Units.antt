@@ -2,7 +2,7 @@
 use Rattle.std.specs.Prelude.{ℕ, List, [], map, length, get_or, drop}
 use Rattle.vocabulary.specs.declared.node_kind.NodeKind.{NodeKind}
 use Rattle.vocabulary.specs.declared.node_kind.NodeKind.TheVariants.{EmptyDeclaration}
-use Rattle.meaning_tree.specs.Nodes.{TreeNode}
+use Rattle.meaning_tree.specs.Nodes.{TreeNode, NodeList}
 
 abbrev pub UnitNodes : Type 0
 UnitNodes = List (TreeNode (List ℕ))
@@ -27,3 +27,7 @@ child_at nodes parent place = get_or (children_at nodes parent) place (length no
 -- the children from this place on
 abbrev pub children_from : UnitNodes → (parent place : ℕ) → List ℕ
 children_from nodes parent place = drop place (children_at nodes parent)
+
+-- as a list of nodes of which the first one has handle 0
+abbrev pub unit_list : UnitNodes → NodeList (List ℕ)
+unit_list nodes = record { first = 0; nodes = nodes }

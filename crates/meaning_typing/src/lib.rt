@@ -6,4 +6,6 @@
 
 mod typing;
 
-pub use typing::worked_examples;
+pub use typing::{
+    each_unit_has_one_list_of_facts, each_unit_has_one_list_of_surroundings, equality_is_decided,
+};

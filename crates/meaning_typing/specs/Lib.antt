@@ -13,3 +13,4 @@ pub mod Evaluation
 pub mod Building
 pub mod Reach
 pub mod laws
+pub mod examples

@@ -1,4 +1,5 @@
 // What is proved of typing, and examples.
+ghost use Rattle.meaning_typing.specs.examples.Typing.{FactExamples, SurroundingExamples};
 ghost use Rattle.meaning_typing.specs.laws.Equality.{EqualTypesPass};
 ghost use Rattle.meaning_typing.specs.laws.Facts.{FactsAreFound, FactsAreUnique};
 ghost use Rattle.meaning_typing.specs.laws.Surroundings.{SurroundingsAreFound, SurroundingsAreUnique};
@@ -19,4 +20,10 @@ pub fn each_unit_has_one_list_of_surroundings()
 pub fn each_unit_has_one_list_of_facts()
     ensures unique { FactsAreUnique }
     ensures found { FactsAreFound }
+{}
+
+/// Units of which one can tell by eye what their nodes stand in and what is known of them.
+pub fn worked_examples()
+    ensures surroundings { SurroundingExamples }
+    ensures facts { FactExamples }
 {}

@@ -1,0 +1,3 @@
+-- Worked examples.
+pub mod Drawn
+pub mod Typing

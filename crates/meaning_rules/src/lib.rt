@@ -5,4 +5,7 @@
 
 mod rules;
 
-pub use rules::{each_unit_has_one_judgement, the_least_is_told, units_have_what_their_nodes_have};
+pub use rules::{
+    each_unit_has_one_judgement, the_least_is_told, units_have_what_their_nodes_have,
+    worked_examples,
+};

@@ -1,4 +1,5 @@
 // What is proved of the rules over a unit, and examples.
+ghost use Rattle.meaning_rules.specs.examples.Units.{DeclarationExamples, RefusalExamples, StatementExamples};
 ghost use Rattle.meaning_rules.specs.laws.Judgements.{BrokenAreGathered, FailuresAreGathered, JudgementsAreUnique, JudgementsExist};
 ghost use Rattle.meaning_rules.specs.laws.Least.{LeastStandsFirst, LeastTokenIsFirst};
 
@@ -19,4 +20,11 @@ pub fn units_have_what_their_nodes_have()
 pub fn each_unit_has_one_judgement()
     ensures exist { JudgementsExist }
     ensures unique { JudgementsAreUnique }
+{}
+
+/// Short units of which one can tell by eye what fails in them and what they break.
+pub fn worked_examples()
+    ensures statements { StatementExamples }
+    ensures refusals { RefusalExamples }
+    ensures declarations { DeclarationExamples }
 {}

@@ -1,4 +1,5 @@
 // What is proved of typing, and examples.
+ghost use Rattle.meaning_typing.specs.examples.Rows.{ConstraintExamples, FailureExamples};
 ghost use Rattle.meaning_typing.specs.examples.Typing.{FactExamples, SurroundingExamples};
 ghost use Rattle.meaning_typing.specs.laws.Equality.{EqualTypesPass};
 ghost use Rattle.meaning_typing.specs.laws.Facts.{FactsAreFound, FactsAreUnique};
@@ -26,4 +27,10 @@ pub fn each_unit_has_one_list_of_facts()
 pub fn worked_examples()
     ensures surroundings { SurroundingExamples }
     ensures facts { FactExamples }
+{}
+
+/// Statements of which one can tell by eye what fails in them and what they break.
+pub fn worked_rows()
+    ensures failures { FailureExamples }
+    ensures constraints { ConstraintExamples }
 {}

@@ -1,7 +1,8 @@
 -- Worked examples: what nodes stand in and what is known of them, as one can tell by eye.
 use Rattle.std.specs.Prelude.{◌≡◌, ℕ, Bool, true, false, List, [], ◌∷◌, map, codes, Option, Some, None}
 use Rattle.vocabulary.specs.declared.node_kind.NodeKind.TheVariants as kinds
-use Rattle.meaning_types.specs.Types.{TypeTree, pointer_to}
+use Rattle.meaning_types.specs.Types.{TypeTree, Typed, IntegerTree, no_flags, pointer_to}
+use Rattle.vocabulary.specs.declared.int_kind.IntKind.TheVariants as integers
 use Rattle.meaning_typing.specs.Units.{UnitNodes, node_at}
 use Rattle.meaning_typing.specs.Surroundings.{Surrounding, Want, ForValue, ForStore, ForPlace, ForEffect, ForNothing, surrounding_at}
 use Rattle.meaning_typing.specs.Facts.{Fact, Expression, Declared, fact_at}
@@ -94,6 +95,17 @@ lengthened =
     (declaration 16 (leaf kinds.ExternSpecifier 16 ∷ leaf kinds.IntSpecifier 17 ∷ []) (declarator 18 (codes "a") (array 19 4 ∷ []) ∷ []) ∷ [])
     ∷ statement (address 24 (named kinds.Name 25 (codes "a") 4)) ∷ [])) ∷ [])
 
+-- `extern int i; extern const int i; void g(void) { i; }`
+abbrev pub twice_declared : UnitNodes
+twice_declared =
+    nodes_of
+    (declaration 0 (leaf kinds.ExternSpecifier 0 ∷ leaf kinds.IntSpecifier 1 ∷ []) (declarator 2 (codes "i") [] ∷ [])
+    ∷ declaration 4 (leaf kinds.ExternSpecifier 4 ∷ leaf kinds.ConstQualifier 5 ∷ leaf kinds.IntSpecifier 6 ∷ []) (declarator 7 (codes "i") [] ∷ [])
+    ∷ function 9 (leaf kinds.VoidSpecifier 9 ∷ [])
+    (declarator 10 (codes "g") (type_over kinds.FunctionDeclarator 11 (parameter 12 (leaf kinds.VoidSpecifier 12 ∷ []) [] ∷ []) ∷ []))
+    (over kinds.CompoundStatement 14 (statement (named kinds.Name 15 (codes "i") 9) ∷ []))
+    ∷ [])
+
 pub record FactExamples : Type 0 where
   -- the names of what is declared stand where their uses say
   pub names : map (λ handle. (node_at (in_body []) handle).name) (4 ∷ 13 ∷ 18 ∷ 26 ∷ 34 ∷ 42 ∷ []) ≡ map codes ("p" ∷ "u" ∷ "i" ∷ "one" ∷ "none" ∷ "f" ∷ [])
@@ -105,6 +117,8 @@ pub record FactExamples : Type 0 where
   pub inner : types_at hidden (13 ∷ 16 ∷ []) ≡ Some int ∷ Some (pointer_to int) ∷ []
   -- a length counts for the uses behind it, in whatever scope it stands
   pub lengths : types_at lengthened (13 ∷ 24 ∷ []) ≡ Some (array_type int None) ∷ Some (array_type int (Some 4)) ∷ []
+  -- the first declaration gives the type, though the use is bound to the last one
+  pub first : types_at twice_declared (9 ∷ 18 ∷ []) ≡ Some (Typed (IntegerTree integers.Int) (record { is_const = true; is_volatile = false }) no_flags) ∷ Some int ∷ []
   -- an object of a block is made where it is declared, but for one with linkage
   pub automatic : map (evaluated_at hidden) (12 ∷ []) ≡ (11 ∷ []) ∷ []
   pub linked : evaluated_at lengthened 22 ≡ []

@@ -22,6 +22,7 @@ returns-clause-facts c = record {
   unknown = refl;
   inner = refl;
   lengths = refl;
+  first = refl;
   automatic = refl;
   linked = refl;
 }

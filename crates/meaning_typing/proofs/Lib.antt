@@ -1,0 +1,4 @@
+pub mod Lists
+pub mod Equality
+pub mod Surroundings
+pub mod Facts

@@ -1,0 +1,28 @@
+-- Each example computes.
+use Rattle.std.proofs.Common.{refl}
+use Rattle.meaning_typing.proofs.typing.worked_examples.Goals as goal
+
+pub returns-clause-surroundings : goal.returns-clause-surroundings
+returns-clause-surroundings c = record {
+  under_address = refl;
+  on_the_left = refl;
+  functions = refl;
+  scopes = refl;
+  unit = refl;
+  loads = refl;
+  stores = refl;
+  evaluated = refl;
+  both_sides = refl;
+}
+
+pub returns-clause-facts : goal.returns-clause-facts
+returns-clause-facts c = record {
+  names = refl;
+  through = refl;
+  unknown = refl;
+  inner = refl;
+  lengths = refl;
+  first = refl;
+  automatic = refl;
+  linked = refl;
+}

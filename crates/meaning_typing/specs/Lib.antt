@@ -1,0 +1,16 @@
+pub mod Units
+pub mod Surroundings
+pub mod Facts
+pub mod Specifiers
+pub mod Declarators
+pub mod Equality
+pub mod Rows
+pub mod Names
+pub mod Expressions
+pub mod Statements
+pub mod Typing
+pub mod Evaluation
+pub mod Building
+pub mod Reach
+pub mod laws
+pub mod examples

@@ -1,0 +1,4 @@
+-- What is proved of the definitions.
+pub mod Equality
+pub mod Surroundings
+pub mod Facts

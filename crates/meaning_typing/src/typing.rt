@@ -1,0 +1,36 @@
+// What is proved of typing, and examples.
+ghost use Rattle.meaning_typing.specs.examples.Rows.{ConstraintExamples, FailureExamples};
+ghost use Rattle.meaning_typing.specs.examples.Typing.{FactExamples, SurroundingExamples};
+ghost use Rattle.meaning_typing.specs.laws.Equality.{EqualTypesPass};
+ghost use Rattle.meaning_typing.specs.laws.Facts.{FactsAreFound, FactsAreUnique};
+ghost use Rattle.meaning_typing.specs.laws.Surroundings.{SurroundingsAreFound, SurroundingsAreUnique};
+
+/// The test of types passes for equal types, and for no others.
+#[tactic(auto, using(crate::proofs::Equality::equal_types_pass))]
+pub fn equality_is_decided()
+    ensures { EqualTypesPass }
+{}
+
+/// A unit whose nodes make one tree, each behind its parts, has exactly one list of surroundings.
+pub fn each_unit_has_one_list_of_surroundings()
+    ensures unique { SurroundingsAreUnique }
+    ensures found { SurroundingsAreFound }
+{}
+
+/// In the same surroundings a unit has exactly one list of facts.
+pub fn each_unit_has_one_list_of_facts()
+    ensures unique { FactsAreUnique }
+    ensures found { FactsAreFound }
+{}
+
+/// Units of which one can tell by eye what their nodes stand in and what is known of them.
+pub fn worked_examples()
+    ensures surroundings { SurroundingExamples }
+    ensures facts { FactExamples }
+{}
+
+/// Statements of which one can tell by eye what fails in them and what they break.
+pub fn worked_rows()
+    ensures failures { FailureExamples }
+    ensures constraints { ConstraintExamples }
+{}

@@ -2,3 +2,4 @@ pub mod Lists
 pub mod Equality
 pub mod Surroundings
 pub mod Facts
+pub mod Words

@@ -4,6 +4,7 @@ ghost use Rattle.meaning_typing.specs.examples.Typing.{FactExamples, Surrounding
 ghost use Rattle.meaning_typing.specs.laws.Equality.{EqualTypesPass};
 ghost use Rattle.meaning_typing.specs.laws.Facts.{FactsAreFound, FactsAreUnique};
 ghost use Rattle.meaning_typing.specs.laws.Surroundings.{SurroundingsAreFound, SurroundingsAreUnique};
+ghost use Rattle.meaning_typing.specs.laws.Words.{NeighboursMaySwap};
 
 /// The test of types passes for equal types, and for no others.
 #[tactic(auto, using(crate::proofs::Equality::equal_types_pass))]
@@ -21,6 +22,11 @@ pub fn each_unit_has_one_list_of_surroundings()
 pub fn each_unit_has_one_list_of_facts()
     ensures unique { FactsAreUnique }
     ensures found { FactsAreFound }
+{}
+
+/// Whatever specifier words stand among, two of them that are neighbours may change places.
+pub fn words_stand_in_any_order()
+    ensures { NeighboursMaySwap }
 {}
 
 /// Units of which one can tell by eye what their nodes stand in and what is known of them.

@@ -1,9 +1,7 @@
 -- A laid unit has one judgement.
-use Rattle.std.proofs.Common.{◌≡◌, ℕ, zero, suc, ◌+◌, ◌<◌, ◌≤◌, ◌⊎◌, inl, inr, ⊎_elim, List, [], ◌∷◌, ◌++◌, length, Contains, Option, Some, None, refl, sym, ap, subst, ◌∙◌, arith}
+use Rattle.std.proofs.Common.{◌≡◌, ℕ, zero, suc, ◌<◌, ◌⊎◌, inl, inr, List, length, Contains, Option, Some, None, refl, sym, ap, subst, ◌∙◌, arith}
 use Rattle.std.proofs.lemmas.Option.{none-some, same_Some}
 use Rattle.std.proofs.lemmas.List.Elements.{Contains-append_left, Contains-append_right, Contains-append_cases}
-use Rattle.meaning_operands.specs.Failures.{Failure, Broken}
-use Rattle.meaning_warnings.specs.Listing.{IsListing}
 use Rattle.meaning_warnings.proofs.Listings.{in_order, lists, unique}
 use Rattle.meaning_typing.specs.Units.{UnitNodes}
 use Rattle.meaning_typing.specs.Surroundings.{Surrounding, AreSurroundings}
@@ -13,7 +11,7 @@ use Rattle.meaning_typing.specs.Building.{surroundings_of, facts_of}
 use Rattle.meaning_typing.specs.laws.Surroundings.{IsLaidUnit}
 use Rattle.meaning_typing.proofs.Surroundings.{surroundings_are_unique, surroundings_are_found}
 use Rattle.meaning_typing.proofs.Facts.{facts_are_unique, facts_are_found}
-use Rattle.meaning_rules.specs.Rules.{Fails, Breaks, gathered, failures_in, broken_in, passed_in, least_broken, least_token, Judgement, Holds, first_refusal, IsJudged, holds, refused, IsJudgement}
+use Rattle.meaning_rules.specs.Rules.{gathered, failures_in, broken_in, passed_in, least_broken, least_token, Judgement, Holds, first_refusal, IsJudged, holds, refused}
 use Rattle.meaning_rules.specs.laws.Judgements.{JudgementsExist, JudgementsAreUnique, FailuresAreGathered, BrokenAreGathered}
 
 -- Judgements

@@ -1,19 +1,20 @@
 -- Worked examples: what fails in short units and what they break, as one can tell by eye.
-use Rattle.std.specs.Prelude.{◌≡◌, ℕ, true, false, List, [], ◌∷◌, map, codes, Option, Some, None}
+use Rattle.std.specs.Prelude.{◌≡◌, ℕ, true, false, List, [], ◌∷◌, codes, Option, Some, None, ◌+◌}
 use Rattle.vocabulary.specs.declared.error_kind.ErrorKind.{ErrorKind}
 use Rattle.vocabulary.specs.declared.error_kind.ErrorKind.TheVariants.{CannotDereference, NotModifiable, CalledObjectIsNoFunction, WrongNumberOfArguments, TypedefHasAnotherType}
 use Rattle.vocabulary.specs.declared.int_kind.IntKind.TheVariants as integers
 use Rattle.vocabulary.specs.declared.node_kind.NodeKind.TheVariants as kinds
 use Rattle.vocabulary.specs.declared.rule.RuleCode.TheVariants.{A1, A4, A7}
-use Rattle.meaning_types.specs.Types.{TypeTree, Typed, IntegerTree, Qualifiers, no_flags, pointer_to}
-use Rattle.meaning_tree.specs.Trees.{SyntaxTree}
+use Rattle.meaning_types.specs.Types.{TypeTree, Typed, IntegerTree, no_flags, pointer_to}
+use Rattle.vocabulary.specs.declared.role.Role.TheVariants.{Unevaluated}
+use Rattle.meaning_tree.specs.Trees.{SyntaxTree, Node, NoParts, Part}
 use Rattle.meaning_operands.specs.Failures.{Failure, Broken}
 use Rattle.meaning_typing.specs.Units.{UnitNodes}
 use Rattle.meaning_typing.specs.Specifiers.{plain_type}
 use Rattle.meaning_typing.specs.Declarators.{array_type}
 use Rattle.meaning_typing.specs.Rows.{fails_with}
 use Rattle.meaning_typing.specs.Building.{surroundings_of, facts_of}
-use Rattle.meaning_typing.specs.examples.Drawn.{nodes_of, leaf, over, type_over, named, number, declarator, array, declaration, parameter, function, user, in_body, int, user_int, p, u, i, one, none, statement, star, address, assignment, call, parenthesized, subscript}
+use Rattle.meaning_typing.specs.examples.Drawn.{nodes_of, leaf, over, type_over, named, number, declarator, array, declaration, parameter, function, user, in_body, int, user_int, p, u, i, one, statement, star, assignment, call, parenthesized, subscript}
 use Rattle.meaning_rules.specs.Rules.{failures_in, broken_in, passed_in, least_broken, BreaksConstraint, PassesObjectSize, first_refusal}
 
 abbrev pub failures_of : UnitNodes → List Failure
@@ -114,12 +115,17 @@ other_typedef =
     (over kinds.CompoundStatement 18 (statement (star 19 (named kinds.Name 20 (codes "x") 14)) ∷ []))
     ∷ [])
 
+-- an array whose length is written as a long
+abbrev pub long_array : (token length : ℕ) → SyntaxTree
+long_array token length =
+    Node kinds.ArrayDeclarator token [] 0 (Part Unevaluated (Node (kinds.IntegerConstant integers.Long) (token + 1) [] length NoParts) NoParts)
+
 -- `extern char a[1099511627776]; extern char b[1099511627777];`
 abbrev pub large : UnitNodes
 large =
     nodes_of
-    (declaration 0 (leaf kinds.ExternSpecifier 0 ∷ leaf kinds.CharSpecifier 1 ∷ []) (declarator 2 (codes "a") (array 3 1099511627776 ∷ []) ∷ [])
-    ∷ declaration 7 (leaf kinds.ExternSpecifier 7 ∷ leaf kinds.CharSpecifier 8 ∷ []) (declarator 9 (codes "b") (array 10 1099511627777 ∷ []) ∷ [])
+    (declaration 0 (leaf kinds.ExternSpecifier 0 ∷ leaf kinds.CharSpecifier 1 ∷ []) (declarator 2 (codes "a") (long_array 3 1099511627776 ∷ []) ∷ [])
+    ∷ declaration 7 (leaf kinds.ExternSpecifier 7 ∷ leaf kinds.CharSpecifier 8 ∷ []) (declarator 9 (codes "b") (long_array 10 1099511627777 ∷ []) ∷ [])
     ∷ [])
 
 pub record DeclarationExamples : Type 0 where

@@ -94,8 +94,8 @@ returns-then-is_lone_tag c =
     record {
       new = subst (λ (seen : Read). HasNodeWith seen.list c.args.specifier (λ one. c.is_new_here.result ≡ is_new_tag seen one)) c.self.view_is (node, c.node-node.ensures, new);
       kept = λ is.
-        subst (λ (seen : Read). tag_declared (state_of seen) (value_at (state_of seen).values 0) ≡ Goes (state_of seen)) c.self.view_is
-        (not_new read c.self.invariant.first c.each_node_stands_for_one_tree.ensures.order c.args.specifier node c.node-node.ensures stands (sym new ∙ is));
+          subst (λ (seen : Read). tag_declared (state_of seen) (value_at (state_of seen).values 0) ≡ Goes (state_of seen)) c.self.view_is
+          (not_new read c.self.invariant.first c.each_node_stands_for_one_tree.ensures.order c.args.specifier node c.node-node.ensures stands (sym new ∙ is));
     }
 
 pub returns-else-is_lone_tag : goal.returns-else-is_lone_tag
@@ -127,6 +127,6 @@ returns-else-is_lone_tag c =
     record {
       new = subst (λ (seen : Read). HasNodeWith seen.list c.args.specifier (λ one. c.is_lone_tag.result ≡ is_new_tag seen one)) c.self.view_is (node, c.node-node.ensures, old);
       kept = λ is.
-        subst (λ (seen : Read). tag_declared (state_of seen) (value_at (state_of seen).values 0) ≡ Goes (state_of seen)) c.self.view_is
-        (not_new read c.self.invariant.first c.each_node_stands_for_one_tree.ensures.order c.args.specifier node c.node-node.ensures stands (sym old ∙ is));
+          subst (λ (seen : Read). tag_declared (state_of seen) (value_at (state_of seen).values 0) ≡ Goes (state_of seen)) c.self.view_is
+          (not_new read c.self.invariant.first c.each_node_stands_for_one_tree.ensures.order c.args.specifier node c.node-node.ensures stands (sym old ∙ is));
     }

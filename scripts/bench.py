@@ -281,7 +281,7 @@ FAMILIES = (
     of_parsing("parameter lists", b"int a", b"(void)", b"", b"", b";", LONG),
     of_parsing("qualifiers", b"", b"const ", b"int a;", b"", b"", LONG),
     of_parsing("attribute words", b"int __attribute__((a", b", a", b"", b"", b")) x;", LONG),
-    of_parsing("attributes that mean something", b"int __attribute__((packed", b", context(a, 0, 1), address_space(u)", b"", b"", b")) x;", (20000, 200000)),
+    of_parsing("attributes that mean something", b"int __attribute__((packed", b", context(a, 0, 1), address_space(u)", b"", b"", b")) x;", (10000, 100000)),
     of_parsing("words of one context", b"int __attribute__((context(1", b" 1", b"", b"", b", 0, 1))) x;", LONG),
     of_parsing("tags declared alone", b"struct s *p; void f(void) { ", b"{ struct s; } ", b"", b"", b" }", (20000, 200000)),
     of_parsing("attribute lists", b"int ", b"__attribute__((a)) ", b"x;", b"", b"", (20000, 200000)),

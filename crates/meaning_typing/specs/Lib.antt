@@ -2,6 +2,7 @@ pub mod Units
 pub mod Surroundings
 pub mod Facts
 pub mod Specifiers
+pub mod Enumerations
 pub mod Declarators
 pub mod Equality
 pub mod Rows

@@ -9,10 +9,10 @@ use Rattle.meaning_operands.specs.Accesses.{access_answer}
 use Rattle.meaning_operands.specs.Failures.{Failure, Broken}
 use Rattle.meaning_constants.specs.Constants.{Part}
 use Rattle.meaning_constants.specs.Sizes.{Sizes, sizes_by}
-use Rattle.meaning_constants.specs.Nodes.{NodeFacts, node_constant}
+use Rattle.meaning_constants.specs.Nodes.{NodeFacts, node_constant, loaded_type}
 use Rattle.meaning_typing.specs.Units.{UnitNodes, node_at, kind_at, children_at, child_at, children_from}
 use Rattle.meaning_typing.specs.Surroundings.{Surrounding, Want, ForValue, ForStore, surrounding_at}
-use Rattle.meaning_typing.specs.Facts.{Fact, Expression, Declared, NamedType, ExpressionFact, fact_at, is_loaded, type_of_value}
+use Rattle.meaning_typing.specs.Facts.{Fact, Expression, Declared, NamedType, ExpressionFact, fact_at, is_loaded}
 use Rattle.meaning_typing.specs.Specifiers.{plain_type, specified}
 use Rattle.meaning_typing.specs.Declarators.{declarator_fact, parameter_fact, specifiers_of, large_in, nothing_told, type_declared, named_if}
 use Rattle.meaning_typing.specs.Names.{name_row, redeclarations, typedefs_again}
@@ -22,9 +22,10 @@ use Rattle.meaning_typing.specs.Rows.{Row, nothing, known, unless_broken, fails_
 
 -- Constants: they are part of what is known, since types ask for them
 
--- what a constant sees of a part
+-- what a constant sees of a part: of a bit-field what is loaded of it, and an array whole, since its size may be asked
 abbrev pub part_seen : Fact → Option Part
-part_seen (Expression expression) = Some (record { of = type_of_value expression; fouled = expression.is_fouled; number = expression.constant })
+part_seen (Expression expression) =
+    Some (record { of = loaded_type expression.width expression.type_; fouled = expression.is_fouled; number = expression.constant })
 part_seen (NamedType type_) = Some (record { of = type_; fouled = false; number = None })
 part_seen fact = None
 

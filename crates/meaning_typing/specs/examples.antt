@@ -2,3 +2,4 @@
 pub mod Drawn
 pub mod Typing
 pub mod Rows
+pub mod Enumerations

@@ -1,4 +1,5 @@
 // What is proved of typing, and examples.
+ghost use Rattle.meaning_typing.specs.examples.Enumerations.{EnumerationExamples};
 ghost use Rattle.meaning_typing.specs.examples.Rows.{ConstraintExamples, FailureExamples};
 ghost use Rattle.meaning_typing.specs.examples.Typing.{FactExamples, SurroundingExamples};
 ghost use Rattle.meaning_typing.specs.laws.Equality.{EqualTypesPass};
@@ -39,4 +40,9 @@ pub fn worked_examples()
 pub fn worked_rows()
     ensures failures { FailureExamples }
     ensures constraints { ConstraintExamples }
+{}
+
+/// Enumerations of which one can tell by eye whether their enumerators share a restricted type.
+pub fn worked_enumerations()
+    ensures { EnumerationExamples }
 {}

@@ -32,17 +32,17 @@ named_type_kept None = facts.Unknown
 named_type_kept (Some node) = facts.NamedType node.of
 
 abbrev pub fact_kept : Option NodeType → NodeMark → NodeFact
-fact_kept node marks.Unknown = facts.Unknown
-fact_kept node (marks.Expression marks) = expression_kept marks node
-fact_kept node (marks.Specified specifiers) = facts.Specified specifiers
-fact_kept node (marks.Declared declaration) = facts.Declared declaration
-fact_kept node marks.NamedType = named_type_kept node
+fact_kept entry marks.Unknown = facts.Unknown
+fact_kept entry (marks.Expression marks) = expression_kept marks entry
+fact_kept entry (marks.Specified specifiers) = facts.Specified specifiers
+fact_kept entry (marks.Declared declaration) = facts.Declared declaration
+fact_kept entry marks.NamedType = named_type_kept entry
 
 abbrev pub facts_kept : List (Option NodeType) → List NodeMark → List NodeFact
-facts_kept (node ∷ nodes) (mark ∷ marks) = fact_kept node mark ∷ facts_kept nodes marks
-facts_kept nodes marks = []
+facts_kept (entry ∷ entries) (mark ∷ marks) = fact_kept entry mark ∷ facts_kept entries marks
+facts_kept entries marks = []
 
 -- as many of each, and those that have no type by their mark have none
-pub record AreKept (nodes : List (Option NodeType)) (marks : List NodeMark) : Type 0 where
-  pub all : length nodes ≡ length marks
-  pub each : map node_kept (facts_kept nodes marks) ≡ nodes
+pub record AreKept (entries : List (Option NodeType)) (marks : List NodeMark) : Type 0 where
+  pub all : length entries ≡ length marks
+  pub each : map node_kept (facts_kept entries marks) ≡ entries

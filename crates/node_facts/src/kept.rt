@@ -110,6 +110,7 @@ impl NodeFacts {
     }
 
     /// Appends what is known of the next node. A refusal, which is want of memory, changes nothing.
+    #[tactic(auto, using(crate::proofs::KeptLemmas::pushed, crate::proofs::KeptLemmas::pushed_view))]
     pub fn push(&mut self, fact: NodeFact) -> Result<(), AllocError>
         ensures ok { OnOk result (self.new ≡ self.old ++ fact ∷ []) }
         ensures err { OnErr result (self.new ≡ self.old) }
@@ -136,7 +137,7 @@ impl NodeFacts {
         ensures { result ≡ get_or self.now handle facts.Unknown }
     {
         let index = handle as usize;
-        if index < self.marks.len() {
+        if index < self.types.len() {
             fact_of(self.types.get(index), self.marks[index])
         } else {
             NodeFact::Unknown

@@ -1,0 +1,5 @@
+pub mod ListLemmas
+pub mod PartLemmas
+pub mod PassLemmas
+pub mod UnitLemmas
+pub mod KeptLemmas

@@ -1,0 +1,154 @@
+// What a node asks of a part, by its kind and by the place and the role of the part.
+ghost use Rattle.std.specs.Prelude.{◌≡◌};
+ghost use Rattle.vocabulary.specs.declared.node_kind.NodeKind.TheVariants as kinds;
+ghost use Rattle.vocabulary.specs.declared.role.Role.TheVariants as parts;
+ghost use Rattle.vocabulary.specs.Roles as roles;
+ghost use Rattle.meaning_typing.specs.Surroundings as meaning;
+ghost use Rattle.node_surroundings.specs.Seen.{around_seen, surrounding_seen, want_seen};
+
+use crate::surrounding::{Around, Surrounding, Want};
+use c_tree::Handle;
+use sparse_model::{NodeKind, Role};
+
+/// The role that a tag keeps.
+pub fn role_of(tag: u8) -> Role
+    ensures { result ≡ roles.role_of tag }
+{
+    match tag {
+        0 => Role::Evaluated,
+        1 => Role::Condition,
+        2 => Role::TypePart,
+        _ => Role::Unevaluated,
+    }
+}
+
+// The left side of an assignment is stored to (C11 6.5.16 p3).
+fn want_of_side(place: u32) -> Want
+    ensures { want_seen result ≡ meaning.want_of kinds.Assignment place }
+{
+    match place {
+        0 => Want::ForStore,
+        _ => Want::ForValue,
+    }
+}
+
+// What is wanted of the part at this place, unless that is part of a type.
+fn want_of(kind: NodeKind, place: u32) -> Want
+    ensures { want_seen result ≡ meaning.want_of kind place }
+{
+    match kind {
+        NodeKind::FunctionDefinition => Want::ForEffect,
+        NodeKind::CompoundStatement => Want::ForEffect,
+        NodeKind::ExpressionStatement => Want::ForValue,
+        NodeKind::ReturnStatement => Want::ForValue,
+        NodeKind::Subscript => Want::ForValue,
+        NodeKind::Call => Want::ForValue,
+        NodeKind::Address => Want::ForPlace,
+        NodeKind::Indirection => Want::ForValue,
+        NodeKind::Assignment => want_of_side(place),
+        NodeKind::Parenthesized => Want::ForPlace,
+        NodeKind::ArrayDeclarator => Want::ForValue,
+        _ => Want::ForNothing,
+    }
+}
+
+// A part of a type is written only.
+fn wanted(kind: NodeKind, place: u32, role: Role) -> Want
+    ensures { want_seen result ≡ meaning.wanted kind place role }
+{
+    match role {
+        Role::Evaluated => want_of(kind, place),
+        Role::Condition => want_of(kind, place),
+        Role::TypePart => Want::ForNothing,
+        Role::Unevaluated => want_of(kind, place),
+    }
+}
+
+// Whether a part in this role is evaluated where the node is (C11 6.5.3.4 p2, 6.6 p6).
+fn evaluates(role: Role) -> bool
+    ensures { result ≡ meaning.evaluates role }
+{
+    match role {
+        Role::Evaluated => true,
+        Role::Condition => true,
+        Role::TypePart => false,
+        Role::Unevaluated => false,
+    }
+}
+
+// Whether a node of this kind opens a scope (C11 6.2.1 p4).
+fn opens_scope(kind: NodeKind) -> bool
+    ensures { result ≡ meaning.opens_scope kind }
+{
+    match kind {
+        NodeKind::TranslationUnit => true,
+        NodeKind::CompoundStatement => true,
+        NodeKind::ForStatement => true,
+        NodeKind::FunctionDeclarator => true,
+        _ => false,
+    }
+}
+
+// The function around the evaluated parts of a node: that of a body is the one whose body it is.
+fn function_around_evaluated(
+    kind: NodeKind,
+    handle: Handle,
+    outer: Option<Handle>,
+) -> Option<Handle>
+    ensures { result ≡ meaning.function_around kind handle parts.Evaluated outer }
+{
+    match kind {
+        NodeKind::FunctionDefinition => Some(handle),
+        _ => outer,
+    }
+}
+
+// The function around a part in this role.
+fn function_around(
+    kind: NodeKind,
+    handle: Handle,
+    role: Role,
+    outer: Option<Handle>,
+) -> Option<Handle>
+    ensures { result ≡ meaning.function_around kind handle role outer }
+{
+    match role {
+        Role::Evaluated => function_around_evaluated(kind, handle, outer),
+        Role::Condition => outer,
+        Role::TypePart => outer,
+        Role::Unevaluated => outer,
+    }
+}
+
+// Who is around a part in this role.
+fn around_parts(kind: NodeKind, handle: Handle, role: Role, around: Around) -> Around
+    ensures { around_seen result ≡ meaning.around_parts kind handle role (around_seen around) }
+{
+    Around {
+        function: function_around(kind, handle, role, around.function),
+        scope: if opens_scope(kind) {
+            handle
+        } else {
+            around.scope
+        },
+    }
+}
+
+/// What a node of this kind asks of the part at this place, in this role, where it stands so itself.
+pub fn asked(
+    kind: NodeKind,
+    handle: Handle,
+    place: u32,
+    role: Role,
+    surrounding: Surrounding,
+) -> Surrounding
+    ensures { surrounding_seen result ≡ meaning.asked kind handle place role (surrounding_seen surrounding) }
+{
+    Surrounding {
+        parent: handle,
+        place,
+        want: wanted(kind, place, role),
+        is_evaluated: surrounding.is_evaluated && evaluates(role),
+        around: around_parts(kind, handle, role, surrounding.around),
+    }
+}

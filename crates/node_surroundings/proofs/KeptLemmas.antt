@@ -1,5 +1,5 @@
 -- Entries of nodes, where more settings join those that they name.
-use Rattle.std.proofs.Common.{◌≡◌, ℕ, zero, suc, ◌+◌, ◌<◌, ◌≤◌, List, [], ◌∷◌, ◌++◌, length, get_or, map, replicate, slice_get, Some, refl, sym, ap, ap₂, subst, ◌∙◌, arith, length-append}
+use Rattle.std.proofs.Common.{◌≡◌, ℕ, zero, suc, ◌<◌, ◌≤◌, List, [], ◌∷◌, ◌++◌, length, get_or, replicate, slice_get, Some, refl, sym, ap, ap₂, subst, ◌∙◌, arith, length-append}
 use Rattle.std.specs.Prelude.{slice_set}
 use Rattle.std.specs.Option.{option_map}
 use Rattle.std.proofs.lemmas.List.{length-map, map-set, get_or_read}
@@ -39,43 +39,38 @@ entries_seen-longer : (settings later : List Around) (entries : List Entry) → 
     → entries_seen later entries ≡ entries_seen settings entries
 entries_seen-longer settings later entries (more, is) within = ap (λ all. entries_seen all entries) is ∙ entries_seen-more settings more entries within
 
--- numbers below one are below a later one
+-- entries name settings that are there, where more settings came and one entry is another
 AreWithin-more : (count later : ℕ) (entries : List Entry) → count ≤ later → AreWithin count entries → AreWithin later entries
 AreWithin-more count later [] order within = within
 AreWithin-more count later (entry ∷ entries) order within =
     let first : entry.setting < count = within.0 in
     (omega (arith, order, first), AreWithin-more count later entries order within.1)
 
-pub AreWithin-longer : (settings later : List Around) (entries : List Entry) → IsLonger settings later → AreWithin (length settings) entries
-    → AreWithin (length later) entries
-AreWithin-longer settings later entries (more, is) within =
-    AreWithin-more (length settings) (length later) entries (omega (arith, ap length is, length-append settings more)) within
+pub AreWithin-set : (count later : ℕ) (entries : List Entry) (handle : ℕ) (entry : Entry) → count ≤ later → AreWithin count entries → entry.setting < later
+    → AreWithin later (slice_set entries handle entry)
+AreWithin-set count later [] handle entry order within new = within
+AreWithin-set count later (first ∷ entries) zero entry order within new = (new, AreWithin-more count later entries order within.1)
+AreWithin-set count later (first ∷ entries) (suc handle) entry order within new =
+    let here : first.setting < count = within.0 in
+    (omega (arith, order, here), AreWithin-set count later entries handle entry order within.1 new)
 
--- that of an entry is
+pub length-longer : (settings later : List Around) → IsLonger settings later → length settings ≤ length later
+length-longer settings later (more, is) = omega (arith, ap length is, length-append settings more)
+
+-- the setting of an entry is there
 AreWithin-at : (count : ℕ) (entries : List Entry) (handle : ℕ) (d : Entry) → AreWithin count entries → handle < length entries
     → (get_or entries handle d).setting < count
 AreWithin-at count [] handle d within inside = absurd (omega (arith, inside))
 AreWithin-at count (entry ∷ entries) zero d within inside = within.0
 AreWithin-at count (entry ∷ entries) (suc handle) d within inside = AreWithin-at count entries handle d within.1 (omega (arith, inside))
 
--- Another entry at its place
-pub AreWithin-set : (count : ℕ) (entries : List Entry) (handle : ℕ) (entry : Entry) → AreWithin count entries → entry.setting < count
-    → AreWithin count (slice_set entries handle entry)
-AreWithin-set count [] handle entry within new = within
-AreWithin-set count (first ∷ entries) zero entry within new = (new, within.1)
-AreWithin-set count (first ∷ entries) (suc handle) entry within new = (within.0, AreWithin-set count entries handle entry within.1 new)
-
+-- another entry at its place
 entries_seen-set :
     (settings later : List Around) (entries : List Entry) (handle : ℕ) (entry : Entry) → IsLonger settings later → AreWithin (length settings) entries
     → entries_seen later (slice_set entries handle entry) ≡ slice_set (entries_seen settings entries) handle (entry_seen later entry)
 entries_seen-set settings later entries handle entry longer within =
     map-set (entry_seen later) entries handle entry
     ∙ ap (λ seen. slice_set seen handle (entry_seen later entry)) (entries_seen-longer settings later entries longer within)
-
--- One entry for all
-pub AreWithin-replicate : (count number : ℕ) (entry : Entry) → entry.setting < count → AreWithin count (replicate number entry)
-AreWithin-replicate count zero entry within = tt
-AreWithin-replicate count (suc number) entry within = (within, AreWithin-replicate count number entry within)
 
 -- What is kept
 
@@ -85,10 +80,10 @@ entry_seen-of : (settings : List Around) (number : ℕ) (surrounding : Surroundi
 entry_seen-of settings number surrounding stands =
     ap (λ around. with_around around (entry_of number surrounding)) (get_or_from_slice_get settings number surrounding.around nobody stands)
 
-pub all_kept :
+pub filled_kept :
     (settings : List Around) (entries : List Entry) (count : ℕ) (surrounding : Surrounding) → settings ≡ surrounding.around ∷ []
     → entries ≡ replicate count (entry_of 0 surrounding) → entries_seen settings entries ≡ replicate count surrounding
-all_kept settings entries count surrounding one all =
+filled_kept settings entries count surrounding one all =
     ap (entries_seen settings) all ∙ map-replicate (entry_seen settings) count (entry_of 0 surrounding)
     ∙ ap (replicate count) (entry_seen-of settings 0 surrounding (ap (λ s. slice_get s 0) one))
 

@@ -1,11 +1,11 @@
 -- The pass over the nodes of a unit: those from a node on have told their parts what these stand in.
-use Rattle.std.proofs.Common.{◌≡◌, ℕ, zero, suc, ◌+◌, ◌-◌, ◌<◌, ◌≤◌, ◌⊎◌, inl, inr, List, [], Some, None, length, slice_get, get_or, unwrap_or, replicate, refl, sym, ap, ap₂, subst, ◌∙◌, arith}
+use Rattle.std.proofs.Common.{◌≡◌, ℕ, ◌+◌, ◌-◌, ◌<◌, ◌≤◌, ◌⊎◌, inl, inr, List, Some, length, slice_get, unwrap_or, replicate, sym, ap, ap₂, subst, ◌∙◌, arith}
 use Rattle.std.proofs.lemmas.List.{length-replicate}
-use Rattle.std.proofs.lemmas.Option.{none-some, slice_get_past, slice_get-get_or, unwrap_or-slice_get}
+use Rattle.std.proofs.lemmas.Option.{none-some, slice_get_past, unwrap_or-slice_get}
 use Rattle.vocabulary.specs.Roles.{role_of}
 use Rattle.meaning_tree.specs.Nodes.{TreeNode}
 use Rattle.meaning_typing.specs.Units.{UnitNodes, no_node, node_at, kind_at}
-use Rattle.meaning_typing.specs.Surroundings.{Surrounding, asked, of_unit, surrounding_at, AreSurroundings}
+use Rattle.meaning_typing.specs.Surroundings.{Surrounding, asked, of_unit, surrounding_at}
 use Rattle.node_surroundings.specs.Parts.{with_parts}
 use Rattle.node_surroundings.proofs.ListLemmas.{slice_get-replicate}
 use Rattle.node_surroundings.proofs.PartLemmas.{length-with_parts, with_parts-other, with_parts-told}
@@ -69,14 +69,6 @@ none_asked nodes count surroundings whole is = record {
       ∙ slice_get-replicate count (of_unit (count - 1)) (length nodes - 1) (omega (arith, some, whole))
       ∙ ap (λ (n : ℕ). Some (of_unit (n - 1))) whole;
   parts = λ handle place child past has. absurd (no_child nodes handle place child (omega (arith, past, whole)) has);
-}
-
--- at last all have
-pub all_asked : (nodes : UnitNodes) (surroundings : List Surrounding) → AreAsked nodes 0 surroundings → AreSurroundings nodes surroundings
-all_asked nodes surroundings are = record {
-  all = are.all;
-  unit = are.unit;
-  parts = λ handle place child has. are.parts handle place child (omega arith) has;
 }
 
 -- one more

@@ -51,16 +51,20 @@ fn ask_parts(
     Ok(())
 }
 
-/// What each node of a unit stands in. A node costs a step, and one for each part.
+/// What each node of a unit stands in, by its handle. A node costs one step, and one more for each of its parts.
+///
+/// # Errors
+/// Want of memory.
 pub fn surroundings_of(alloc: Global, unit: &Unit) -> Result<Surroundings, AllocError>
     requires whole { unit.now.first ≡ 0 }
     requires laid { IsLaid unit.now }
-    ensures { IfOk result (λ surroundings. AreSurroundingsOf unit.now surroundings) }
+    ensures exact { IfOk result (λ surroundings. AreSurroundingsOf unit.now surroundings) }
+    ensures all { IfOk result (λ surroundings. length surroundings ≡ length unit.now.nodes) }
 {
     unit.each_node_stands_for_one_tree();
     let count = unit.len();
     let root = count.saturating_sub(1);
-    let mut surroundings = Surroundings::all(alloc, count, of_unit(root))?;
+    let mut surroundings = Surroundings::filled(alloc, count, of_unit(root))?;
     for handle in (0..count).rev() {
         let node = unit.node(handle);
         ask_parts(&mut surroundings, node.kind, handle, &node.children)?;

@@ -1,5 +1,5 @@
 // What the nodes of a unit stand in, as it is kept: sixteen bytes a node, and each setting once.
-ghost use Rattle.std.specs.Prelude.{◌≡◌, ◌<◌, Some, length, replicate, slice_get, slice_set, IfOk, OnOk};
+ghost use Rattle.std.specs.Prelude.{◌≡◌, ◌<◌, Some, length, replicate, slice_get, slice_set, IfOk, OnErr, OnOk};
 
 use crate::settings::number_of;
 use crate::surrounding::{Around, Surrounding, Want};
@@ -16,6 +16,8 @@ pub struct Entry {
     pub want: Want,
     pub is_evaluated: bool,
 }
+
+const _: () = prove!(size_of::<Entry>() == 16);
 
 impl Entry {
     ghost use Rattle.node_surroundings.specs.Kept.{entry_of};
@@ -58,12 +60,12 @@ impl Surroundings {
     ghost use Rattle.node_surroundings.specs.Seen.{surrounding_seen, surroundings_seen};
 
     /// So many nodes, which all stand in the same.
-    pub(crate) fn all(
+    pub(crate) fn filled(
         alloc: Global,
         count: u32,
         surrounding: Surrounding,
     ) -> Result<Surroundings, AllocError>
-        ensures { IfOk result (λ all. all ≡ replicate count surrounding) }
+        ensures { IfOk result (λ filled. filled ≡ replicate count surrounding) }
     {
         let settings = vec![in alloc; surrounding.around; 1]?;
         let entries = vec![in alloc; Entry::new(0, surrounding); count as usize]?;
@@ -74,7 +76,8 @@ impl Surroundings {
     pub(crate) fn set(&mut self, handle: Handle, surrounding: Surrounding) -> Result<(), AllocError>
         requires node { handle < length self.old }
         requires parent { surrounding.parent < length self.old }
-        ensures { OnOk result (self.new ≡ slice_set self.old handle surrounding) }
+        ensures ok { OnOk result (self.new ≡ slice_set self.old handle surrounding) }
+        ensures err { OnErr result (self.new ≡ self.old) }
     {
         // Most nodes have the setting of the node above, or that of the part before.
         let outer = self.entries[surrounding.parent as usize].setting;

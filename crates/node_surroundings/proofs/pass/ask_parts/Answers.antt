@@ -14,10 +14,10 @@ loop-child-preserved c =
     record {
       told =
           one_told c.args.kind c.args.handle (surrounding_seen c.get-surrounding.result) was.place was.child-iterator c.next.new.self child
-          was.surroundings c.set.new.self part _ c.in-Some.ensures.steps c.in_ok-set.ensures
+          was.surroundings c.set.new.self part _ c.in-Some.ensures.steps c.in_ok-set.ensures.ok
           (c.asked-part.ensures ∙ ap (λ role. asked c.args.kind c.args.handle was.place role (surrounding_seen c.get-surrounding.result)) c.role_of.ensures)
           was.invariant.told;
-      all = ap length c.in_ok-set.ensures ∙ length-set was.surroundings c.in-Some.child part ∙ was.invariant.all;
+      all = ap length c.in_ok-set.ensures.ok ∙ length-set was.surroundings c.in-Some.child part ∙ was.invariant.all;
       before = All-tail (λ (pair : ℕ × ℕ). pair.0 < c.args.handle) child c.next.new.self (subst (All (λ (pair : ℕ × ℕ). pair.0 < c.args.handle)) c.in-Some.ensures.steps was.invariant.before);
       few = omega (arith, ap length c.in-Some.ensures.steps, was.invariant.few);
     }

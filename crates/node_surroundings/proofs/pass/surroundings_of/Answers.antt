@@ -1,8 +1,7 @@
 -- Each node tells its parts in its turn.
-use Rattle.std.proofs.Common.{◌≡◌, ℕ, ◌-◌, List, [], length, replicate, sym, ap, ◌∙◌, arith}
+use Rattle.std.proofs.Common.{◌≡◌, ℕ, ◌-◌, List, [], length, replicate, ap, ◌∙◌, arith}
 use Rattle.std.proofs.lemmas.List.{length-map, length-replicate}
 use Rattle.sparse_model.specs.declared.ids.NameId.{NameId}
-use Rattle.meaning_tree.specs.Listed.{renamed_node}
 use Rattle.c_tree.specs.Seen.{node_of}
 use Rattle.meaning_typing.specs.Surroundings.{of_unit}
 use Rattle.node_surroundings.specs.Seen.{named_nodes, surrounding_seen, surroundings_seen}

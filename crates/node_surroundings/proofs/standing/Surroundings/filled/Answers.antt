@@ -1,9 +1,9 @@
 -- All entries are one, and so is the setting that they name.
 use Rattle.std.proofs.Common.{replicate, ap, ◌∙◌}
-use Rattle.node_surroundings.proofs.KeptLemmas.{all_kept}
-use Rattle.node_surroundings.proofs.standing.Surroundings.all.Goals as goal
+use Rattle.node_surroundings.proofs.KeptLemmas.{filled_kept}
+use Rattle.node_surroundings.proofs.standing.Surroundings.filled.Goals as goal
 
 pub returns : goal.returns
 returns c =
-    all_kept c.in_ok-settings.settings.items c.in_ok-entries.entries.items c.args.count c.args.surrounding
+    filled_kept c.in_ok-settings.settings.items c.in_ok-entries.entries.items c.args.count c.args.surrounding
     (c.in_ok-settings.ensures.items_if_clones_equal (λ y same. same)) (c.in_ok-entries.ensures.items_if_clones_equal (λ y same. same) ∙ ap (replicate c.args.count) c.new.ensures)

@@ -1,5 +1,6 @@
 -- The pass over the nodes of a unit: those from a node on have told their parts what these stand in.
 use Rattle.std.proofs.Common.{◌≡◌, ℕ, ◌+◌, ◌-◌, ◌<◌, ◌≤◌, ◌⊎◌, inl, inr, List, Some, length, slice_get, unwrap_or, replicate, sym, ap, ap₂, subst, ◌∙◌, arith}
+use Rattle.std.proofs.lemmas.Bool.{cases_lt}
 use Rattle.std.proofs.lemmas.List.{length-replicate}
 use Rattle.std.proofs.lemmas.Option.{none-some, slice_get_past, unwrap_or-slice_get}
 use Rattle.vocabulary.specs.Roles.{role_of}
@@ -38,12 +39,9 @@ no_child nodes parent place child past has =
     (sym (sym (unwrap_or-slice_get nodes parent no_node) ∙ ap (λ found. unwrap_or found no_node) (slice_get_past nodes parent past)))
     ∙ has)
 
-within_or_past : (handle count : ℕ) → (handle < count) ⊎ (count ≤ handle)
-within_or_past handle count = grind arith
-
 pub parent_within : (nodes : UnitNodes) (parent place : ℕ) (child : ℕ × ℕ) → HasChild nodes parent place child → parent < length nodes
 parent_within nodes parent place child has =
-    elim (within_or_past parent (length nodes)) [
+    elim (cases_lt parent (length nodes)) [
       | inl within ↦ within
       | inr past ↦ absurd (no_child nodes parent place child past has)
     ]

@@ -1,9 +1,9 @@
 //! What each node of a unit stands in: the node above it, what is wanted of it, whether it is evaluated, and who is
 //! around it.
 //!
-//! One pass, from the last node of a unit to the first, in which each node says of its parts what they stand in. What that
-//! is is said in `meaning_typing`, and how the values of this crate are seen there in `specs/Seen.antt`. Types, and what is
-//! known of nodes, aren't known here. Start reading at [`surroundings_of`].
+//! One pass, from the last node of a unit to the first, in which each node tells its parts what they stand in. The
+//! definition stands in `meaning_typing`, and `specs/Seen.antt` says how the values of this crate are seen by it. Types, and
+//! what is known of nodes, aren't known here. Start reading at [`surroundings_of`].
 #![tactic(auto)]
 
 mod asking;
@@ -11,6 +11,8 @@ mod pass;
 mod settings;
 mod standing;
 mod surrounding;
+#[cfg(test)]
+mod tests;
 
 pub use pass::surroundings_of;
 pub use standing::Surroundings;

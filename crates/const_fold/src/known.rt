@@ -29,8 +29,8 @@ pub fn kept_at(nodes: &NodeTypes, handle: Handle) -> Option<NodeType>
     }
 }
 
-// An unsigned int of fewer bits is loaded as an int (C11 6.3.1.1 p2).
-fn loaded_kind(width: Option<u32>, kind: IntKind) -> IntKind
+/// The kind that is loaded: an unsigned int of fewer bits is loaded as an int (C11 6.3.1.1 p2).
+pub fn loaded_kind(width: Option<u32>, kind: IntKind) -> IntKind
     ensures { result ≡ loaded_kind_if width kind }
 {
     match width {
@@ -82,8 +82,8 @@ fn number_with(kind: Option<IntKind>, bits: Option<u64>) -> Option<i128>
     Some(wrapped(promoted_kind(kind), i128::from(bits)))
 }
 
-// What a node is as a part of another.
-fn part_of(types: &Types, node: NodeType) -> Part
+/// What a node is as a part of another.
+pub fn part_of(types: &Types, node: NodeType) -> Part
     requires { IsTypeId types.now node.of }
     ensures { seen_part result ≡ outlined_part (known.part_of types.now node) }
 {

@@ -21,4 +21,6 @@ mod way;
 
 pub use folded::Folded;
 pub use folding::{fold, fold_measured};
+pub use known::{loaded_kind, part_of};
 pub use measured::measuring_is_enough;
+pub use part::{Part, PartType};

@@ -1,0 +1,43 @@
+-- Rows with the constraint and the failure of a conversion.
+use Rattle.std.proofs.Common.{◌≡◌, false, [], Option, Some, None, option_map, if◌then◌else◌, refl, ap, ◌∙◌, append-nil}
+use Rattle.meaning_types.specs.Types.{TypeTree, decayed, value_type}
+use Rattle.meaning_typing.specs.Facts.{Expression, decays, place, type_of_value}
+use Rattle.meaning_typing.specs.Rows as meaning
+use Rattle.meaning_rules.specs.Rules.{least_broken}
+use Rattle.c_types.specs.Table.{TypeTable}
+use Rattle.expr_judge.specs.declared.convert.Converted.{Converted}
+use Rattle.node_facts.specs.declared.expression.ExpressionFact.{ExpressionFact}
+use Rattle.expr_judge.specs.declared.row.Broken.{Broken}
+use Rattle.expr_judge.specs.declared.row.RowFailures.{RowFailures}
+use Rattle.node_facts.specs.Facts.{fact_seen}
+use Rattle.expr_judge.specs.Parts.{unless}
+use Rattle.expr_judge.specs.Rows.{broken_seen, converted_seen, converted_told, failures_seen, given_row, only_failure, row_seen, told}
+use Rattle.expr_judge.proofs.LeastLemmas.{unless_told}
+
+given_told : (table : TypeTable) (fact : ExpressionFact) (broken : Option Broken) (failures : RowFailures)
+    → row_seen table (given_row fact broken failures)
+    ≡ record {
+      fact = unless (option_map broken_seen broken) (Expression (fact_seen table fact));
+      broken = option_map broken_seen broken;
+      failures = failures_seen table failures;
+      passed = [];
+    }
+given_told table fact None failures = refl
+given_told table fact (Some broken) failures = refl
+
+pub given_converted : (table : TypeTable) (fact : ExpressionFact) (converted : Converted) (meant : meaning.Converted)
+    → converted_seen table converted ≡ converted_told meant
+    → row_seen table (given_row fact converted.broken (only_failure converted.failure)) ≡ told (meaning.gives (fact_seen table fact) meant.broken meant.failures)
+given_converted table fact converted meant is =
+    given_told table fact converted.broken (only_failure converted.failure)
+    ∙ (λ i. record {
+      fact = unless (is i).broken (Expression (fact_seen table fact));
+      broken = (is i).broken;
+      failures = append-nil (is i).failures i;
+      passed = [];
+    })
+    ∙ (λ i. record { fact = unless_told meant.broken (Expression (fact_seen table fact)) i; broken = least_broken meant.broken; failures = meant.failures; passed = [] })
+
+-- what is loaded of a place has its type, but for qualifiers and flags
+pub loaded_place : (type_ : TypeTree) → decays type_ ≡ false → type_of_value (place type_) ≡ value_type type_
+loaded_place type_ loads = ap (λ test. if test then decayed type_ else value_type type_) loads

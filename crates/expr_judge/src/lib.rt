@@ -1,0 +1,33 @@
+//! The row of each expression: what is known of it, the least constraint that it breaks, and which rules fail.
+//!
+//! What a row is is said in `meaning_typing`, over types as trees; here a type is a number of the table, and how facts
+//! and rows are seen is said in `specs/Facts.antt` and `specs/Rows.antt`. A row asks what is known of its parts and
+//! nothing else: neither the unit nor other nodes. Start reading at [`ExpressionFact`] and [`Row`].
+#![tactic(auto)]
+
+mod access;
+mod assignment;
+mod call;
+mod convert;
+mod indirection;
+mod literal;
+mod name;
+mod operand;
+mod plain;
+mod returning;
+mod row;
+mod subscript;
+#[cfg(test)]
+mod tests;
+mod value;
+
+pub use access::judge_access;
+pub use assignment::judge_assignment;
+pub use call::{Argument, judge_call};
+pub use indirection::{judge_address, judge_indirection};
+pub use literal::{judge_literal, judge_string};
+pub use name::{DeclaredName, judge_name};
+pub use returning::{Returned, judge_return};
+pub use row::{Broken, Row, RowFailures, lesser};
+pub use subscript::{SubscriptTokens, judge_subscript};
+pub use value::{Valued, type_of_value, with_value};

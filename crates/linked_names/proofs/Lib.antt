@@ -1,0 +1,10 @@
+mod Walks
+mod FormLemmas
+mod PassingLemmas
+mod WitnessLemmas
+mod JoinLemmas
+pub mod GrowthLemmas
+mod KeptLemmas
+mod DeclarationLemmas
+mod IndexLemmas
+mod TypedefLemmas

@@ -1,0 +1,5 @@
+pub mod Linked
+pub mod Forms
+pub mod Witnesses
+pub mod Kept
+pub mod Typedefs

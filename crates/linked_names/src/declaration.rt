@@ -1,0 +1,17 @@
+// Declarations of which something is kept.
+use sparse_model::{NameId, TypeId};
+
+/// A declaration of a name with linkage (C11 6.2.2), and its type.
+#[derive(Clone, Copy)]
+pub struct Linked {
+    pub name: NameId,
+    pub of: TypeId,
+}
+
+/// A declaration of a typedef name (C11 6.7.8), the handle of the scope in which it stands, and its type.
+#[derive(Clone, Copy)]
+pub struct Typedef {
+    pub scope: u32,
+    pub name: NameId,
+    pub of: TypeId,
+}

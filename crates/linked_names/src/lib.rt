@@ -11,6 +11,8 @@ mod forms;
 mod group;
 mod linked_names;
 mod placed;
+#[cfg(test)]
+mod tests;
 mod trace;
 mod typedef_names;
 mod witnesses;

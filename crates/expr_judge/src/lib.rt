@@ -17,8 +17,6 @@ mod plain;
 mod returning;
 mod row;
 mod subscript;
-#[cfg(test)]
-mod tests;
 mod value;
 
 pub use access::judge_access;

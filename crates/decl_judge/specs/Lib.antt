@@ -1,0 +1,5 @@
+pub mod Units
+pub mod Seen
+pub mod Marking
+pub mod Asked
+pub mod Placed

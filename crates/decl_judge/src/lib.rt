@@ -1,0 +1,20 @@
+//! What specifiers, declarators and parameters declare (C11 6.7).
+//!
+//! What they declare is said in `meaning_typing`, over types as trees; here a type is a number of the table, and how values
+//! are seen is said in `specs/Seen.antt` and `specs/Units.antt`. Start reading at [`Words`].
+#![tactic(auto)]
+
+mod asked;
+mod declared;
+mod marking;
+mod marks;
+mod nodes;
+mod parameters;
+mod parts;
+mod specifiers;
+mod words;
+
+pub use declared::{DeclaratorPlace, declarator_fact, parameter_fact, parameter_type};
+pub use marks::{Marks, marks_among, own_marks};
+pub use specifiers::specified;
+pub use words::{Words, words_of};

@@ -47,7 +47,7 @@ build/trees: $(SOURCES) | kit
 run: $(PROGRAM)
 	cd examples && ../$(PROGRAM) user_pointer.c; test $$? -eq 1
 
-# The gate, a plain rt ci; then the docs, and uses of the program that it built.
+# The gate, a plain rt ci; then the docs, and uses of the programs that it built.
 test: | kit
 	@$(PYTHON) scripts/gate.py $(RT)
 
@@ -95,8 +95,9 @@ compare:
 headers: $(PROGRAM)
 	$(PYTHON) scripts/headers.py $(PROGRAM) $(LINUX) $(FILES)
 
-smoke: $(PROGRAM)
+smoke: $(PROGRAM) $(FLOWS)
 	$(PYTHON) scripts/smoke.py $(PROGRAM)
+	$(PYTHON) scripts/smoke_flows.py $(FLOWS)
 
 install: $(PROGRAM)
 	install -D -m 755 $(PROGRAM) $(DESTDIR)$(PREFIX)/bin/ksparse

@@ -43,11 +43,11 @@ def ends(count):
     return flow([f"P0 > {successors}", *(f"P{number} E{number}" for number in range(1, count + 1))])
 
 
-def cases(count):
-    """A block with so many successors, which meet at one end."""
+def cases(count, leaves=1):
+    """A block with so many successors, which each acquire and meet at one end."""
     successors = " ".join(str(number) for number in range(1, count + 1))
     arms = [f"P{number} A{number}+1 > {count + 1}" for number in range(1, count + 1)]
-    return flow([f"P0 > {successors}", *arms, f"P{count + 1} E{count + 1}"], 1)
+    return flow([f"P0 > {successors}", *arms, f"P{count + 1} E{count + 1}"], leaves)
 
 
 SIZES = (1000, 10000, 100000, 1000000)

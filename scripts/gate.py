@@ -1,5 +1,5 @@
 #!/usr/bin/env python3
-"""Runs the gate, `rt ci`, and says what is left while it runs; then checks the docs, and uses the program that it built.
+"""Runs the gate, `rt ci`, and says what is left while it runs; then checks the docs, and uses the programs that it built.
 
 usage: gate.py RT
 
@@ -18,7 +18,11 @@ import time
 import costs
 
 TOP = os.path.dirname(os.path.dirname(os.path.abspath(__file__)))
-PROGRAM = "crates/ksparse_cli/out/ksparse_cli"
+# The programs that are used once the gate built them, each with the script that uses it.
+USES = (
+    ("smoke.py", "crates/ksparse_cli/out/ksparse_cli"),
+    ("smoke_flows.py", "crates/flows_cli/out/flows_cli"),
+)
 # How long, in seconds, nothing is said of what is left.
 QUIET = 60
 # So many names of what is left are shown.
@@ -114,16 +118,18 @@ def script(name, *words):
     return subprocess.run([sys.executable, os.path.join(TOP, "scripts", name), *words], cwd=TOP, check=False).returncode
 
 
+def is_used_wrongly(name, program):
+    if not os.path.isfile(os.path.join(TOP, program)):
+        print(f"gate: rt ci left no program {program}, so it wasn't used")
+        return True
+    return script(name, os.path.join(TOP, program)) != 0
+
+
 def main():
     status, last, found = run_gate(sys.argv[1])
     print_costs(found)
     failed = [name for name in ("docs.py",) if script(name)]
-    program = os.path.join(TOP, PROGRAM)
-    if not os.path.isfile(program):
-        print(f"gate: rt ci left no program {PROGRAM}, so it wasn't used")
-        failed.append("smoke.py")
-    elif script("smoke.py", program):
-        failed.append("smoke.py")
+    failed += [name for name, program in USES if is_used_wrongly(name, program)]
     for name in failed:
         print(f"gate: scripts/{name} FAILED")
     print(last)

@@ -11,8 +11,6 @@ mod command;
 mod line;
 mod number;
 mod step;
-#[cfg(test)]
-mod tests;
 mod text;
 mod wrong;
 

@@ -95,9 +95,9 @@ compare:
 headers: $(PROGRAM)
 	$(PYTHON) scripts/headers.py $(PROGRAM) $(LINUX) $(FILES)
 
-smoke: $(PROGRAM) $(FLOWS)
+smoke: $(PROGRAM) $(FLOWS) $(WORKBENCH)
 	$(PYTHON) scripts/smoke.py $(PROGRAM)
-	$(PYTHON) scripts/smoke_flows.py $(FLOWS)
+	$(PYTHON) scripts/smoke_large.py $(FLOWS) $(WORKBENCH)
 
 install: $(PROGRAM)
 	install -D -m 755 $(PROGRAM) $(DESTDIR)$(PREFIX)/bin/ksparse

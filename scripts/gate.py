@@ -18,10 +18,10 @@ import time
 import costs
 
 TOP = os.path.dirname(os.path.dirname(os.path.abspath(__file__)))
-# The programs that are used once the gate built them, each with the script that uses it.
+# The scripts that use programs which the gate built, and the crates of these.
 USES = (
-    ("smoke.py", "crates/ksparse_cli/out/ksparse_cli"),
-    ("smoke_flows.py", "crates/flows_cli/out/flows_cli"),
+    ("smoke.py", ("ksparse_cli",)),
+    ("smoke_large.py", ("flows_cli", "workbench_cli")),
 )
 # How long, in seconds, nothing is said of what is left.
 QUIET = 60
@@ -118,18 +118,19 @@ def script(name, *words):
     return subprocess.run([sys.executable, os.path.join(TOP, "scripts", name), *words], cwd=TOP, check=False).returncode
 
 
-def is_used_wrongly(name, program):
-    if not os.path.isfile(os.path.join(TOP, program)):
+def uses_fail(name, crates_used):
+    programs = [os.path.join(TOP, "crates", crate, "out", crate) for crate in crates_used]
+    lacking = [program for program in programs if not os.path.isfile(program)]
+    for program in lacking:
         print(f"gate: rt ci left no program {program}, so it wasn't used")
-        return True
-    return script(name, os.path.join(TOP, program)) != 0
+    return bool(lacking) or script(name, *programs) != 0
 
 
 def main():
     status, last, found = run_gate(sys.argv[1])
     print_costs(found)
     failed = [name for name in ("docs.py",) if script(name)]
-    failed += [name for name, program in USES if is_used_wrongly(name, program)]
+    failed += [name for name, crates_used in USES if uses_fail(name, crates_used)]
     for name in failed:
         print(f"gate: scripts/{name} FAILED")
     print(last)

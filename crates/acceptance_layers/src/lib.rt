@@ -1,5 +1,5 @@
-//! Calls of single layers as the layer above makes them: texts to tokens, values, macros and trees, and the choice of
-//! a row of the grammar.
+//! Calls of single layers as the layer above makes them: texts to the trees of the form that is judged, and the choice of a row of
+//! the grammar.
 //!
 //! Tests alone, each a table whose rows are worked out by hand from the rules. What a contract below says needs no
 //! row here; these rows ask whether the contracts say what was meant. What a tool of `workbench` shows is an
@@ -8,14 +8,6 @@
 #![tactic(auto)]
 
 #[cfg(test)]
-mod conditions;
-#[cfg(test)]
-mod expansions;
-#[cfg(test)]
 mod grammar;
-#[cfg(test)]
-mod macros;
-#[cfg(test)]
-mod repeated;
 #[cfg(test)]
 mod trees;

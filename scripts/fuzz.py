@@ -2,7 +2,7 @@
 """Batters the program with random files in, near and outside the first form, and with random words; and the calls of libraries
 that no command makes yet.
 
-usage: fuzz.py PROGRAM WORKBENCH FLOWS [COUNT [SEED]]
+usage: fuzz.py PROGRAM WORKBENCH FLOWS TREES [COUNT [SEED]]
 
 A run must end by itself within ten seconds, write nothing to standard output, and give for a file the
 status and the bytes on standard error that `rules.py` and `reference` work out from the rules alone. Random words and files with
@@ -13,6 +13,8 @@ Units of random conditionals and definitions, and random macros, go through the 
 
 Random control flow graphs go through FLOWS, which must print the answers that `made_flows.py` finds by following their paths.
 
+Random units by the grammar go through TREES, which must print the tree that a second reader makes of them.
+
 Where a compiler is installed, random macros go through it and through `reference`, and both must come to the same tokens.
 """
 import os
@@ -22,7 +24,7 @@ import sys
 import tempfile
 
 import compilers
-from fuzz_units import check_commands, check_headers, check_readings, check_tools, run
+from fuzz_units import check_commands, check_headers, check_readings, check_tools, check_trees, run
 from made_flows import answer as flow_answer, flow_text, random_flow
 from made_units import Maker
 from reference.commands import answer
@@ -185,9 +187,9 @@ def check_expansions(folder, chance, count):
 
 
 def main():
-    program, workbench, flows = map(os.path.abspath, sys.argv[1:4])
-    count = int(sys.argv[4]) if len(sys.argv) > 4 else 2000
-    seed = int(sys.argv[5]) if len(sys.argv) > 5 else random.randrange(1 << 32)
+    program, workbench, flows, trees = map(os.path.abspath, sys.argv[1:5])
+    count = int(sys.argv[5]) if len(sys.argv) > 5 else 2000
+    seed = int(sys.argv[6]) if len(sys.argv) > 6 else random.randrange(1 << 32)
     chance = random.Random(seed)
     print(f"fuzz: {count} files, seed {seed}")
     with tempfile.TemporaryDirectory() as folder:
@@ -195,6 +197,7 @@ def main():
             check_first_form(program, folder, chance, count)
             and check_commands(program, folder, chance, count)
             and check_readings(program, folder, chance, count)
+            and check_trees(trees, folder, chance, count)
             and check_tools(workbench, folder, chance, count)
             and check_flows(flows, folder, chance, count)
             and check_headers(workbench, folder, chance, count)

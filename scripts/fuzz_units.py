@@ -8,6 +8,7 @@ import made_readings
 import workbench_answers
 from made_attributes import attribute_lists, context_statements
 from made_units import Maker
+from reference import trees
 from reference.commands import answer
 from shrinking import shrunk
 
@@ -98,6 +99,11 @@ def wanted_of_command(words, folder):
         return b"", b"", 4
 
 
+def wanted_of_trees(words, folder):
+    """The same of `trees`."""
+    return trees.answer(words, Folder(folder))
+
+
 def wanted_of_tool(words, folder):
     """The same of the tool `preprocess`."""
     return workbench_answers.preprocessed(words[1], Folder(folder)), b"", 0
@@ -153,5 +159,14 @@ def check_readings(program, folder, chance, count):
     for _ in range(count):
         text = chance.choice([made_readings.unit, made_expressions.unit])(chance)
         if not same_answer(program, [b"t.c"], folder, {b"t.c": text}, wanted_of_command):
+            return False
+    return True
+
+
+def check_trees(shown, folder, chance, count):
+    """Compares so many trees of such units, or their refusals; true where all are alike."""
+    for _ in range(count):
+        text = chance.choice([made_readings.unit, made_expressions.unit])(chance)
+        if not same_answer(shown, [b"t.c"], folder, {b"t.c": text}, wanted_of_trees):
             return False
     return True

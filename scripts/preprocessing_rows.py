@@ -3,7 +3,7 @@
 
 usage: preprocessing_rows.py [ARCHIVE ..]
 
-The commands of archives are `ksparse`, as it is once it preprocesses, and those of `workbench`. Where a
+The commands of archives are `ksparse`, as it is once it preprocesses, `trees`, and those of `workbench`. Where a
 compiler is installed, what `-E` writes in the archives whose names begin with `kernel_` is compared with its tokens too.
 Prints each row in which the two differ, and exits 1 where there is one.
 """
@@ -15,7 +15,7 @@ import tempfile
 import archives
 import compilers
 import workbench_answers
-from reference import macros
+from reference import macros, trees
 from reference.commands import answer
 from reference.preprocessing import Unit
 from reference.scanning import scan
@@ -41,6 +41,10 @@ BUDGETS = (
 )
 
 
+# The programs, and what they answer to words and files
+ANSWERS = {"ksparse": answer, "trees": trees.answer}
+
+
 def left_of_budget(definitions, text, budget):
     """What is put of a text, and what is left of the budget or how the expansion ends."""
     unit = Unit({b"t.c": definitions})
@@ -57,8 +61,8 @@ def left_of_budget(definitions, text, budget):
 
 def ran(case):
     """What the command of a case leaves by the rules, or None for a program that isn't known here."""
-    if case.program == "ksparse":
-        out, err, status = answer(case.words, case.files)
+    if case.program in ANSWERS:
+        out, err, status = ANSWERS[case.program](case.words, case.files)
         return {"out": out, "err": err, "status": b"%d\n" % status}
     made = workbench_answers.answer(case.words, case.files) if case.program == "workbench" else None
     return None if made is None else {"out": made, "err": b"", "status": b"0\n"}

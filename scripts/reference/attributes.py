@@ -1,4 +1,6 @@
 """The attributes of a list, and the change of a context statement, from the tokens between their parentheses."""
+import re
+
 from .conditions import INTEGER, literal
 from .scanning import is_identifier, meant
 
@@ -94,6 +96,13 @@ def alignment(between):
     if not number or number > MOST_ALIGNMENT or number & (number - 1):
         raise Bad(ALIGNMENT)
     return number
+
+
+def refused_item(tokens):
+    """The index of the first bad item's word, or STEP where the list passes the limit; None where it is well."""
+    shown = attributes_shown(tokens)
+    bad = re.match(rb"at (\d+): ", shown)
+    return STEP if shown == STEP else int(bad[1]) if bad else None
 
 
 def attributes_shown(tokens):

@@ -38,7 +38,7 @@ EnumeratorValue = '=' Conditional | -
 FurtherEnumerators = ',' NextEnumerator | -
 NextEnumerator = Enumerator FurtherEnumerators | -
 AttributeLists = AttributeList AttributeLists | -
-AttributeList = '__attribute__' '(' '(' Attribute FurtherAttributes ')' ')'
+AttributeList = '__attribute__' {listed} '(' '(' Attribute FurtherAttributes ')' ')' {attributes}
 FurtherAttributes = ',' Attribute FurtherAttributes | -
 Attribute = word AttributeArguments | -
 AttributeArguments = '(' {spare} Balanced {heed} ')' | -

@@ -2,7 +2,7 @@
 import re
 
 from . import literals
-from .attributes import CHANGE, CHANGE_STEP, change_shown
+from .attributes import CHANGE, CHANGE_STEP, STEP, change_shown, refused_item
 from .grammar import CLASSES, END, FIRSTS, FOLLOWS, NULLABLE, ROWS, START, first_of, parts
 from .macros import Passed
 from .scanning import is_identifier, meant
@@ -152,9 +152,10 @@ class Reader:
         # how many parameters each open list has, and the token at which the first limit is passed, with its name
         self.counts = []
         self.limit = None
-        # the strings of a row, and the word of a context statement, by their indexes
+        # the strings of a row, the word of a context statement and that of an attribute list, by their indexes
         self.pieces = []
         self.context = None
+        self.attributes = None
 
     def found(self, name):
         return next((scope[name] for scope in reversed(self.scopes) if name in scope), None)
@@ -213,6 +214,7 @@ class Reader:
             self.stop(at, number)
 
     def stop_at(self, at):
+        self.heed_limit(at)
         self.heed_word(at)
         if at < len(self.tokens):
             spelled = self.tokens[at].spelled.decode("latin-1")
@@ -237,6 +239,7 @@ class Reader:
                 self.chosen.add((symbol, number))
                 return row
         if "&&" in classes and any(wanted is not None and "!" in wanted for wanted in LOOKS[symbol]):
+            self.heed_limit(self.at)
             self.stop(self.at, 34)
         # what a label begins with is taken, and reading ends at what stands in place of its colon
         is_label = any(row.look == "LABEL" for row in ROWS[symbol]) and "name" in classes
@@ -246,6 +249,11 @@ class Reader:
         """A limit is told behind all that is decided at the next token."""
         self.limit = self.limit or (self.at, name)
 
+    def heed_limit(self, at):
+        """A limit that an earlier token passed goes before what is decided at this one."""
+        if self.limit and at > self.limit[0]:
+            raise Passed(self.limit[1])
+
     def read(self):
         # what waits to be read; actions aren't counted
         stack, waiting = [("symbol", "Unit")], 1
@@ -254,8 +262,6 @@ class Reader:
             if kind == "action":
                 getattr(self, "do_" + name)()
                 continue
-            if self.limit and self.at > self.limit[0]:
-                raise Passed(self.limit[1])
             waiting -= 1
             if kind == "symbol":
                 items = self.choose(name).items
@@ -266,6 +272,7 @@ class Reader:
             else:
                 if name not in self.classes(self.at):
                     self.stop_at(self.at)
+                self.heed_limit(self.at)
                 self.heed_word(self.at)
                 if self.held:
                     self.stop(*self.held)
@@ -280,6 +287,7 @@ class Reader:
 
     def stop_where(self, number, *spelled):
         if self.next_is(*spelled):
+            self.heed_limit(self.at)
             self.stop(self.at, number)
 
     # Specifiers: the words in them.
@@ -429,7 +437,18 @@ class Reader:
             self.heed_literal(at, literals.of_string(self.tokens[at].spelled))
         self.pieces = []
 
-    # Context statements
+    # Attribute lists, and context statements
+
+    def do_listed(self):
+        self.attributes = self.at - 1
+
+    def do_attributes(self):
+        first = self.attributes + 3
+        refused = refused_item(self.tokens[first : self.at - 2])
+        if refused == STEP:
+            raise Passed(b"context step")
+        if refused is not None:
+            self.stop(first + refused, 23, "bad attribute")
 
     def do_context(self):
         self.context = self.at - 1

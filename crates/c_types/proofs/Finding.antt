@@ -3,7 +3,7 @@ use Rattle.std.proofs.Common.{◌≡◌, ◌≢◌, ℕ, zero, suc, ◌<◌, ◌
 use Rattle.std.specs.List.{position}
 use Rattle.std.proofs.lemmas.Bool.{false≢true, true≢false}
 use Rattle.std.proofs.lemmas.List.Quantifiers.{position-Some}
-use Rattle.std.specs.Prelude.{cond, option_map, nat_eq}
+use Rattle.std.specs.Prelude.{◌↔◌, IsTrue, cond, option_map, nat_eq}
 use Rattle.std.specs.Option.{IfSome}
 use Rattle.std.proofs.lemmas.Bool.{eqb-true}
 use Rattle.std.proofs.lemmas.Bool.Decides.{Decides-eqb}
@@ -108,6 +108,14 @@ same-told rows are a b x y first second is_first is_second =
     one_test (nat_eq x y) (are_same (type_numbered types a) (type_numbered types b))
     (λ h. decides.1 (sym is_first ∙ ap (type_numbered types) (eqb-true x y h) ∙ is_second))
     (λ h. (Decides-eqb x y).1 (same_number types are.apart x y first second (is_first ∙ decides.0 h ∙ sym is_second)))
+
+-- types are equal where they have one number
+pub equal-told : (rows : List Row) → AreRows rows → (a b : ℕ) → a < length (types_of rows) → b < length (types_of rows)
+    → IsTrue (nat_eq a b) ↔ (type_numbered (types_of rows) a ≡ type_numbered (types_of rows) b)
+equal-told rows are a b first second = (
+  λ h. ap (type_numbered (types_of rows)) (eqb-true a b h),
+  λ same. (Decides-eqb a b).1 (same_number (types_of rows) are.apart a b first second same),
+)
 
 -- no rows are right
 pub AreRows-none : AreRows []

@@ -21,7 +21,7 @@ use Rattle.c_types.proofs.Forms.{numbered-kept}
 
 -- More types
 
-members-later : (types more : List TypeTree) (members : List Member) → All (λ member. member.of.0 < length types) members → map (member_told (types ++ more)) members ≡ map (member_told types) members
+pub members-later : (types more : List TypeTree) (members : List Member) → All (λ member. member.of.0 < length types) members → map (member_told (types ++ more)) members ≡ map (member_told types) members
 members-later types more [] all = refl
 members-later types more (member ∷ members) all =
     let same = numbered-kept types more member.of.0 (All-head (λ m. m.of.0 < length types) member members all) in
@@ -43,7 +43,7 @@ told_of_bodies-later types more bodies all = ap (told_in_order nothing_told) (bo
 
 -- what is looked up behind a new entry
 module _ {X : Type 0} (number key : ℕ) (value : X) where
-  lookup-same : (entries : List (ℕ × X)) → number ≡ key → nat_eq number key ≡ true → lookup (nat_eq number) (insert_entry nat_eq entries key value) ≡ Some value
+  pub lookup-same : (entries : List (ℕ × X)) → number ≡ key → nat_eq number key ≡ true → lookup (nat_eq number) (insert_entry nat_eq entries key value) ≡ Some value
   lookup-same [] same e = ap (λ test. cond test (Some value) None) e
   lookup-same (entry ∷ entries) same e = by (nat_eq key entry.0) refl (lookup-same entries same e)
     where
@@ -55,7 +55,7 @@ module _ {X : Type 0} (number key : ℕ) (value : X) where
           ap (λ test. lookup (nat_eq number) (cond test ((entry.0, value) ∷ entries) (entry ∷ insert_entry nat_eq entries key value))) f
           ∙ ap (λ test. cond test (Some entry.1) (lookup (nat_eq number) (insert_entry nat_eq entries key value))) (ap (λ n. nat_eq n entry.0) same ∙ f) ∙ later
 
-  lookup-other : (entries : List (ℕ × X)) → nat_eq number key ≡ false → lookup (nat_eq number) (insert_entry nat_eq entries key value) ≡ lookup (nat_eq number) entries
+  pub lookup-other : (entries : List (ℕ × X)) → nat_eq number key ≡ false → lookup (nat_eq number) (insert_entry nat_eq entries key value) ≡ lookup (nat_eq number) entries
   lookup-other [] e = ap (λ test. cond test (Some value) None) e
   lookup-other (entry ∷ entries) e = by (nat_eq key entry.0) refl (lookup-other entries e)
     where
@@ -71,7 +71,7 @@ module _ {X : Type 0} (number key : ℕ) (value : X) where
           ∙ ap (λ rest. cond (nat_eq number entry.0) (Some entry.1) rest) later
 
 -- an aggregate without a body wasn't told
-told_of_bodies-none : (types : List TypeTree) (bodies : List (ℕ × AggregateBody)) (number : ℕ) (is_union : Bool) → lookup (nat_eq number) bodies ≡ None → told_of_bodies types bodies number is_union ≡ None
+pub told_of_bodies-none : (types : List TypeTree) (bodies : List (ℕ × AggregateBody)) (number : ℕ) (is_union : Bool) → lookup (nat_eq number) bodies ≡ None → told_of_bodies types bodies number is_union ≡ None
 told_of_bodies-none types bodies number is_union none =
     told_in_order-none number is_union (map (body_told types) bodies) nothing_told refl (lookup-map_values (body_seen types) (nat_eq number) bodies ∙ ap (option_map (body_seen types)) none)
 

@@ -7,6 +7,7 @@ mod ElementLemmas
 mod LayoutLemmas
 mod MemberLemmas
 mod Finding
+mod NameLemmas
 mod Joins
 mod Singles
 mod Parameters

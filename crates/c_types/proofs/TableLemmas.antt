@@ -14,9 +14,12 @@ use Rattle.c_types.specs.declared.form.Marking.{Marking}
 use Rattle.c_types.specs.Rows.{Row, types_of, AreRows, Grows}
 use Rattle.c_types.specs.Levels.{AreMarkings}
 use Rattle.c_types.specs.declared.layouts.AggregateLayout.{AggregateLayout}
+use Rattle.c_types.specs.declared.members.MemberNames.{MemberNames}
 use Rattle.c_types.specs.Layouts.{AreNarrow, told_in, told_kept, told_of_bodies}
 use Rattle.c_types.specs.Kept.{IsKept}
+use Rattle.c_types.specs.Members.{AreKnownMaps, NameAlike, names_in, names_kept, names_of_bodies}
 use Rattle.c_types.proofs.LayoutLemmas.{told_of_bodies-later}
+use Rattle.c_types.proofs.NameLemmas.{NameAlike-later, maps-more, names_of_bodies-later}
 use Rattle.c_types.specs.Table.{TypeTable, Extends, IsBodyOver, is_named, plain_integers, with_name}
 use Rattle.c_types.proofs.Integers.{integers-stand}
 use Rattle.c_types.proofs.RowLemmas.{types_of-Grows, stands-Grows}
@@ -47,33 +50,41 @@ body-found rows aggregate body (entry ∷ bodies) all found = by (nat_eq aggrega
 
 -- What is kept
 
-pub kept-Grows : (old new : List Row) (markings others : List (Marking × ℕ)) (bodies : List (ℕ × AggregateBody)) (layouts : List (ℕ × AggregateLayout)) → IsKept old markings bodies layouts → Grows old new → AreRows new
-    → AreMarkings new others → IsKept new others bodies layouts
-kept-Grows old new markings others bodies layouts kept grows are marked =
+pub kept-Grows : (old new : List Row) (markings others : List (Marking × ℕ)) (bodies : List (ℕ × AggregateBody)) (layouts : List (ℕ × AggregateLayout)) (members : List (ℕ × MemberNames))
+    → IsKept old markings bodies layouts members → Grows old new → AreRows new → AreMarkings new others → IsKept new others bodies layouts members
+kept-Grows old new markings others bodies layouts members kept grows are marked =
     let more = types_of-Grows old new grows in
+    let longer : length (types_of old) ≤ length (types_of new) = omega (arith, ap length more.1, length-append (types_of old) more.0) in
     record {
       rows_right = are;
       markings_right = marked;
-      bodies_known = bodies-later old new (omega (arith, ap length more.1, length-append (types_of old) more.0)) bodies kept.bodies_known;
+      bodies_known = bodies-later old new longer bodies kept.bodies_known;
       layouts_right = kept.layouts_right ∙ sym (ap (λ types. told_of_bodies types bodies) more.1 ∙ told_of_bodies-later (types_of old) more.0 bodies kept.bodies_known);
       layouts_narrow = kept.layouts_narrow;
+      members_known = maps-more (types_of old) (types_of new) longer members kept.members_known;
+      members_right =
+          subst (λ types. NameAlike (names_kept types members) (names_of_bodies types bodies)) (sym more.1)
+          (NameAlike-later (types_of old) more.0 members bodies kept.members_known kept.bodies_known kept.members_right);
       integers_stand = λ kind. stands-Grows old new grows _ _ (kept.integers_stand kind);
     }
 
-pub kept-body : (rows : List Row) (markings : List (Marking × ℕ)) (bodies : List (ℕ × AggregateBody)) (layouts others : List (ℕ × AggregateLayout)) (aggregate : ℕ) (body : AggregateBody)
-    → IsKept rows markings bodies layouts → IsBodyOver (types_of rows) body → told_kept others ≡ told_of_bodies (types_of rows) (bodies ++ (aggregate, body) ∷ []) → AreNarrow (told_kept others)
-    → IsKept rows markings (bodies ++ (aggregate, body) ∷ []) others
-kept-body rows markings bodies layouts others aggregate body kept over right narrow =
+pub kept-body : (rows : List Row) (markings : List (Marking × ℕ)) (bodies : List (ℕ × AggregateBody)) (layouts others : List (ℕ × AggregateLayout)) (members more : List (ℕ × MemberNames)) (aggregate : ℕ) (body : AggregateBody)
+    → IsKept rows markings bodies layouts members → IsBodyOver (types_of rows) body → told_kept others ≡ told_of_bodies (types_of rows) (bodies ++ (aggregate, body) ∷ []) → AreNarrow (told_kept others)
+    → AreKnownMaps (types_of rows) more → NameAlike (names_kept (types_of rows) more) (names_of_bodies (types_of rows) (bodies ++ (aggregate, body) ∷ []))
+    → IsKept rows markings (bodies ++ (aggregate, body) ∷ []) others more
+kept-body rows markings bodies layouts others members more aggregate body kept over right narrow known alike =
     record {
       rows_right = kept.rows_right;
       markings_right = kept.markings_right;
       bodies_known = bodies-push rows aggregate body over bodies kept.bodies_known;
       layouts_right = right;
       layouts_narrow = narrow;
+      members_known = known;
+      members_right = alike;
       integers_stand = kept.integers_stand;
     }
 
-pub kept-integers : (rows : List Row) → AreRows rows → types_of rows ≡ plain_integers → IsKept rows [] [] []
+pub kept-integers : (rows : List Row) → AreRows rows → types_of rows ≡ plain_integers → IsKept rows [] [] [] []
 kept-integers rows are types =
     record {
       rows_right = are;
@@ -81,6 +92,8 @@ kept-integers rows are types =
       bodies_known = tt;
       layouts_right = refl;
       layouts_narrow = λ number is_union. tt;
+      members_known = tt;
+      members_right = λ number name. refl;
       integers_stand = integers-stand (types_of rows) types;
     }
 
@@ -98,6 +111,11 @@ module _ (old new : List Row) (bodies : List (ℕ × AggregateBody)) (names : Li
   table-told grows known =
       let more = types_of-Grows old new grows in
       ap (λ types. told_of_bodies types bodies) more.1 ∙ told_of_bodies-later (types_of old) more.0 bodies known ∙ ap told_in is
+
+  pub table-names : Grows old new → AllByRecursion (λ entry. IsBodyOver (types_of old) entry.1) bodies → names_in grown ≡ names_in table
+  table-names grows known =
+      let more = types_of-Grows old new grows in
+      ap (λ types. names_of_bodies types bodies) more.1 ∙ names_of_bodies-later (types_of old) more.0 bodies known ∙ ap names_in is
 
 -- Names
 

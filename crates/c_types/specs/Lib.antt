@@ -4,6 +4,7 @@ pub mod Rows
 pub mod Levels
 pub mod Table
 pub mod Layouts
+pub mod Members
 pub mod Kept
 pub mod Nodes
 pub mod Operands

@@ -111,8 +111,8 @@ impl Layouts {
 }
 
 impl Rows {
-    // How many bits a bit-field of a type has.
-    fn field_width(&self, number: u32, width: Option<u32>) -> Option<u32>
+    /// How many bits a bit-field of a type has.
+    pub fn field_width(&self, number: u32, width: Option<u32>) -> Option<u32>
         requires rows { AreRows self.now.rows.entries }
         requires known { number < length (types_of self.now.rows.entries) }
         ensures { result ≡ field_width (type_numbered (types_of self.now.rows.entries) number) width }

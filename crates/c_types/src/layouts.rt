@@ -1,7 +1,8 @@
 // The layouts of aggregates, each made once from what its members take.
-ghost use Rattle.std.specs.Prelude.{◌≡◌, ◌<◌, ◌≤◌, [], IfOk, OnOk, Some, length, nat_eq};
+ghost use Rattle.std.specs.Prelude.{◌≡◌, ◌<◌, ◌≤◌, [], IfOk, OnOk, Some, length, nat_eq, true};
 ghost use Rattle.indexmap.specs.IndexMap.{insert_entry, spare};
 ghost use Rattle.c_types.specs.Elements.{elements_extent, single_extent};
+ghost use Rattle.meaning_layout.specs.Members.{first_bit_in};
 ghost use Rattle.meaning_layout.specs.Sizes.{told_extent};
 ghost use Rattle.meaning_layout.specs.Telling.{or_incomplete};
 ghost use Rattle.c_types.specs.Layouts.{bit_in, bit_seen, extent_seen, layout_kept, told_kept};
@@ -65,6 +66,31 @@ impl AggregateLayout {
         match &self.structure {
             Ok(layout) => Ok(layout.first_bits[member as usize]),
             Err(fault) => Err(*fault),
+        }
+    }
+
+    // The first bit of a member, if there is one with this number.
+    fn bit_of(&self, is_union: bool, member: u32) -> Option<u64>
+        ensures { result ≡ first_bit_in member (layout_kept self.now is_union) }
+    {
+        if is_union {
+            return self.bit_of_union(member);
+        }
+        match &self.structure {
+            Ok(layout) => layout.first_bits.get(member as usize).copied(),
+            Err(_) => None,
+        }
+    }
+
+    // All members of a union begin with the first bit.
+    fn bit_of_union(&self, member: u32) -> Option<u64>
+        ensures { result ≡ first_bit_in member (layout_kept self.now true) }
+    {
+        let _extent = self.union.ok()?;
+        if (member as usize) < self.count {
+            Some(0)
+        } else {
+            None
         }
     }
 }
@@ -134,6 +160,16 @@ impl Layouts {
         match self.kept.get(&aggregate) {
             Some(layout) => layout.first_bit(is_union, member),
             None => Err(LayoutFault::Incomplete),
+        }
+    }
+
+    /// The first bit of a member, if its aggregate has a layout and a member with this number.
+    pub fn bit_of(&self, aggregate: u32, is_union: bool, member: u32) -> Option<u64>
+        ensures { result ≡ first_bit_in member (or_incomplete (told_kept self.now.kept.entries aggregate is_union)) }
+    {
+        match self.kept.get(&aggregate) {
+            Some(layout) => layout.bit_of(is_union, member),
+            None => None,
         }
     }
 }

@@ -30,6 +30,16 @@ impl Rows {
         self.bare(number) == self.bare(other)
     }
 
+    /// Whether two types are equal: each stands once.
+    pub fn equal(&self, number: u32, other: u32) -> bool
+        requires rows { AreRows self.now.rows.entries }
+        requires first { number < length (types_of self.now.rows.entries) }
+        requires second { other < length (types_of self.now.rows.entries) }
+        ensures { IsTrue result ↔ (type_numbered (types_of self.now.rows.entries) number ≡ type_numbered (types_of self.now.rows.entries) other) }
+    {
+        number == other
+    }
+
     /// The kind of an integer type, restricted or not.
     pub fn kind(&self, number: u32) -> Option<IntKind>
         requires rows { AreRows self.now.rows.entries }

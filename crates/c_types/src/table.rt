@@ -1,13 +1,15 @@
 // The table of types as its callers see it.
-ghost use Rattle.std.specs.Prelude.{◌≡◌, ◌<◌, ◌↔◌, IsTrue, is_some, ◌∷◌, ◌++◌, [], None, Some, IfNone, IfOk, IfSome, IsSome, OnOk, OnErr, length, option_map, slice_get};
+ghost use Rattle.std.specs.Prelude.{◌≡◌, ◌<◌, ◌↔◌, IsTrue, is_some, ◌∷◌, ◌++◌, [], None, Some, IfNone, IfOk, IfSome, IsSome, OnOk, OnErr, length, map, option_map, slice_get};
 ghost use Rattle.meaning_types.specs.Types.{NoTypes, flags_of, has_flag, without_flags};
 ghost use Rattle.meaning_types.specs.Equality.{are_equal_flags, are_same};
 ghost use Rattle.meaning_types.specs.Composite.{composite};
 ghost use Rattle.meaning_operands.specs.Operands.{identity_of};
+ghost use Rattle.meaning_layout.specs.Members.{member_bits, tell_names};
 ghost use Rattle.meaning_layout.specs.Sizes.{extent_of};
 ghost use Rattle.meaning_layout.specs.Telling.{or_incomplete, tell};
 ghost use Rattle.c_types.specs.Layouts.{bit_in, bit_seen, body_seen, extent_seen, told_in};
 ghost use Rattle.c_types.specs.Levels.{BeginsWith};
+ghost use Rattle.c_types.specs.Members.{found_seen, member_declared, member_in, names_in};
 ghost use Rattle.c_types.specs.Operands.{identity_seen};
 ghost use Rattle.c_types.specs.Outlines.{outline_of};
 ghost use Rattle.c_types.specs.Rows.{flags_in, parameter_types, qualifiers_in, space_seen};
@@ -19,6 +21,7 @@ use crate::form::{MarkWords, Marks, SpaceKey};
 use crate::kinds::{kind_number, promoted_kind, usual_kind};
 use crate::layouts::{LayoutFault, Layouts};
 use crate::making::Maker;
+use crate::members::{FoundMember, MemberMaps};
 use crate::outline::Outline;
 use crate::rows::Rows;
 use crate::shapes::{OuterShape, TypeShape};
@@ -35,6 +38,7 @@ pub struct Types {
     maker: Maker,
     bodies: IndexMap<u32, AggregateBody>,
     layouts: Layouts,
+    members: MemberMaps,
     names: IndexMap<Named, NameId>,
 }
 
@@ -46,7 +50,7 @@ impl Model for Types {
 
     ghost view = { λ types. record { rows = types.maker.rows.rows.entries; bodies = types.bodies.entries; names = types.names.entries } };
 
-    ghost invariant = { λ types. IsKept types.maker.rows.rows.entries types.maker.markings.entries types.bodies.entries types.layouts.kept.entries };
+    ghost invariant = { λ types. IsKept types.maker.rows.rows.entries types.maker.markings.entries types.bodies.entries types.layouts.kept.entries types.members.kept.entries };
 }
 
 impl Types {
@@ -62,6 +66,7 @@ impl Types {
             maker: Maker::new(alloc, Rows::of_integers(alloc)?),
             bodies: IndexMap::new(alloc),
             layouts: Layouts::new(alloc),
+            members: MemberMaps::new(alloc),
             names: IndexMap::new(alloc),
         })
     }
@@ -80,6 +85,7 @@ impl Types {
         ensures keeps { OnOk result (Extends self.old self.new) }
         ensures tells { OnOk result (TellsNoMore self.old self.new) }
         ensures layouts { OnOk result (told_in self.new ≡ told_in self.old) }
+        ensures members { OnOk result (names_in self.new ≡ names_in self.old) }
         ensures err { OnErr result (self.new ≡ self.old) }
     {
         let marks = marks_of(&shape);
@@ -95,6 +101,15 @@ impl Types {
         ensures { result ≡ are_same (type_at self.now a) (type_at self.now b) }
     {
         self.maker.rows.same(a.0, b.0)
+    }
+
+    /// Whether two types are equal. It takes no memory, and one step.
+    pub fn equal(&self, a: TypeId, b: TypeId) -> bool
+        requires first { IsTypeId self.now a }
+        requires second { IsTypeId self.now b }
+        ensures { IsTrue result ↔ (type_at self.now a ≡ type_at self.now b) }
+    {
+        self.maker.rows.equal(a.0, b.0)
     }
 
     /// The type to which a pointer points. It takes no memory.
@@ -241,6 +256,7 @@ impl Types {
         ensures keeps { OnOk result (Extends self.old self.new) }
         ensures tells { OnOk result (TellsNoMore self.old self.new) }
         ensures layouts { OnOk result (told_in self.new ≡ told_in self.old) }
+        ensures members { OnOk result (names_in self.new ≡ names_in self.old) }
         ensures err { OnErr result (self.new ≡ self.old) }
     {
         match self.maker.rows.make_composite(a.0, b.0)? {
@@ -259,20 +275,30 @@ impl Types {
         self.maker.rows.tree(alloc, t.0)
     }
 
-    /// Tells the members of an aggregate, which weren't told before, and makes its layout.
+    /// Tells the members of an aggregate, which weren't told before, makes its layout, and enters their names. It takes a
+    /// step for each member, and for each one that its anonymous members have.
     pub fn complete(&mut self, aggregate: u32, body: AggregateBody) -> Result<(), AllocError>
         requires untold { body_in self.old aggregate ≡ None }
         requires known { IsBodyOver (types_in self.old) body }
         ensures told { OnOk result (self.new ≡ record { rows = self.old.rows; bodies = self.old.bodies ++ (aggregate, body) ∷ []; names = self.old.names }) }
         ensures layouts { OnOk result (told_in self.new ≡ tell (told_in self.old) aggregate (body_seen (types_in self.old) body)) }
+        ensures members { OnOk result (names_in self.new ≡ tell_names (told_in self.old) (names_in self.old) aggregate (map (member_declared (types_in self.old)) body.members)) }
         ensures err { OnErr result (self.new ≡ self.old) }
     {
         let layout = self
             .layouts
             .lay_out(self.maker.alloc, &self.maker.rows, &body)?;
+        let names = self.members.names_of(
+            self.maker.alloc,
+            &self.maker.rows,
+            &self.layouts,
+            body.members.as_slice(),
+        )?;
         self.layouts.reserve()?;
+        self.members.reserve()?;
         self.bodies.insert(aggregate, body)?;
         self.layouts.keep(aggregate, layout);
+        self.members.keep(aggregate, names);
         Ok(())
     }
 
@@ -299,6 +325,23 @@ impl Types {
         ensures { bit_seen result ≡ bit_in member (or_incomplete (told_in self.now aggregate is_union)) }
     {
         self.layouts.first_bit(aggregate, is_union, member)
+    }
+
+    /// The member that a name names in an aggregate, once its members were told (C11 6.5.2.3 p3). It takes no memory, and one
+    /// look-up.
+    pub fn member(&self, aggregate: u32, name: NameId) -> Option<FoundMember>
+        ensures member { option_map (found_seen (types_in self.now)) result ≡ member_in self.now aggregate name }
+        ensures known { IfSome result (λ found. IsTypeId self.now found.of) }
+    {
+        self.members.find(aggregate, name)
+    }
+
+    /// The first bit of a member that was found, in an aggregate, if that has a layout and such a member. It takes no memory,
+    /// and one step.
+    pub fn member_bits(&self, aggregate: u32, is_union: bool, found: &FoundMember) -> Option<u64>
+        ensures { result ≡ member_bits (or_incomplete (told_in self.now aggregate is_union)) (found_seen (types_in self.now) found.now) }
+    {
+        found.bits_in(&self.layouts, aggregate, is_union)
     }
 
     /// Tells the name of a tag or an identity. One that has a name keeps it.

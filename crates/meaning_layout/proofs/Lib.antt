@@ -3,3 +3,4 @@ pub mod LayoutLemmas
 pub mod SizeLemmas
 pub mod RepeatLemmas
 pub mod TellingLemmas
+pub mod NameLemmas

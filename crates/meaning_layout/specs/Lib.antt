@@ -6,3 +6,4 @@ pub mod laws
 pub mod examples
 pub mod Repeats
 pub mod Telling
+pub mod Members

@@ -4,3 +4,4 @@ pub mod Sizes
 pub mod Asked
 pub mod Compared
 pub mod Telling
+pub mod Members

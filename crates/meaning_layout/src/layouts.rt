@@ -5,6 +5,7 @@ ghost use Rattle.meaning_layout.specs.laws.Repeats.{ArraysRepeat, OnceIsOne};
 ghost use Rattle.meaning_layout.specs.examples.Layouts.{PlainExamples, FieldExamples, WrittenExamples, SizeExamples};
 ghost use Rattle.meaning_layout.specs.examples.Sizes.{TypeExamples, MemberExamples};
 ghost use Rattle.meaning_layout.specs.examples.Telling.{TellingExamples};
+ghost use Rattle.meaning_layout.specs.examples.Members.{NameExamples};
 ghost use Rattle.meaning_layout.specs.examples.Compared.{ComparedExamples};
 
 /// A size is a multiple of the alignment, and members lie inside; in a structure no two of them share a
@@ -42,6 +43,7 @@ pub fn worked_examples()
     ensures types { TypeExamples }
     ensures members { MemberExamples }
     ensures telling { TellingExamples }
+    ensures names { NameExamples }
 {}
 
 /// A thousand structures and unions have the sizes, the alignments and the first bits of named members that a compiler gives

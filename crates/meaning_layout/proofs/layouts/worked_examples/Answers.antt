@@ -86,3 +86,18 @@ returns-clause-telling c = record {
   no_aggregate = refl;
   field = refl;
 }
+
+pub returns-clause-names : goal.returns-clause-names
+returns-clause-names c = record {
+  own = refl;
+  anonymous = refl;
+  bit_field = refl;
+  first_of_two = refl;
+  no_name = refl;
+  named = refl;
+  not_told = refl;
+  own_bit = refl;
+  anonymous_bit = refl;
+  too_early = refl;
+  told_twice = refl;
+}

@@ -16,5 +16,7 @@ mod words;
 
 pub use declared::{DeclaratorPlace, declarator_fact, parameter_fact, parameter_type};
 pub use marks::{Marks, marks_among, own_marks};
+pub use nodes::{child_at, kind_at, node_at, token_at};
+pub use parts::derived;
 pub use specifiers::specified;
 pub use words::{Words, words_of};

@@ -1,6 +1,7 @@
 -- Calls: what is asked of a function, and arguments one by one.
-use Rattle.std.proofs.Common.{◌≡◌, ℕ, ◌+◌, Bool, true, false, List, [], ◌∷◌, ◌++◌, Option, Some, None, if◌then◌else◌, map, option_map, length, refl, sym, ap, ◌∙◌, subst}
+use Rattle.std.proofs.Common.{◌≡◌, ℕ, ◌+◌, Bool, true, false, List, [], ◌∷◌, ◌++◌, All, Option, Some, None, IfSome, if◌then◌else◌, map, option_map, length, refl, sym, ap, ◌∙◌, subst}
 use Rattle.std.proofs.lemmas.List.{append_assoc, map-append}
+use Rattle.std.proofs.lemmas.List.Elements.{All-append, All-cons, All-nil}
 use Rattle.vocabulary.specs.declared.error_kind.ErrorKind.TheVariants.{WrongNumberOfArguments}
 use Rattle.sparse_model.specs.declared.failure.Failure.{Failure}
 use Rattle.meaning_operands.specs.Failures as meaning
@@ -12,7 +13,7 @@ use Rattle.c_types.specs.Rows.{parameter_types, result_of}
 use Rattle.meaning_rules.specs.Rules.{least_broken, lesser}
 use Rattle.c_types.specs.Table.{TypeTable, pointed_at}
 use Rattle.expr_judge.specs.Arguments.{HasFound, LeadsTo, call_with, called_as, first_of, function_through, listed_failure, passed_to, rest_of, result_with, takes_so_many, without_failures}
-use Rattle.expr_judge.specs.Rows.{failure_listed, failure_seen, told}
+use Rattle.expr_judge.specs.Rows.{IsKnownFailure, failure_listed, failure_seen, told}
 use Rattle.expr_judge.proofs.LeastLemmas.{least_both, lesser_on, unless_told}
 
 -- one argument and those behind it
@@ -26,6 +27,10 @@ one_passed part argument arguments (MoreTypes type_ types) = refl
 listed_told : (table : TypeTable) (failure : Option Failure) → map (failure_seen table) (listed_failure failure) ≡ failure_listed table failure
 listed_told table None = refl
 listed_told table (Some failure) = refl
+
+listed_known : (table : TypeTable) (failure : Option Failure) → IfSome failure (IsKnownFailure table) → All (IsKnownFailure table) (listed_failure failure)
+listed_known table None known = All-nil (IsKnownFailure table)
+listed_known table (Some failure) known = All-cons (IsKnownFailure table) failure [] known (All-nil (IsKnownFailure table))
 
 module _ (token : ℕ) (arguments : List Argument) where
   -- by what is called
@@ -91,11 +96,13 @@ leads_on broken one_broken failures one_failures one others left all is same_bro
 -- the same of failures that were appended to a list
 pub found_on : (table : TypeTable) (old found new : List Failure) (failure : Option Failure) (broken one_broken : Option meaning.Broken) (one others left all : Converted)
     → left ≡ both_converted one others → one_broken ≡ least_broken one.broken → failure_listed table failure ≡ one.failures
-    → new ≡ found ++ listed_failure failure → HasFound table old found broken left all → HasFound table old new (lesser broken one_broken) others all
-found_on table old found new failure broken one_broken one others left all is same_broken same_failures appended before = (
+    → new ≡ found ++ listed_failure failure → IfSome failure (IsKnownFailure table) → HasFound table old found broken left all
+    → HasFound table old new (lesser broken one_broken) others all
+found_on table old found new failure broken one_broken one others left all is same_broken same_failures appended known before = (
   before.0 ++ listed_failure failure,
   appended ∙ ap (λ l. l ++ listed_failure failure) before.1 ∙ append_assoc old before.0 (listed_failure failure),
   subst (λ failures. LeadsTo (lesser broken one_broken) failures others all)
       (sym (map-append (failure_seen table) before.0 (listed_failure failure) ∙ ap (λ l. map (failure_seen table) before.0 ++ l) (listed_told table failure)))
       (leads_on broken one_broken (map (failure_seen table) before.0) (failure_listed table failure) one others left all is same_broken same_failures before.2),
+  All-append (IsKnownFailure table) before.0 (listed_failure failure) before.3 (listed_known table failure known),
 )

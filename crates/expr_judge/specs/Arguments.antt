@@ -1,5 +1,5 @@
 -- Arguments of calls.
-use Rattle.std.specs.Prelude.{◌≡◌, ℕ, ◌+◌, Bool, ◌||◌, nat_eq, List, [], ◌∷◌, ◌++◌, Option, Some, None, IfSome, if◌then◌else◌, map}
+use Rattle.std.specs.Prelude.{◌≡◌, ℕ, ◌+◌, Bool, ◌||◌, nat_eq, List, [], ◌∷◌, ◌++◌, All, Option, Some, None, IfSome, if◌then◌else◌, map}
 use Rattle.vocabulary.specs.declared.error_kind.ErrorKind.TheVariants.{WrongNumberOfArguments}
 use Rattle.sparse_model.specs.declared.ids.TypeId.{TypeId}
 use Rattle.sparse_model.specs.declared.failure.Failure.{Failure}
@@ -17,7 +17,7 @@ use Rattle.c_types.specs.Table.{TypeTable, type_at}
 use Rattle.expr_judge.specs.declared.call.Argument.{Argument}
 use Rattle.expr_judge.specs.Facts.{IsValued, valued_part}
 use Rattle.expr_judge.specs.Parts.{unless}
-use Rattle.expr_judge.specs.Rows.{Told, failure_seen}
+use Rattle.expr_judge.specs.Rows.{IsKnownFailure, Told, failure_seen}
 
 abbrev pub argument_seen : TypeTable → Argument → expressions.Argument
 argument_seen table argument = record { token = argument.token; fact = valued_part table argument.part }
@@ -43,9 +43,10 @@ abbrev pub listed_failure : Option Failure → List Failure
 listed_failure None = []
 listed_failure (Some failure) = failure ∷ []
 
--- these failures are appended to a list
+-- these failures are appended to a list, and their types are of the table
 abbrev pub Appends : TypeTable → (old new : List Failure) → List meaning.Failure → Type 0
-Appends table old new failures = (more : List Failure) × (new ≡ old ++ more) × (map (failure_seen table) more ≡ failures)
+Appends table old new failures =
+    (more : List Failure) × (new ≡ old ++ more) × (map (failure_seen table) more ≡ failures) × All (IsKnownFailure table) more
 
 -- what the arguments break and which rules fail, where so many stand before them
 abbrev pub passed_all : TypeTable → List Argument → (before : ℕ) → TypeId → Converted
@@ -102,4 +103,4 @@ pub record LeadsTo (least : Option meaning.Broken) (found : List meaning.Failure
 -- the same of failures that were appended to a list
 abbrev pub HasFound : TypeTable → (old new : List Failure) → Option meaning.Broken → (left all : Converted) → Type 0
 HasFound table old new broken left all =
-    (more : List Failure) × (new ≡ old ++ more) × LeadsTo broken (map (failure_seen table) more) left all
+    (more : List Failure) × (new ≡ old ++ more) × LeadsTo broken (map (failure_seen table) more) left all × All (IsKnownFailure table) more

@@ -1,5 +1,6 @@
 -- By what is called.
 use Rattle.std.proofs.Common.{◌≡◌, [], ◌++◌, IfOk, OnOk, Some, map, option_map, sym, ap, ◌∙◌, subst, append-nil}
+use Rattle.std.proofs.lemmas.List.Elements.{All-nil}
 use Rattle.vocabulary.specs.declared.error_kind.ErrorKind.TheVariants.{CalledObjectIsNoFunction}
 use Rattle.meaning_typing.specs.Facts.{Unknown, type_of_value}
 use Rattle.meaning_typing.specs.Rows.{Row, breaks, breaks_at, void_used}
@@ -7,7 +8,7 @@ use Rattle.meaning_rules.specs.Rules.{least_broken, lesser}
 use Rattle.c_types.specs.Table.{type_at}
 use Rattle.expr_judge.specs.Arguments.{Appends, argument_seen, without_failures}
 use Rattle.expr_judge.specs.Facts.{valued_seen}
-use Rattle.expr_judge.specs.Rows.{broken_at, broken_seen, failures_seen, row_seen, told}
+use Rattle.expr_judge.specs.Rows.{IsKnownFailure, broken_at, broken_seen, failures_seen, row_seen, told}
 use Rattle.expr_judge.proofs.CallLemmas.{call_is, call_is_none}
 use Rattle.expr_judge.proofs.call.call_through.Goals as goal
 
@@ -51,4 +52,5 @@ returns-in-None-clause-failures c =
       ap (λ (meant : Row). meant.failures)
           (call_is_none c.args.token (map (argument_seen old) c.args.arguments.now) (type_of_value callee)
           (breaks (breaks_at CalledObjectIsNoFunction c.args.token ++ void_used c.args.standing callee)) c.in-None.ensures.function),
+      All-nil (IsKnownFailure old),
     )

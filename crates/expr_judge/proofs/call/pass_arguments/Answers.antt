@@ -35,5 +35,5 @@ arguments-preserved c =
           (found_on table c.args.found.now c.arguments.found c.append.new.found passing.result.failure (option_map broken_seen c.arguments.broken)
           (option_map broken_seen passing.result.broken) one (passed_all table others c.in_ok-part.part next.result.1)
           (passed_all table c.arguments.rest.now c.arguments.part c.arguments.parameters) (passed_all table c.args.arguments.now 0 c.args.function)
-          is (ap (λ told. told.broken) passing.ensures.converted) (ap (λ told. told.failures) passing.ensures.converted) c.in_ok-append.ensures c.arguments.invariant.found);
+          is (ap (λ told. told.broken) passing.ensures.converted) (ap (λ told. told.failures) passing.ensures.converted) c.in_ok-append.ensures passing.ensures.known c.arguments.invariant.found);
     }

@@ -1,0 +1,58 @@
+-- What is answered of a unit, once all its nodes are judged.
+use Rattle.std.proofs.Common.{◌≡◌, ℕ, List, Option, None, length, option_map, sym, ap, ap₂, subst, ◌∙◌}
+use Rattle.vocabulary.specs.declared.limit.LimitKind.TheVariants as limits
+use Rattle.sparse_model.specs.declared.ids.NameId.{NameId}
+use Rattle.meaning_tree.specs.Nodes.{NodeList}
+use Rattle.meaning_typing.proofs.Facts.{facts_are_found}
+use Rattle.meaning_typing.specs.Building.{facts_of}
+use Rattle.meaning_typing.specs.Facts.{Fact}
+use Rattle.meaning_typing.specs.Surroundings.{Surrounding, AreSurroundings}
+use Rattle.meaning_typing.specs.Typing.{AreFacts}
+use Rattle.meaning_typing.specs.Units.{UnitNodes}
+use Rattle.meaning_rules.specs.Rules.{Judgement, broken_in, first_refusal, least_broken, least_token, passed_in, refused}
+use Rattle.type_judge.specs.declared.fault.JudgeFault.{JudgeFault}
+use Rattle.type_judge.specs.declared.fault.JudgeFault.TheVariants as faults
+use Rattle.type_judge.specs.declared.pass.Pass.{Pass}
+use Rattle.type_judge.specs.Judging.{IsJudgedSo, IsPassOver, IsRefusal, IsRefusedFor}
+use Rattle.decl_judge.specs.Units.{nodes_of}
+use Rattle.expr_judge.specs.Rows.{broken_seen}
+use Rattle.type_judge.proofs.NodeLemmas.{length-nodes}
+
+-- what the first refusal says of a unit
+refused_as :
+    (nodes : UnitNodes) (surroundings : List Surrounding) (facts : List Fact) → AreSurroundings nodes surroundings → AreFacts nodes surroundings facts
+    → (fault : JudgeFault) (refusal : Option Judgement)
+    → refusal ≡ first_refusal (least_broken (broken_in nodes surroundings facts)) (least_token (passed_in nodes surroundings facts))
+    → IsRefusal fault refusal → IsRefusedFor nodes fault
+refused_as nodes surroundings facts are also (faults.Constraint broken) refusal same is = (surroundings, facts, are, also, refused _ (sym same ∙ is))
+refused_as nodes surroundings facts are also (faults.Limit limits.ObjectSize) refusal same is = (surroundings, facts, are, also, refused _ (sym same ∙ is))
+refused_as nodes surroundings facts are also (faults.Limit limit) refusal same is = is
+refused_as nodes surroundings facts are also faults.Memory refusal same is = absurd is
+
+module _ (unit : NodeList NameId) (whole : unit.first ≡ 0) (surroundings : List Surrounding) (are : AreSurroundings (nodes_of unit) surroundings) (pass : Pass)
+    (judged : IsPassOver (nodes_of unit) surroundings (length unit.nodes) pass) where
+  over : IsPassOver (nodes_of unit) surroundings (length (nodes_of unit)) pass
+  over = subst (λ (n : ℕ). IsPassOver (nodes_of unit) surroundings n pass) (sym (length-nodes unit whole)) judged
+
+  refusal-is :
+      first_refusal (option_map broken_seen pass.broken) pass.passed
+      ≡ first_refusal (least_broken (broken_in (nodes_of unit) surroundings (facts_of (nodes_of unit) surroundings))) (least_token (passed_in (nodes_of unit) surroundings (facts_of (nodes_of unit) surroundings)))
+  refusal-is = ap₂ first_refusal over.broken over.passed
+
+  pub refused_for : (fault : JudgeFault) → IsRefusal fault (first_refusal (option_map broken_seen pass.broken) pass.passed) → IsRefusedFor (nodes_of unit) fault
+  refused_for fault is =
+      refused_as (nodes_of unit) surroundings (facts_of (nodes_of unit) surroundings) are (facts_are_found (nodes_of unit) surroundings) fault _ refusal-is is
+
+  pub judged_so :
+      first_refusal (option_map broken_seen pass.broken) pass.passed ≡ None
+      → IsJudgedSo (nodes_of unit) (record { types = pass.known.types; facts = pass.known.facts; failures = pass.found })
+  judged_so none =
+      record {
+        surroundings = surroundings;
+        facts = facts_of (nodes_of unit) surroundings;
+        are_surroundings = are;
+        are_facts = facts_are_found (nodes_of unit) surroundings;
+        none_refused = sym refusal-is ∙ none;
+        known = over.known.facts;
+        failures = over.failures;
+      }

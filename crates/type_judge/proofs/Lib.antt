@@ -1,0 +1,17 @@
+pub mod LeastLemmas
+pub mod NodeLemmas
+pub mod FactLemmas
+pub mod GrowthLemmas
+pub mod ConstantLemmas
+pub mod PartLemmas
+pub mod KnownLemmas
+pub mod LinkedLemmas
+pub mod DeclaredLemmas
+pub mod LargeLemmas
+pub mod TellingLemmas
+pub mod DeclarationLemmas
+pub mod TakenLemmas
+pub mod RowLemmas
+pub mod AccessLemmas
+pub mod PassLemmas
+pub mod JudgingLemmas

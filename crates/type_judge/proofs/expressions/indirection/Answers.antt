@@ -1,0 +1,32 @@
+use Rattle.std.proofs.Common.{◌≡◌, ap, ◌∙◌}
+use Rattle.meaning_typing.specs.Expressions.{indirection_row}
+use Rattle.meaning_typing.specs.Facts.{fact_at}
+use Rattle.meaning_typing.specs.Typing.{token_at}
+use Rattle.meaning_typing.specs.Units.{child_at}
+use Rattle.decl_judge.specs.Units.{nodes_of}
+use Rattle.expr_judge.specs.Facts.{valued_part}
+use Rattle.expr_judge.specs.Rows.{told}
+use Rattle.type_judge.specs.Known.{facts_seen}
+use Rattle.type_judge.specs.Parts.{only_expression}
+use Rattle.type_judge.proofs.PartLemmas.{indirection_only}
+use Rattle.type_judge.proofs.TakenLemmas.{row_taken}
+use Rattle.type_judge.proofs.expressions.indirection.Goals as goal
+
+pub returns : goal.returns
+returns c =
+    let nodes = nodes_of c.args.unit.now in
+    let old = c.args.known.now in
+    let new = c.operand_at.new.self in
+    let facts = facts_seen old in
+    let handle = c.args.handle in
+    let child = child_at nodes handle 0 in
+    let row = c.judge_indirection-row in
+    let operand : valued_part new.types c.in_ok-operand.operand ≡ only_expression (fact_at facts child) =
+    c.in_ok-operand.ensures.seen ∙ ap (λ handle. only_expression (fact_at facts handle)) c.child_at-child.ensures in
+    let standing = c.token_at.ensures ∙ ap (token_at nodes) c.child_at-child.ensures in
+    row_taken old new c.in_ok-operand.ensures.keeps c.args.found.now c.take_row.new.found row.result
+    (indirection_row (token_at nodes handle) (token_at nodes child) (fact_at facts child)) row.ensures.known c.take_row.result c.take_row.ensures.row
+    c.take_row.ensures.failures
+    (row.ensures.row
+    ∙ (λ i. told (indirection_row (c.token_at-token.ensures i) (standing i) (operand i)))
+    ∙ ap told (indirection_only (token_at nodes handle) (token_at nodes child) (fact_at facts child)))

@@ -1,0 +1,9 @@
+pub mod Least
+pub mod Found
+pub mod Linked
+pub mod Known
+pub mod Rows
+pub mod Parts
+pub mod Constants
+pub mod Large
+pub mod Judging

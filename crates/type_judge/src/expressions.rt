@@ -1,0 +1,132 @@
+// The rows of expressions, by what is known of their parts.
+ghost use Rattle.std.specs.Prelude.{◌≡◌, ◌≤◌, ◌<◌, ◌^◌, IfOk, length};
+ghost use Rattle.meaning_tree.specs.Nodes.{end_of};
+ghost use Rattle.meaning_typing.specs.Expressions as meaning;
+ghost use Rattle.meaning_typing.specs.Facts.{fact_at};
+ghost use Rattle.meaning_typing.specs.Names.{name_row};
+ghost use Rattle.meaning_typing.specs.Typing.{token_at as token_of};
+ghost use Rattle.meaning_typing.specs.Units.{child_at as child_of, node_at as node_of};
+ghost use Rattle.decl_judge.specs.Units.{nodes_of};
+ghost use Rattle.type_judge.specs.Known.{IsWhole, facts_seen};
+ghost use Rattle.type_judge.specs.Rows.{Tells};
+
+use crate::known::Known;
+use crate::row::{NodeRow, take_row};
+use c_tree::{Handle, Unit};
+use decl_judge::{child_at, token_at};
+use expr_judge::{
+    SubscriptTokens, judge_address, judge_assignment, judge_indirection, judge_name, judge_string,
+    judge_subscript,
+};
+use sparse_model::FailureList;
+use std::alloc::AllocError;
+
+/// The row of a string literal (C11 6.4.5).
+pub fn string(
+    unit: &Unit,
+    known: &mut Known,
+    found: &mut FailureList,
+    handle: Handle,
+) -> Result<NodeRow, AllocError>
+    requires whole { unit.now.first ≡ 0 }
+    requires node { handle < end_of unit.now }
+    ensures { IfOk result (λ row. Tells known.old known.new found.old found.new row (meaning.string_row (node_of (nodes_of unit.now) handle).number)) }
+{
+    let row = judge_string(&mut known.types, unit.node(handle).number)?;
+    take_row(row, found)
+}
+
+/// The row of a name (6.5.1 p2).
+pub fn name(
+    unit: &Unit,
+    known: &mut Known,
+    found: &mut FailureList,
+    handle: Handle,
+) -> Result<NodeRow, AllocError>
+    requires whole { unit.now.first ≡ 0 }
+    requires node { handle < end_of unit.now }
+    requires known { IsWhole known.old }
+    requires few { length known.old.facts ≤ 2 ^ 32 }
+    ensures { IfOk result (λ row. Tells known.old known.new found.old found.new row (name_row (facts_seen known.old) (fact_at (facts_seen known.old) (node_of (nodes_of unit.now) handle).number))) }
+{
+    let row = judge_name(known.named_by(unit.node(handle).number));
+    take_row(row, found)
+}
+
+/// The row of unary `&` (6.5.3.2).
+pub fn address(
+    unit: &Unit,
+    known: &mut Known,
+    found: &mut FailureList,
+    handle: Handle,
+) -> Result<NodeRow, AllocError>
+    requires whole { unit.now.first ≡ 0 }
+    requires known { IsWhole known.old }
+    ensures { IfOk result (λ row. Tells known.old known.new found.old found.new row (meaning.address_row (token_of (nodes_of unit.now) handle) (fact_at (facts_seen known.old) (child_of (nodes_of unit.now) handle 0)))) }
+{
+    let operand = known.expression_at(child_at(unit, handle, 0));
+    let row = judge_address(&mut known.types, token_at(unit, handle), operand)?;
+    take_row(row, found)
+}
+
+/// The row of unary `*` (6.5.3.2).
+pub fn indirection(
+    unit: &Unit,
+    known: &mut Known,
+    found: &mut FailureList,
+    handle: Handle,
+) -> Result<NodeRow, AllocError>
+    requires whole { unit.now.first ≡ 0 }
+    requires known { IsWhole known.old }
+    ensures { IfOk result (λ row. Tells known.old known.new found.old found.new row (meaning.indirection_row (token_of (nodes_of unit.now) handle) (token_of (nodes_of unit.now) (child_of (nodes_of unit.now) handle 0)) (fact_at (facts_seen known.old) (child_of (nodes_of unit.now) handle 0)))) }
+{
+    let child = child_at(unit, handle, 0);
+    let operand = known.operand_at(child)?;
+    let token = token_at(unit, handle);
+    let row = judge_indirection(&known.types, token, token_at(unit, child), operand);
+    take_row(row, found)
+}
+
+/// The row of a subscript (6.5.2.1).
+pub fn subscript(
+    unit: &Unit,
+    known: &mut Known,
+    found: &mut FailureList,
+    handle: Handle,
+) -> Result<NodeRow, AllocError>
+    requires whole { unit.now.first ≡ 0 }
+    requires known { IsWhole known.old }
+    ensures { IfOk result (λ row. Tells known.old known.new found.old found.new row (meaning.subscript_row (token_of (nodes_of unit.now) handle) (token_of (nodes_of unit.now) (child_of (nodes_of unit.now) handle 0)) (token_of (nodes_of unit.now) (child_of (nodes_of unit.now) handle 1)) (fact_at (facts_seen known.old) (child_of (nodes_of unit.now) handle 0)) (fact_at (facts_seen known.old) (child_of (nodes_of unit.now) handle 1)))) }
+{
+    let first = child_at(unit, handle, 0);
+    let second = child_at(unit, handle, 1);
+    let (left, right) = known.operands_at(first, second)?;
+    let tokens = SubscriptTokens {
+        token: token_at(unit, handle),
+        first: token_at(unit, first),
+        second: token_at(unit, second),
+    };
+    let row = judge_subscript(&known.types, tokens, left, right);
+    take_row(row, found)
+}
+
+/// The row of an assignment (6.5.16.1).
+pub fn assignment(
+    unit: &Unit,
+    known: &mut Known,
+    found: &mut FailureList,
+    handle: Handle,
+) -> Result<NodeRow, AllocError>
+    requires whole { unit.now.first ≡ 0 }
+    requires known { IsWhole known.old }
+    ensures { IfOk result (λ row. Tells known.old known.new found.old found.new row (meaning.assignment_row (token_of (nodes_of unit.now) handle) (token_of (nodes_of unit.now) (child_of (nodes_of unit.now) handle 1)) (fact_at (facts_seen known.old) (child_of (nodes_of unit.now) handle 0)) (fact_at (facts_seen known.old) (child_of (nodes_of unit.now) handle 1)))) }
+{
+    let first = child_at(unit, handle, 0);
+    let second = child_at(unit, handle, 1);
+    let right = known.operand_at(second)?;
+    let left = known.expression_at(first);
+    let token = token_at(unit, handle);
+    let standing = token_at(unit, second);
+    let row = judge_assignment(&mut known.types, token, standing, left, right)?;
+    take_row(row, found)
+}

@@ -1,0 +1,25 @@
+//! The judge of a unit: the type of each node and what else is known of it, which rules fail, and the least constraint that
+//! is broken.
+//!
+//! One pass, from the first node to the last, over what each node stands in (`node_surroundings`). What is to be found is
+//! said in `meaning_typing` and `meaning_rules`, and what is answered in `specs/Judging.antt`. Start reading at [`judge`].
+#![tactic(auto)]
+
+mod access;
+mod calls;
+mod constants;
+mod declarations;
+mod declared;
+mod expressions;
+mod fault;
+mod judging;
+mod known;
+mod large;
+mod pass;
+mod row;
+mod rows;
+mod statements;
+
+pub use expr_judge::Broken;
+pub use fault::JudgeFault;
+pub use judging::{Judged, judge};

@@ -37,6 +37,12 @@ $(FLOWS): $(SOURCES) | kit
 	mkdir -p build
 	cp crates/flows_cli/out/flows_cli $@
 
+# What the judge says of a file, which no command asks yet: build/judged WORDS FILE
+build/judged: $(SOURCES) | kit
+	$(PYTHON) scripts/build.py $(RT) judged_cli /dev/null
+	mkdir -p build
+	cp crates/judged_cli/out/judged_cli $@
+
 # How a file is read, for developers: build/trees FILE
 build/trees: $(SOURCES) | kit
 	$(PYTHON) scripts/build.py $(RT) trees_cli /dev/null
@@ -74,8 +80,8 @@ costs: | kit
 	$(PYTHON) scripts/costs.py $(RT)
 
 # All, or the calls of some families: make bench FAMILIES=macros
-bench: $(PROGRAM) $(WORKBENCH) $(FLOWS)
-	$(PYTHON) scripts/bench.py $(PROGRAM) $(WORKBENCH) $(FLOWS) $(FAMILIES)
+bench: $(PROGRAM) $(WORKBENCH) $(FLOWS) build/judged
+	$(PYTHON) scripts/bench.py $(PROGRAM) $(WORKBENCH) $(FLOWS) build/judged $(FAMILIES)
 
 fuzz: $(PROGRAM) $(WORKBENCH) $(FLOWS) build/trees
 	$(PYTHON) scripts/fuzz.py $(PROGRAM) $(WORKBENCH) $(FLOWS) build/trees

@@ -2,16 +2,16 @@
 """Measures the program on files of several kinds, and sparse and tcc beside it where they are installed; then calls of
 libraries that no command makes yet.
 
-usage: bench.py PROGRAM WORKBENCH FLOWS [FAMILY..]
+usage: bench.py PROGRAM WORKBENCH FLOWS JUDGED [FAMILY..]
 
-With families, as `macros`, `#if`, `headers`, `-E`, `parsing` or `flows`, only these are measured.
+With families, as `macros`, `#if`, `headers`, `-E`, `parsing`, `judging` or `flows`, only these are measured.
 
 Prints for each file its bytes and tokens, the processor time of a check, also by the token, and the peak
 memory, also by the token where it is large. Where valgrind is installed, a column has the instructions by the
 token, above those of a check of an empty file: they don't depend on what else the machine does. They are
 counted on a smaller file of the same kind. A second table has those of each stage of a check, a third one has `-E` of files
-and their headers, files that the grammar reads and no rule judges, the calls, which WORKBENCH makes,
-and control flow graphs, which FLOWS walks.
+and their headers, files that the grammar reads and no rule judges, files that JUDGED judges, the calls, which WORKBENCH
+makes, and control flow graphs, which FLOWS walks.
 
 Exits 1 where a file of the first form takes more than a tenth longer by the token than a smaller one does,
 once the smaller one takes long enough to be measured, or where a largest file takes more than five seconds; where a
@@ -118,6 +118,12 @@ def of_parsing(name, before, front, middle, back, after, sizes):
     """A text that the grammar reads and no rule judges: something again and again, and its end as often."""
     make = lambda count: before + front * count + middle + back * count + after
     return Family("parsing: " + name, make, sizes, words=(), status=2)
+
+
+def of_judging(name, before, front, middle, back, after, sizes, most_ratio=MOST_CALL_RATIO, status=0):
+    """The same for a text that the judge judges; the status is 1 where it warns."""
+    make = lambda count: before + front * count + middle + back * count + after
+    return Family("judging: " + name, make, sizes, most_ratio=most_ratio, words=(), status=status)
 
 
 class Call(NamedTuple):
@@ -298,6 +304,47 @@ FAMILIES = (
     Family("parsing: enumerators", texts.enumerators, (50000, 500000), most_ratio=MOST_NAMES_RATIO, words=(), status=2),
     Family("parsing: names of one scope", texts.names_of_one_scope, (50000, 500000), most_ratio=MOST_NAMES_RATIO, words=(), status=2),
     Family("parsing: words before declarators", texts.words_before_declarators, (20000, 200000), words=(), status=2),
+)
+
+# What flags a pointer of these texts has.
+FLAGGED = b"int __attribute__((noderef)) *"
+
+# What the judge judges as long as no command asks it. Conversions and accesses that fail are warned of.
+JUDGING = (
+    of_judging("calls", b"int g(int); void f(void) { ", b"g(1); ", b"", b"", b" }", (30000, 300000)),
+    of_judging("calls of 255 arguments", b"int g(int, ...); void f(void) { ", b"g(" + b"1," * 254 + b"1); ", b"", b"", b" }", (200, 2000)),
+    of_judging(
+        "calls of 255 parameters",
+        b"int g(" + b"int," * 254 + b"int); void f(void) { ",
+        b"g(" + b"1," * 254 + b"1); ",
+        b"",
+        b"",
+        b" }",
+        (200, 2000),
+    ),
+    of_judging("nested calls", b"int g(int); void f(void) { ", b"g(", b"1", b")", b"; }", (300, 3000)),
+    of_judging("statements", b"extern int *p; void f(void) { ", b"*p; ", b"", b"", b" }", LONG),
+    of_judging("stores", b"extern int *p, *q; void f(void) { ", b"p = q; ", b"", b"", b" }", (40000, 400000)),
+    of_judging("stores of stores", b"extern int *p; void f(void) { ", b"p = ", b"p", b"", b"; }", LONG),
+    of_judging("returns", b"int f(int a) { ", b"return a; ", b"", b"", b" }", LONG),
+    of_judging("strings", b"extern char *s; void f(void) { ", b's = "a"; ', b"", b"", b" }", (40000, 400000)),
+    Family("judging: functions", texts.functions_of_parameters, (10000, 100000), most_ratio=MOST_NAMES_RATIO, words=()),
+    Family("judging: declarations", texts.declarations, (40000, 400000), most_ratio=MOST_NAMES_RATIO, words=()),
+    of_judging("redeclarations of one name", b"", b"extern int *p; ", b"", b"", b"", (30000, 300000)),
+    of_judging("redeclarations in blocks", b"extern int *p; void f(void) { ", b"{ extern int *p; p; } ", b"", b"", b" }", (20000, 200000)),
+    of_judging("redeclarations of another type", b"extern int *p; ", b"extern char *p; ", b"", b"", b"", (30000, 300000), status=1),
+    of_judging("redeclarations with a length", b"extern int a[]; ", b"extern int a[4]; ", b"", b"", b"", (20000, 200000)),
+    of_judging("typedefs of one name", b"", b"typedef int *t; ", b"", b"", b"", (30000, 300000)),
+    Family("judging: typedefs that double", texts.doubling_typedefs, (10000, 100000), most_ratio=MOST_NAMES_RATIO, words=()),
+    of_judging("stars of a type", b"extern int ", b"*", b"p; void f(void) { p = p; }", b"", b"", LONG),
+    of_judging("uses of a deep type", b"extern int " + b"*" * 1000 + b"p; void f(void) { ", b"p = p; ", b"", b"", b" }", (40000, 400000)),
+    of_judging("levels of an array", b"extern int a", b"[1]", b"; void f(void) { a", b"[0]", b"; }", (30000, 300000)),
+    of_judging("parentheses", b"extern int *p; void f(void) { ", b"(", b"p", b")", b"; }", (400, 4000)),
+    of_judging("*& chains", b"extern int *p; void f(void) { ", b"*&", b"*p", b"", b"; }", LONG),
+    of_judging("stars of a function", b"void f(void) { ", b"*", b"f", b"", b"; }", LONG),
+    of_judging("accesses that warn", FLAGGED + b"u; void f(void) { ", b"*u; ", b"", b"", b" }", LONG, status=1),
+    of_judging("conversions that warn", FLAGGED + b"u; int *p; void f(void) { ", b"p = u; ", b"", b"", b" }", (40000, 400000), status=1),
+    of_judging("arguments that warn", FLAGGED + b"u; int g(int *); void f(void) { ", b"g(u); ", b"", b"", b" }", (30000, 300000), status=1),
 )
 
 
@@ -524,7 +571,7 @@ def flows_grow_in_step(flows, name, make, sizes):
     return passed and seconds[TIMED_FLOW] <= MOST_FLOW_SECONDS
 
 
-def calls_pass(program, workbench, flows, families):
+def calls_pass(program, workbench, flows, judged, families):
     """Whether runs and calls of these families, or of all, take no more than they may. Prints their lines."""
 
     def is_asked(name):
@@ -533,6 +580,9 @@ def calls_pass(program, workbench, flows, families):
     passed = True
     for family in FAMILIES:
         if is_asked(family.name) and not family_grows_in_step(program, family):
+            passed = False
+    for family in JUDGING:
+        if is_asked(family.name) and not family_grows_in_step(judged, family):
             passed = False
     if is_asked(DOUBLED.name) and not doubles_in_time(workbench):
         passed = False
@@ -570,15 +620,15 @@ def checkers_of(program):
 
 
 def main():
-    program, workbench, flows = map(os.path.abspath, sys.argv[1:4])
-    families = sys.argv[4:]
+    program, workbench, flows, judged = map(os.path.abspath, sys.argv[1:5])
+    families = sys.argv[5:]
     heads = ["bytes", "tokens", "seconds", "peak KiB", "ns/token", "bytes/token", "instr/token"]
     passed = True
     if not families:
         print_line(["file", *heads])
         passed = program_passes(checkers_of(program))
     print_line(["call", *heads])
-    return 0 if calls_pass(program, workbench, flows, families) and passed else 1
+    return 0 if calls_pass(program, workbench, flows, judged, families) and passed else 1
 
 
 if __name__ == "__main__":

@@ -339,6 +339,22 @@ def names_of_one_scope(count):
     return b"void f(void) { int n" + b"".join(b", n%06d" % number for number in range(count)) + b"; }"
 
 
+def declarations(count):
+    """So many objects."""
+    return b"".join(b"int *n%06d; " % number for number in range(count))
+
+
+def functions_of_parameters(count):
+    """So many functions that each use a parameter and the function before."""
+    front = b"int f0(int a) { return a; } "
+    return front + b"".join(b"int f%d(int a) { return f%d(a); } " % (number, number - 1) for number in range(1, count))
+
+
+def doubling_typedefs(count):
+    """So many types of functions, each with two parameters that point to the one before."""
+    return b"typedef int t0(int); " + b"".join(b"typedef int t%d(t%d *, t%d *); " % (number, number - 1, number - 1) for number in range(1, count))
+
+
 def words_before_declarators(count):
     """So many specifiers, and as many declarators behind them."""
     return b"const " * count + b"int a" + b", a" * count + b";"

@@ -1,4 +1,5 @@
 // The programs that a command can name.
+use judged::judged;
 use ksparse::{Exit, ksparse};
 use sparse_outside::{HonestFiles, MemorySink, Sink, Words};
 use std::alloc::{AllocError, Global};
@@ -12,6 +13,8 @@ pub enum Program {
     Ksparse,
     /// The tree of a file, as developers see it.
     Trees,
+    /// What the judge says of a file, as long as the checker doesn't ask it.
+    Judged,
     /// Calls of libraries that no command of the checker makes yet. Why there is no text isn't written.
     Workbench,
 }
@@ -38,6 +41,7 @@ impl Program {
         match name {
             "ksparse" => Some(Program::Ksparse),
             "trees" => Some(Program::Trees),
+            "judged" => Some(Program::Judged),
             "workbench" => Some(Program::Workbench),
             _ => None,
         }
@@ -55,6 +59,7 @@ impl Program {
         let exit = match self {
             Program::Ksparse => ksparse(alloc, words, files, &mut out, &mut err),
             Program::Trees => trees(alloc, words, files, &mut out, &mut err),
+            Program::Judged => judged(alloc, words, files, &mut out, &mut err),
             Program::Workbench => run_workbench(alloc, words, files, &mut out),
         };
         Ok(Ran {

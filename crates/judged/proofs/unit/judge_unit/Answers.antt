@@ -1,0 +1,11 @@
+use Rattle.std.proofs.Common.{inl, inr}
+use Rattle.std.proofs.lemmas.Result.{IfOk-weaker}
+use Rattle.judged.proofs.unit.judge_unit.Goals as goal
+
+pub returns-in-Ok : goal.returns-in-Ok
+returns-in-Ok c =
+    IfOk-weaker c.warn.result _ _ (λ written told. inl (c.in-Ok.judged, c.in-Ok.ensures.judged, told)) c.warn.ensures
+
+pub returns-in-Err : goal.returns-in-Err
+returns-in-Err c =
+    IfOk-weaker c.refuse.result _ _ (λ written told. inr (c.in-Err.fault, c.in-Err.ensures.refused, told)) c.refuse.ensures

@@ -5,3 +5,7 @@ pub mod RowLemmas
 pub mod PartLemmas
 pub mod CallLemmas
 pub mod PlainLemmas
+pub mod SortLemmas
+pub mod OutcomeLemmas
+pub mod ChangeLemmas
+pub mod ArmLemmas

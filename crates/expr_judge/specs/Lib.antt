@@ -6,3 +6,7 @@ pub mod Parts
 pub mod Arguments
 pub mod Names
 pub mod Accesses
+pub mod Sorts
+pub mod Outcomes
+pub mod Changes
+pub mod Arms

@@ -28,8 +28,8 @@ fn is_const(types: &Types, t: TypeId) -> bool
     types.shape(t).is_const
 }
 
-// A place that can be written.
-fn is_modifiable(types: &Types, left: ExpressionFact) -> bool
+/// A place that can be written.
+pub fn is_modifiable(types: &Types, left: ExpressionFact) -> bool
     requires { IsKnownFact types.now left }
     ensures { result ≡ meaning.is_modifiable (fact_seen types.now left) }
 {

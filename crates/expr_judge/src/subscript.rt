@@ -73,8 +73,8 @@ fn element_of(
     }
 }
 
-// The restricted operand.
-fn restricted_of(types: &Types, left: Valued, right: Valued) -> TypeId
+/// The first restricted one of two operands.
+pub fn restricted_of(types: &Types, left: Valued, right: Valued) -> TypeId
     requires left { IsValued types.now left }
     requires right { IsValued types.now right }
     ensures restricted { type_at types.now result ≡ restricted_in (type_of_value (valued_seen types.now left)) (type_of_value (valued_seen types.now right)) }

@@ -8,6 +8,10 @@ pub mod Equality
 pub mod Rows
 pub mod Names
 pub mod Expressions
+pub mod Operators
+pub mod Conditionals
+pub mod Casts
+pub mod Changes
 pub mod Statements
 pub mod Typing
 pub mod Evaluation

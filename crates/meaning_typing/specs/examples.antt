@@ -3,3 +3,5 @@ pub mod Drawn
 pub mod Typing
 pub mod Rows
 pub mod Enumerations
+pub mod Values
+pub mod Operators

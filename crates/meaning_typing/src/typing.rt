@@ -1,5 +1,6 @@
 // What is proved of typing, and examples.
 ghost use Rattle.meaning_typing.specs.examples.Enumerations.{EnumerationExamples};
+ghost use Rattle.meaning_typing.specs.examples.Operators.{AddressExamples, CastFailures, ForceExamples, MeetingFailures, OperandConstraints, RestrictedFailures, TypeExamples};
 ghost use Rattle.meaning_typing.specs.examples.Rows.{ConstraintExamples, FailureExamples};
 ghost use Rattle.meaning_typing.specs.examples.Typing.{FactExamples, SurroundingExamples};
 ghost use Rattle.meaning_typing.specs.laws.Equality.{EqualTypesPass};
@@ -45,4 +46,15 @@ pub fn worked_rows()
 /// Enumerations of which one can tell by eye whether their enumerators share a restricted type.
 pub fn worked_enumerations()
     ensures { EnumerationExamples }
+{}
+
+/// Operators, conditionals, casts and sizes of which one can tell by eye what they give, what fails at them and what they break.
+pub fn worked_operators()
+    ensures types { TypeExamples }
+    ensures addresses { AddressExamples }
+    ensures meetings { MeetingFailures }
+    ensures restricted { RestrictedFailures }
+    ensures casts { CastFailures }
+    ensures forces { ForceExamples }
+    ensures constraints { OperandConstraints }
 {}

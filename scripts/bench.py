@@ -272,7 +272,7 @@ FAMILIES = (
     *(of_parsing(f"operands behind {it.decode()}", b"int a; int x = ", it + b" ", b"a", b"", b";", LONG) for it in (b"!", b"--", b"sizeof")),
     of_parsing("calls of 255 arguments", b"int g(); void f(void) { ", b"g(" + b"1," * 254 + b"1); ", b"", b"", b" }", (200, 2000)),
     of_parsing("cases", b"void f(void) { switch (1) { ", b"case 1: ", b";", b"", b" } }", LONG),
-    of_parsing("context statements", b"void f(void) { ", b"__context__(1); ", b"", b"", b" }", LONG),
+    of_parsing("context statements", b"void f(void) { ", b"__context__(1); ", b"", b"", b" }", (30000, 300000)),
     of_parsing("numbers", b"void f(void) { ", b"0x7fffffffu; ", b"", b"", b" }", LONG),
     of_parsing("assignments", b"int a; void f(void) { ", b"a = ", b"a", b"", b"; }", LONG),
     of_parsing("casts", b"typedef int t; int a; int x = ", b"(t)", b"a", b"", b";", LONG),

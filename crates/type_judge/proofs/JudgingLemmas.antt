@@ -1,5 +1,6 @@
 -- What is answered of a unit, once all its nodes are judged.
-use Rattle.std.proofs.Common.{◌≡◌, ℕ, List, Option, None, length, option_map, sym, ap, ap₂, subst, ◌∙◌}
+use Rattle.std.proofs.Common.{◌≡◌, ℕ, List, Option, None, Result, IfErr, IsErrAnd, length, option_map, sym, ap, ap₂, subst, ◌∙◌}
+use Rattle.std.proofs.lemmas.Result.{err_from_is_err_and}
 use Rattle.vocabulary.specs.declared.limit.LimitKind.TheVariants as limits
 use Rattle.sparse_model.specs.declared.ids.NameId.{NameId}
 use Rattle.meaning_tree.specs.Nodes.{NodeList}
@@ -10,12 +11,16 @@ use Rattle.meaning_typing.specs.Surroundings.{Surrounding, AreSurroundings}
 use Rattle.meaning_typing.specs.Typing.{AreFacts}
 use Rattle.meaning_typing.specs.Units.{UnitNodes}
 use Rattle.meaning_rules.specs.Rules.{Judgement, broken_in, first_refusal, least_broken, least_token, passed_in, refused}
+use Rattle.c_types.specs.Table.{TypeTable}
 use Rattle.type_judge.specs.declared.fault.JudgeFault.{JudgeFault}
 use Rattle.type_judge.specs.declared.fault.JudgeFault.TheVariants as faults
+use Rattle.type_judge.specs.declared.judging.Judged.{Judged}
 use Rattle.type_judge.specs.declared.pass.Pass.{Pass}
-use Rattle.type_judge.specs.Judging.{IsJudgedSo, IsPassOver, IsRefusal, IsRefusedFor}
+use Rattle.type_judge.specs.Identities.{names_told, renamed}
+use Rattle.type_judge.specs.Judging.{HasTypeIds, IsJudgedSo, IsPassOver, IsRefusal, IsRefusedFor}
 use Rattle.decl_judge.specs.Units.{nodes_of}
 use Rattle.expr_judge.specs.Rows.{broken_seen}
+use Rattle.type_judge.proofs.IdentityLemmas.{all_renamed, failures_renamed, found_renamed, nodes_renamed}
 use Rattle.type_judge.proofs.NodeLemmas.{length-nodes}
 
 -- what the first refusal says of a unit
@@ -28,6 +33,12 @@ refused_as nodes surroundings facts are also (faults.Constraint broken) refusal 
 refused_as nodes surroundings facts are also (faults.Limit limits.ObjectSize) refusal same is = (surroundings, facts, are, also, refused _ (sym same ∙ is))
 refused_as nodes surroundings facts are also (faults.Limit limit) refusal same is = is
 refused_as nodes surroundings facts are also faults.Memory refusal same is = absurd is
+
+-- want of memory says nothing of it
+pub memory_refused : {T : Type 0} (nodes : UnitNodes) (result : Result T JudgeFault) → IsErrAnd result (λ fault. fault ≡ faults.Memory) → IfErr result (IsRefusedFor nodes)
+memory_refused nodes result is =
+    let found = err_from_is_err_and result is in
+    subst (λ one. IfErr one (IsRefusedFor nodes)) (sym found.1) (subst (IsRefusedFor nodes) (sym found.2) tt)
 
 module _ (unit : NodeList NameId) (whole : unit.first ≡ 0) (surroundings : List Surrounding) (are : AreSurroundings (nodes_of unit) surroundings) (pass : Pass)
     (judged : IsPassOver (nodes_of unit) surroundings (length unit.nodes) pass) where
@@ -43,16 +54,31 @@ module _ (unit : NodeList NameId) (whole : unit.first ≡ 0) (surroundings : Lis
   refused_for fault is =
       refused_as (nodes_of unit) surroundings (facts_of (nodes_of unit) surroundings) are (facts_are_found (nodes_of unit) surroundings) fault _ refusal-is is
 
-  pub judged_so :
-      first_refusal (option_map broken_seen pass.broken) pass.passed ≡ None
-      → IsJudgedSo (nodes_of unit) (record { types = pass.known.types; facts = pass.known.facts; failures = pass.found })
-  judged_so none =
-      record {
-        surroundings = surroundings;
-        facts = facts_of (nodes_of unit) surroundings;
-        are_surroundings = are;
-        are_facts = facts_are_found (nodes_of unit) surroundings;
-        none_refused = sym refusal-is ∙ none;
-        known = over.known.facts;
-        failures = over.failures;
-      }
+  -- once the names of restricted types are told
+  module _ (types : TypeTable) (is : types ≡ renamed pass.known.types (names_told (nodes_of unit) surroundings (length unit.nodes))) where
+    abbrev answer : TypeTable → Judged
+    answer table = record { types = table; facts = pass.known.facts; failures = pass.found }
+
+    pub judged_so : first_refusal (option_map broken_seen pass.broken) pass.passed ≡ None → IsJudgedSo (nodes_of unit) (answer types)
+    judged_so none =
+        let names = names_told (nodes_of unit) surroundings (length unit.nodes) in
+        subst (λ (table : TypeTable). IsJudgedSo (nodes_of unit) (answer table)) (sym is)
+        (record {
+          surroundings = surroundings;
+          facts = facts_of (nodes_of unit) surroundings;
+          are_surroundings = are;
+          are_facts = facts_are_found (nodes_of unit) surroundings;
+          none_refused = sym refusal-is ∙ none;
+          known = nodes_renamed pass.known.types names pass.known.facts ∙ over.known.facts;
+          failures = found_renamed pass.known.types names pass.found ∙ over.failures;
+          names = ap (names_told (nodes_of unit) surroundings) (sym (length-nodes unit whole));
+        })
+
+    pub judged_ids : HasTypeIds (answer types)
+    judged_ids =
+        let names = names_told (nodes_of unit) surroundings (length unit.nodes) in
+        subst (λ (table : TypeTable). HasTypeIds (answer table)) (sym is)
+        (record {
+          facts = all_renamed pass.known.types names pass.known.facts over.known.whole.ids;
+          failures = failures_renamed pass.known.types names pass.found over.ids;
+        })

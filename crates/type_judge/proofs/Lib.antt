@@ -13,5 +13,6 @@ pub mod DeclarationLemmas
 pub mod TakenLemmas
 pub mod RowLemmas
 pub mod AccessLemmas
+pub mod IdentityLemmas
 pub mod PassLemmas
 pub mod JudgingLemmas

@@ -35,15 +35,16 @@ use Rattle.type_judge.proofs.LeastLemmas.{least_both, lowest_both}
 
 -- before the first node
 pub pass_none :
-    (nodes : UnitNodes) (surroundings : List Surrounding) (pass : Pass) → IsKnownOf nodes surroundings 0 pass.known → pass.found ≡ []
+    (nodes : UnitNodes) (surroundings : List Surrounding) (pass : Pass) → IsKnownOf nodes surroundings 0 pass.known → pass.known.types.names ≡ [] → pass.found ≡ []
     → pass.broken ≡ None → pass.passed ≡ None → IsPassOver nodes surroundings 0 pass
-pass_none nodes surroundings pass known found broken passed =
+pass_none nodes surroundings pass known names found broken passed =
     record {
       known = known;
       failures = ap (found_seen pass.known.types) found;
       ids = subst (AreKnownFailures pass.known.types) (sym found) (All-nil (IsKnownFailure pass.known.types));
       broken = ap (option_map broken_seen) broken;
       passed = passed;
+      names = names;
     }
 
 -- what is known, with that of one node more, which stands in this scope
@@ -138,4 +139,5 @@ module _ (nodes : UnitNodes) (surroundings : List Surrounding) (handle : ℕ) wh
               broken_more (option_map broken_seen before.broken) (option_map broken_seen row.broken) (option_map broken_seen after.broken) was.broken
               (ap (λ (r : KeptRow). r.broken) tells.row) lesser_is;
           passed = passed_more before.passed row.passed after.passed was.passed (ap (λ (r : KeptRow). r.passed) tells.row) lowest_is;
+          names = later.tells.names ∙ was.names;
         }

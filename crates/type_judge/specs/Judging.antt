@@ -1,5 +1,5 @@
 -- What is known of a unit so far, and what is answered of it in the end.
-use Rattle.std.specs.Prelude.{◌≡◌, ℕ, List, All, Option, Some, None, length, option_map}
+use Rattle.std.specs.Prelude.{◌≡◌, ℕ, List, [], All, Option, Some, None, length, option_map}
 use Rattle.vocabulary.specs.declared.limit.LimitKind.TheVariants as limits
 use Rattle.meaning_typing.specs.Building.{facts_of}
 use Rattle.meaning_typing.specs.Facts.{Fact}
@@ -14,6 +14,7 @@ use Rattle.type_judge.specs.declared.fault.JudgeFault.TheVariants as faults
 use Rattle.type_judge.specs.declared.judging.Judged.{Judged}
 use Rattle.type_judge.specs.declared.pass.Pass.{Pass}
 use Rattle.type_judge.specs.Found.{AreKnownFailures, found_seen}
+use Rattle.type_judge.specs.Identities.{names_told}
 use Rattle.type_judge.specs.Known.{IsKnownOf}
 
 -- So far
@@ -25,10 +26,12 @@ pub record IsPassOver (nodes : UnitNodes) (surroundings : List Surrounding) (cou
   pub ids : AreKnownFailures pass.known.types pass.found
   pub broken : option_map broken_seen pass.broken ≡ least_broken (gathered (broken_at nodes surroundings (facts_of nodes surroundings)) count)
   pub passed : pass.passed ≡ least_token (gathered (passed_at nodes surroundings (facts_of nodes surroundings)) count)
+  -- no type has a name yet
+  pub names : pass.known.types.names ≡ []
 
 -- In the end
 
--- Nothing is refused, and this is what is known of each node, and all that fails, node by node.
+-- Nothing is refused, and this is what is known of each node, all that fails, node by node, and what restricted types are named.
 pub record IsJudgedSo (nodes : UnitNodes) (judged : Judged) : Type 0 where
   pub surroundings : List Surrounding
   pub facts : List Fact
@@ -37,6 +40,7 @@ pub record IsJudgedSo (nodes : UnitNodes) (judged : Judged) : Type 0 where
   pub none_refused : first_refusal (least_broken (broken_in nodes surroundings facts)) (least_token (passed_in nodes surroundings facts)) ≡ None
   pub known : nodes_seen judged.types judged.facts ≡ facts
   pub failures : found_seen judged.types judged.failures ≡ failures_in nodes surroundings facts
+  pub names : judged.types.names ≡ names_told nodes surroundings (length nodes)
 
 -- all types that are told are of its table
 pub record HasTypeIds (judged : Judged) : Type 0 where

@@ -6,4 +6,5 @@ pub mod Rows
 pub mod Parts
 pub mod Constants
 pub mod Large
+pub mod Identities
 pub mod Judging

@@ -7,6 +7,7 @@ ghost use Rattle.expr_judge.specs.Rows.{broken_seen};
 ghost use Rattle.type_judge.specs.Judging.{HasTypeIds, IsJudgedSo, IsRefusal, IsRefusedFor};
 
 use crate::fault::JudgeFault;
+use crate::identities::name_identities;
 use crate::pass::{Pass, judge_nodes};
 use c_tree::Unit;
 use c_types::Types;
@@ -43,7 +44,7 @@ fn first_refusal(broken: Option<Broken>, passed: Option<u32>) -> Option<JudgeFau
     }
 }
 
-/// Judges a unit: the type of each node, what else is known of it, and all failures of rules.
+/// Judges a unit: the type of each node, what else is known of it, all failures of rules, and the names of restricted types.
 ///
 /// A node costs a few steps, and one more for each of its parts.
 ///
@@ -66,10 +67,14 @@ pub fn judge(alloc: Global, unit: &Unit) -> Result<Judged, JudgeFault>
     } = judge_nodes(alloc, unit, &surroundings)?;
     match first_refusal(broken, passed) {
         Some(fault) => Err(fault),
-        None => Ok(Judged {
-            types: known.types,
-            facts: known.facts,
-            failures: found,
-        }),
+        None => {
+            let mut types = known.types;
+            name_identities(unit, &surroundings, &mut types)?;
+            Ok(Judged {
+                types,
+                facts: known.facts,
+                failures: found,
+            })
+        }
     }
 }

@@ -36,6 +36,7 @@ impl Known {
     pub fn new(alloc: Global) -> Result<Known, AllocError>
         ensures facts { IfOk result (λ known. known.facts ≡ []) }
         ensures layouts { IfOk result (λ known. told_in known.types ≡ nothing_told) }
+        ensures names { IfOk result (λ known. known.types.names ≡ []) }
         ensures linked { IfOk result (λ known. known.linked.declarations ≡ []) }
         ensures over { IfOk result (λ known. Extends known.linked.over known.types) }
         ensures typedefs { IfOk result (λ known. known.typedefs ≡ []) }

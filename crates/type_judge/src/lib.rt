@@ -12,6 +12,7 @@ mod declarations;
 mod declared;
 mod expressions;
 mod fault;
+mod identities;
 mod judging;
 mod known;
 mod large;

@@ -8,4 +8,4 @@ pub returns : goal.returns
 returns c = λ nodes surroundings.
     let known = c.in_ok-new.ensures in
     pass_none nodes surroundings _ (known_none nodes surroundings c.in_ok-new.field-0 known.facts known.layouts known.linked known.over known.typedefs)
-    c.new-2.ensures refl refl
+    known.names c.new-2.ensures refl refl

@@ -52,11 +52,19 @@ abbrev pub parameters_in : SyntaxTree → Option ℕ
 parameters_in (Node kinds.FunctionDeclarator token name number parts) = Some token
 parameters_in tree = None
 
--- and the one that is the part directly at the name
+-- attributes in parentheses leave a declarator what it is without them
+abbrev pub is_without_form : SyntaxTree → Bool
+is_without_form (Node kinds.ParenthesizedAttributes token name number parts) = true
+is_without_form tree = false
+
+abbrev pub are_without_form : Parts (List ℕ) → Bool
+are_without_form NoParts = true
+are_without_form (Part role tree parts) = is_without_form tree && are_without_form parts
+
+-- and the one that is the part directly at the name, where such attributes don't count
 abbrev pub own_parameters : Parts (List ℕ) → Option ℕ
 own_parameters NoParts = None
-own_parameters (Part role tree NoParts) = parameters_in tree
-own_parameters (Part role tree (Part next other parts)) = own_parameters (Part next other parts)
+own_parameters (Part role tree parts) = if are_without_form parts then parameters_in tree else own_parameters parts
 
 -- there is one: the declarator is a function's (6.7.6.3)
 abbrev pub ends_with_parameters : Parts (List ℕ) → Bool

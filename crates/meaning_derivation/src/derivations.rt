@@ -4,7 +4,7 @@ ghost use Rattle.meaning_derivation.specs.laws.Sorts.{ActionsAreSorted, ActionsL
 ghost use Rattle.meaning_derivation.specs.laws.Shapes.{ShapesAreMade};
 ghost use Rattle.meaning_derivation.specs.laws.Storage.{ClassesHaveNumbers, SpecifiersHaveTheirClass};
 ghost use Rattle.meaning_derivation.specs.examples.Literals.{ContextExamples, LiteralExamples};
-ghost use Rattle.meaning_derivation.specs.examples.Units.{TreeExamples, BodyExamples, BindExamples, ChainExamples, RefusalExamples};
+ghost use Rattle.meaning_derivation.specs.examples.Units.{NameExamples, TreeExamples, BodyExamples, BindExamples, ChainExamples, RefusalExamples};
 ghost use Rattle.meaning_derivation.specs.examples.Tags.{TagExamples};
 ghost use Rattle.meaning_derivation.specs.examples.Specifiers.{SetExamples, SpecifierExamples, WordExamples, PlaceExamples, FunctionExamples};
 
@@ -39,6 +39,7 @@ pub fn specifiers_have_their_class()
 
 /// Short units derive the trees, or are refused for what, that one can tell by eye.
 pub fn worked_examples()
+    ensures names { NameExamples }
     ensures trees { TreeExamples }
     ensures bodies { BodyExamples }
     ensures binds { BindExamples }

@@ -1,13 +1,13 @@
 -- The tree of a handle is that of the node there, over the trees of its children.
-use Rattle.std.proofs.Common.{◌≡◌, ℕ, zero, suc, ◌-◌, ◌<◌, ◌≤◌, true, List, [], ◌∷◌, ◌++◌, map, reverse, length, slice_get, Option, Some, None, option_map, All, ⊎_elim, refl, sym, ap, subst, ◌∙◌, arith}
+use Rattle.std.proofs.Common.{◌≡◌, ℕ, zero, suc, ◌-◌, ◌<◌, ◌≤◌, Bool, true, false, ◌&&◌, List, [], ◌∷◌, ◌++◌, map, reverse, length, slice_get, Option, Some, None, option_map, All, ⊎_elim, if◌then◌else◌, refl, sym, ap, ap₂, subst, ◌∙◌, arith}
 use Rattle.std.specs.List.{list_all}
 use Rattle.std.specs.Option.{option_and_then}
 use Rattle.vocabulary.specs.declared.node_kind.NodeKind.{NodeKind}
-use Rattle.vocabulary.specs.declared.node_kind.NodeKind.TheVariants.{FunctionDeclarator}
+use Rattle.vocabulary.specs.declared.node_kind.NodeKind.TheVariants.{FunctionDeclarator, ParenthesizedAttributes}
 use Rattle.std.proofs.lemmas.Bool.{and_parts, ltb-true}
 use Rattle.std.proofs.lemmas.List.Elements.{All-head, All-tail}
 use Rattle.std.proofs.lemmas.Option.{same_Some, slice_get-map, slice_get_cases, slice_get_within}
-use Rattle.meaning_tree.specs.Trees.{SyntaxTree, Node, Parts}
+use Rattle.meaning_tree.specs.Trees.{SyntaxTree, Node, Parts, NoParts, Part}
 use Rattle.meaning_tree.specs.Nodes.{TreeNode, NodeList, HasNode, ChildrenStandBefore, StandsFor, StandFor}
 use Rattle.meaning_tree.specs.Listed.{tree_at, parts_at, tree_over, trees_of, renamed_node, renamed_list}
 use Rattle.meaning_tree.specs.LookUps.{node_at}
@@ -15,7 +15,8 @@ use Rattle.meaning_tree.proofs.ListedStand.{listed_stand}
 use Rattle.meaning_tree.proofs.LookingUp.{node_at-exact}
 use Rattle.meaning_tree.proofs.Standing.{StandsFor-unique}
 use Rattle.meaning_derivation.specs.Lists.{part_count}
-use Rattle.meaning_derivation.specs.Scoping.{parameters_in, own_parameters, parts_below}
+use Rattle.meaning_derivation.specs.Scoping as scoping
+use Rattle.meaning_derivation.specs.Scoping.{are_without_form, parameters_in, own_parameters, parts_below}
 use Rattle.sparse_model.specs.declared.ids.NameId.{NameId}
 use Rattle.c_tokens.specs.Seen.{text_of}
 use Rattle.meaning_derivation.specs.Values as values
@@ -25,7 +26,7 @@ use Rattle.parse_state.specs.declared.value.Value.TheVariants as kinds
 use Rattle.parse_state.specs.Seen.{spelled_trees, value_of}
 use Rattle.parse_state.specs.Giving.{has_handles_below}
 use Rattle.parse_state.specs.Asking.{handle_in, count_in}
-use Rattle.parse_state.specs.Parameters.{last_list, list_begins}
+use Rattle.parse_state.specs.Parameters.{is_without_form, list_begins, list_behind, nearer_part, own_list}
 use Rattle.parse_state.proofs.Stacks.{all-reverse}
 use Rattle.parse_state.proofs.Seeing.{seen, value_at-seen}
 use Rattle.parse_state.proofs.Ending.{order-renamed}
@@ -109,35 +110,69 @@ begins-seen : (kind : NodeKind) (token : ℕ) (name : List ℕ) (number : ℕ) (
 begins-seen FunctionDeclarator token name number parts = refl
 begins-seen kind token name number parts = refl
 
--- the last of children
-pub last_list-last : (list : NodeList NameId) (front : List (ℕ × ℕ)) (child : ℕ × ℕ) (node : TreeNode NameId) → node_at list child.0 ≡ Some node
-    → last_list list (front ++ child ∷ []) ≡ list_begins node.kind node.token
-last_list-last list [] child node is = ap (option_and_then (λ (one : TreeNode NameId). list_begins one.kind one.token)) is
-last_list-last list (first ∷ []) child node is = ap (option_and_then (λ (one : TreeNode NameId). list_begins one.kind one.token)) is
-last_list-last list (first ∷ second ∷ front) child node is = last_list-last list (second ∷ front) child node is
+form-seen : (kind : NodeKind) (token : ℕ) (name : List ℕ) (number : ℕ) (parts : Parts (List ℕ))
+    → scoping.is_without_form (Node kind token name number parts) ≡ is_without_form kind
+form-seen ParenthesizedAttributes token name number parts = refl
+form-seen kind token name number parts = refl
+
+-- of the parts behind one that has form, the last one with form counts
+nearest : (form others : Bool) (found begun rest : Option ℕ)
+    → (if others then (if form then found else begun) else rest) ≡ (if form && others then found else (if others then begun else rest))
+nearest true true found begun rest = refl
+nearest true false found begun rest = refl
+nearest false true found begun rest = refl
+nearest false false found begun rest = refl
+
+-- without one there is no parameter list
+none_without_form : (parts : Parts (List ℕ)) → are_without_form parts ≡ true → own_parameters parts ≡ None
+none_without_form NoParts are = refl
+none_without_form (Part role (Node ParenthesizedAttributes token name number below) parts) are =
+    ap (λ (others : Bool). if others then None else own_parameters parts) are
+none_without_form (Part role (Node kind token name number below) parts) are = absurd (cc are)
 
 module _ (names : List (List ℕ)) (list : NodeList NameId) (first : list.first ≡ 0) (order : ChildrenStandBefore list) where
-  one_list : (handle : ℕ) → handle < length list.nodes
-      → parameters_in (tree_at (spelled_trees names list) handle) ≡ option_and_then (λ node. list_begins node.kind node.token) (node_at list handle)
-  one_list handle below =
-      let (node, found) = node_there list handle (omega (arith, first)) (omega (arith, first, below)) in
-      ap parameters_in (node_seen names list first order handle node ((node_at-exact list handle node).0 found))
-      ∙ begins-seen node.kind node.token (text_of names node.name) node.number (parts_at (spelled_trees names list) node.children)
-      ∙ sym (ap (option_and_then (λ (one : TreeNode NameId). list_begins one.kind one.token)) found)
+  -- a part that was looked up
+  part_seen : (handle : ℕ) (found : Option ℕ) → handle < length list.nodes
+      → nearer_part found (node_at list handle)
+      ≡ (if scoping.is_without_form (tree_at (spelled_trees names list) handle) then found else parameters_in (tree_at (spelled_trees names list) handle))
+  part_seen handle found below =
+      let (node, there) = node_there list handle (omega (arith, first)) (omega (arith, first, below)) in
+      let parts = parts_at (spelled_trees names list) node.children in
+      let is = node_seen names list first order handle node ((node_at-exact list handle node).0 there) in
+      ap (nearer_part found) there
+      ∙ sym (ap₂ (λ (form : Bool) (begun : Option ℕ). if form then found else begun)
+      (ap scoping.is_without_form is ∙ form-seen node.kind node.token (text_of names node.name) node.number parts)
+      (ap parameters_in is ∙ begins-seen node.kind node.token (text_of names node.name) node.number parts))
 
-  -- the parameter list directly at the name is the last part
-  pub own_parameters-seen : (end : ℕ) → end ≤ length list.nodes → (children : List (ℕ × ℕ)) → All (λ child. (list.first ≤ child.0) × (child.0 < end)) children
-      → own_parameters (parts_at (spelled_trees names list) children) ≡ last_list list children
-  own_parameters-seen end within [] below = refl
-  own_parameters-seen end within (child ∷ []) below =
-      let one = All-head (λ (child : ℕ × ℕ). (list.first ≤ child.0) × (child.0 < end)) child [] below in
+  -- what stands nearest to the name among children, behind what was found
+  list_behind-seen : (end : ℕ) → end ≤ length list.nodes → (found : Option ℕ) (children : List (ℕ × ℕ))
+      → All (λ child. (list.first ≤ child.0) × (child.0 < end)) children
+      → list_behind list found children
+      ≡ (if are_without_form (parts_at (spelled_trees names list) children) then found else own_parameters (parts_at (spelled_trees names list) children))
+  list_behind-seen end within found [] below = refl
+  list_behind-seen end within found (child ∷ children) below =
+      let one = All-head (λ (child : ℕ × ℕ). (list.first ≤ child.0) × (child.0 < end)) child children below in
       let before = one.1 in
-      one_list child.0 (omega (arith, before, within))
-  own_parameters-seen end within (child ∷ other ∷ children) below =
-      own_parameters-seen end within (other ∷ children) (All-tail (λ (child : ℕ × ℕ). (list.first ≤ child.0) × (child.0 < end)) child (other ∷ children) below)
+      let parts = parts_at (spelled_trees names list) children in
+      let tree = tree_at (spelled_trees names list) child.0 in
+      list_behind-seen end within (nearer_part found (node_at list child.0)) children
+      (All-tail (λ (child : ℕ × ℕ). (list.first ≤ child.0) × (child.0 < end)) child children below)
+      ∙ ap (λ (nearer : Option ℕ). if are_without_form parts then nearer else own_parameters parts) (part_seen child.0 found (omega (arith, before, within)))
+      ∙ nearest (scoping.is_without_form tree) (are_without_form parts) found (parameters_in tree) (own_parameters parts)
+
+  none_left : (parts : Parts (List ℕ)) (are : Bool) → are_without_form parts ≡ are → (if are then None else own_parameters parts) ≡ own_parameters parts
+  none_left parts true are = sym (none_without_form parts are)
+  none_left parts false are = refl
+
+  -- the parameter list directly at the name
+  pub own_parameters-seen : (end : ℕ) → end ≤ length list.nodes → (children : List (ℕ × ℕ)) → All (λ child. (list.first ≤ child.0) × (child.0 < end)) children
+      → own_parameters (parts_at (spelled_trees names list) children) ≡ own_list list children
+  own_parameters-seen end within children below =
+      let parts = parts_at (spelled_trees names list) children in
+      sym (list_behind-seen end within None children below ∙ none_left parts (are_without_form parts) refl)
 
   pub node_parameters-seen : (handle : ℕ) (node : TreeNode NameId) → HasNode list handle node
-      → own_parameters (parts_below (values.TreeValue (tree_at (spelled_trees names list) handle))) ≡ last_list list node.children
+      → own_parameters (parts_below (values.TreeValue (tree_at (spelled_trees names list) handle))) ≡ own_list list node.children
   node_parameters-seen handle node has =
       let within : handle - list.first < length list.nodes = slice_get_within list.nodes (handle - list.first) node has.1 in
       ap (λ tree. own_parameters (parts_below (values.TreeValue tree))) (node_seen names list first order handle node has)

@@ -1,10 +1,12 @@
 // Parameter lists that are closed, and bodies that open their scopes again.
-ghost use Rattle.std.specs.Prelude.{◌≡◌, ◌<◌, ◌≤◌, map};
+ghost use Rattle.std.specs.Prelude.{◌≡◌, ◌<◌, ◌≤◌, map, true};
+ghost use Rattle.std.specs.List.{list_all};
 ghost use Rattle.meaning_tree.specs.Nodes.{end_of};
 ghost use Rattle.meaning_derivation.specs.Scoping.{awaited_entries, entries_at};
 ghost use Rattle.c_scope.specs.Seen.{entry_of};
 ghost use Rattle.c_tree.specs.Seen.{HasNodeWith};
-ghost use Rattle.parse_state.specs.Parameters.{last_list, list_begins};
+ghost use Rattle.parse_state.specs.Giving.{is_below};
+ghost use Rattle.parse_state.specs.Parameters.{is_without_form, nearer_list, own_list};
 ghost use Rattle.parse_state.specs.Seen.{closed_seen};
 
 use crate::asking::tree_at;
@@ -13,6 +15,7 @@ use crate::state::ParseState;
 use c_scope::{Binding, Scopes};
 use c_tree::{Handle, Unit};
 use std::alloc::AllocError;
+use tag_list::TagList;
 use vocabulary::NodeKind;
 
 impl<'t> ParseState<'t> {
@@ -47,13 +50,13 @@ impl<'t> ParseState<'t> {
         self.closed.clear();
     }
 
-    /// Where the parameter list begins that is the last part of a tree, if one is.
+    /// Where the parameter list begins that stands directly at the name of a declarator, if one does.
     pub fn own_parameters(&self, depth: usize) -> Option<u32>
         ensures { result ≡ own_parameters (parts_below (value_below (state_of self.now).values depth)) }
     {
         self.unit.each_node_stands_for_one_tree();
         match tree_at(&self.values, depth) {
-            Some(declarator) => last_parameters(&self.unit, declarator),
+            Some(declarator) => parameters_of(&self.unit, declarator),
             None => None,
         }
     }
@@ -78,26 +81,47 @@ impl<'t> ParseState<'t> {
     }
 }
 
-// Where the parameter list begins that is the last child of a node, if one is.
-fn last_parameters(unit: &Unit, handle: Handle) -> Option<u32>
-    requires from { unit.now.first ≤ handle }
+// Where the parameter list begins that stands directly at the name, among the children of a node.
+fn parameters_of(unit: &Unit, handle: Handle) -> Option<u32>
+    requires from { unit.now.first ≡ 0 }
     requires below { handle < end_of unit.now }
-    ensures { HasNodeWith unit.now handle (λ node. result ≡ last_list unit.now node.children) }
+    ensures { HasNodeWith unit.now handle (λ node. result ≡ own_list unit.now node.children) }
 {
     unit.each_node_stands_for_one_tree();
-    match unit.children(handle).iter().next_back() {
-        Some((last, _)) => {
-            let part = unit.node(last);
-            list_token(part.kind, part.token)
-        }
-        None => None,
+    parameters_among(unit, unit.children(handle))
+}
+
+// Where it begins among these.
+fn parameters_among(unit: &Unit, children: &TagList) -> Option<u32>
+    requires first { unit.now.first ≡ 0 }
+    requires below { list_all (is_below (end_of unit.now)) children.now ≡ true }
+    ensures { result ≡ own_list unit.now children.now }
+{
+    let mut found = None;
+    for (child, _) in children.iter() {
+        let part = unit.node(child);
+        found = nearer_list(found, part.kind, part.token);
+    }
+    found
+}
+
+// Attributes in parentheses leave a declarator what it is without them.
+fn is_without_form(kind: NodeKind) -> bool
+    ensures { result ≡ is_without_form kind }
+{
+    match kind {
+        NodeKind::ParenthesizedAttributes => true,
+        _ => false,
     }
 }
 
-// The token of a parameter list.
-fn list_token(kind: NodeKind, token: u32) -> Option<u32>
-    ensures { result ≡ list_begins kind token }
+// A part of this kind stands nearer to the name than what was found.
+fn nearer_list(found: Option<u32>, kind: NodeKind, token: u32) -> Option<u32>
+    ensures { result ≡ nearer_list found kind token }
 {
+    if is_without_form(kind) {
+        return found;
+    }
     match kind {
         NodeKind::FunctionDeclarator => Some(token),
         _ => None,

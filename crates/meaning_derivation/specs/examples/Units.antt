@@ -17,6 +17,7 @@ use Rattle.meaning_text.specs.Lexing.{Lexed, Tokens, Refused, lexed_file}
 use Rattle.meaning_tree.specs.Trees.{SyntaxTree, Node, Parts, NoParts, Part}
 use Rattle.meaning_grammar.specs.Terminals.{terminals}
 use Rattle.meaning_derivation.specs.Values.{Value, TreeValue, plain_tree, named_tree}
+use Rattle.meaning_derivation.specs.Scoping.{own_parameters}
 use Rattle.meaning_derivation.specs.State.{Fault, IsError, PassesLimit, Outcome, Done, Fails}
 use Rattle.meaning_derivation.specs.Units.{state_before}
 use Rattle.meaning_derivation.specs.Actions.{act}
@@ -74,6 +75,23 @@ void_parameters token void_token =
     (plain_tree kinds.Parameter void_token
     (typed (plain_tree kinds.Specifiers void_token (typed (plain_tree kinds.VoidSpecifier void_token NoParts) NoParts)) NoParts))
     NoParts)
+
+-- Parts that stand at the name
+pub record NameExamples : Type 0 where
+  -- `f(void)` and `(__attribute__((x)) f)(void)`
+  pub function : own_parameters (typed (void_parameters 5 6) NoParts) ≡ Some 5
+  pub in_parentheses : own_parameters (typed (void_parameters 5 6) (typed (plain_tree kinds.ParenthesizedAttributes 1 NoParts) NoParts)) ≡ Some 5
+  -- `(__attribute__((x)) *f)(void)` and `(*(__attribute__((x)) f))(void)`
+  pub pointer :
+      own_parameters
+      (typed (void_parameters 5 6)
+      (typed (plain_tree kinds.ParenthesizedAttributes 1 NoParts) (typed (plain_tree kinds.PointerDeclarator 2 NoParts) NoParts)))
+      ≡ None
+  pub pointer_before :
+      own_parameters
+      (typed (void_parameters 5 6)
+      (typed (plain_tree kinds.PointerDeclarator 2 NoParts) (typed (plain_tree kinds.ParenthesizedAttributes 3 NoParts) NoParts)))
+      ≡ None
 
 pub record TreeExamples : Type 0 where
   pub empty : unit [] ≡ tree NoParts

@@ -7,8 +7,8 @@ use Rattle.parse_state.specs.Seen.{Read, state_of, spelled_trees}
 use Rattle.parse_state.proofs.Parts.{handle_known, tree_seen, no_tree_seen, node_parameters-seen}
 use Rattle.parse_state.proofs.state.ParseState.own_parameters.Goals as goal
 
-pub last_parameters-requires-clause-below : goal.last_parameters-requires-clause-below
-last_parameters-requires-clause-below c =
+pub parameters_of-requires-clause-below : goal.parameters_of-requires-clause-below
+parameters_of-requires-clause-below c =
     let here : handle_in (slice_get (reverse c.self.inside.values.items) c.args.depth) ≡ Some c.in-Some.declarator =
     sym (c.in-Some.ensures ∙ ap (λ stack. handle_in (slice_get (reverse stack) c.args.depth)) c.deref.ensures.value) in
     let below = handle_known (length c.self.inside.unit.nodes) c.self.inside.values.items c.args.depth c.in-Some.declarator c.self.invariant.handles here in
@@ -19,7 +19,7 @@ pub returns-in-Some : goal.returns-in-Some
 returns-in-Some c =
     let here : handle_in (slice_get (reverse c.self.inside.values.items) c.args.depth) ≡ Some c.in-Some.declarator =
     sym (c.in-Some.ensures ∙ ap (λ stack. handle_in (slice_get (reverse stack) c.args.depth)) c.deref.ensures.value) in
-    let (node, has, is) = c.last_parameters.ensures in
+    let (node, has, is) = c.parameters_of.ensures in
     is
     ∙ sym (node_parameters-seen c.self.inside.names.now c.self.inside.unit c.self.invariant.first c.each_node_stands_for_one_tree.ensures.order c.in-Some.declarator node has)
     ∙ sym (ap (λ value. own_parameters (parts_below value))

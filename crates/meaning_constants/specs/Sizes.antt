@@ -1,8 +1,10 @@
 -- The sizes, alignments and offsets that expressions ask for (C11 6.5.3.4, 7.19 p3).
-use Rattle.std.specs.Prelude.{ℕ, ◌+◌, ◌*◌, ℤ, pos, nat_le, Option, Some, None, List, [], ◌∷◌, Result, Ok, Err, option_map, if◌then◌else◌}
+use Rattle.std.specs.Prelude.{ℕ, ◌+◌, ◌*◌, ◌/◌, ℤ, pos, nat_le, Bool, Option, Some, None, List, [], ◌∷◌, Result, Ok, Err, option_map, if◌then◌else◌}
 use Rattle.meaning_types.specs.Types.{TypeTree, Typed, VoidTree, ArrayTree, FunctionTree, AggregateTree}
-use Rattle.meaning_layout.specs.Layouts.{LayoutFault, most_bytes}
+use Rattle.meaning_layout.specs.Layouts.{Layout, LayoutFault, most_bytes}
+use Rattle.meaning_layout.specs.Members.{FoundMember, Names, member_bits, named_member}
 use Rattle.meaning_layout.specs.Sizes.{Extent, Told, scalar, extent_of_base}
+use Rattle.meaning_layout.specs.Telling.{or_incomplete}
 
 -- Sizes and alignments
 
@@ -38,10 +40,24 @@ pub record ObjectPart : Type 0 where
   pub bytes : ℕ
   pub of : TypeTree
 
--- the members of the aggregates that were told: where each begins in its aggregate, and its type, by the aggregate's number
--- and the member's name
+-- the members of the aggregates that were told: where each begins in its aggregate, and its type, by the aggregate's number,
+-- whether it is a union, and the member's name
 abbrev pub Members : Type 0 → Type 0
-Members Name = ℕ → Name → Option ObjectPart
+Members Name = ℕ → (is_union : Bool) → Name → Option ObjectPart
+
+-- a member that begins at a bit, one of a bit-field too
+abbrev pub part_at_bit : Option ℕ → TypeTree → Option ObjectPart
+part_at_bit None of = None
+part_at_bit (Some bit) of = Some (record { bytes = bit / 8; of = of })
+
+abbrev pub part_found : Result Layout LayoutFault → Option FoundMember → Option ObjectPart
+part_found layout None = None
+part_found layout (Some found) = part_at_bit (member_bits layout found) found.of
+
+-- by the names and the layouts that were told
+abbrev pub members_by : {Name : Type 0} → Told → (Name → Name → Bool) → (ℕ → Names Name) → Members Name
+members_by told are_equal names number is_union name =
+    part_found (or_incomplete (told number is_union)) (named_member are_equal (names number) name)
 
 -- a step from an object to a part of it (6.7.9 p6, p7)
 pub data Designator (Name : Type 0) : Type 0 where
@@ -65,7 +81,7 @@ element_spot bytes element (Some size) index = spot_within (bytes + index * size
 
 -- where a designator leads from an object of this type; an index may lie behind the last element, and not before the first
 abbrev pub designated : {Name : Type 0} → Told → Members Name → Designator Name → (bytes : ℕ) → TypeTree → Option ObjectPart
-designated told members (NamedMember name) bytes (Typed (AggregateTree number is_union) _ _) = spot_behind bytes (members number name)
+designated told members (NamedMember name) bytes (Typed (AggregateTree number is_union) _ _) = spot_behind bytes (members number is_union name)
 designated told members (ElementAt (Some (pos index))) bytes (Typed (ArrayTree element length) _ _) =
     element_spot bytes element (asked_size told element) index
 designated told members designator bytes of = None

@@ -7,11 +7,12 @@ use Rattle.meaning_types.specs.Types.{TypeTree, pointer_to}
 use Rattle.meaning_types.specs.examples.Types.{plain}
 use Rattle.meaning_types.specs.examples.Derived.{void, array_of, function_type, structure_at}
 use Rattle.meaning_layout.specs.Layouts.{Layout, TooLarge}
+use Rattle.meaning_layout.specs.Members.{DeclaredMember, Names, names_of_members, no_names}
 use Rattle.meaning_layout.specs.Sizes.{Told}
 use Rattle.meaning_constants.specs.Constants.{Constant, Part}
 use Rattle.meaning_constants.specs.Bits.{bits_of_number, number_of_bits}
 use Rattle.meaning_constants.specs.Nodes.{NodeFacts, loaded_type, node_constant}
-use Rattle.meaning_constants.specs.Sizes.{Sizes, Members, Designator, NamedMember, ElementAt, sizes_by, offset_along}
+use Rattle.meaning_constants.specs.Sizes.{Sizes, Members, Designator, NamedMember, ElementAt, members_by, sizes_by, offset_along}
 use Rattle.meaning_constants.specs.examples.Constants.{is, le16}
 
 -- What is known
@@ -23,11 +24,15 @@ pair_layout = record { first_bits = 0 ∷ 32 ∷ []; size = 12; align = 4 }
 abbrev pub told : Told
 told number is_union = if nat_eq number 1 then Some (Ok pair_layout) else (if nat_eq number 2 then Some (Err TooLarge) else None)
 
--- its members, whose names are numbers here
+-- their members, whose names are numbers here
+abbrev pub member_called : ℕ → TypeTree → DeclaredMember ℕ
+member_called name of = record { name = Some name; of = of; width = None }
+
+abbrev pub names : ℕ → Names ℕ
+names aggregate = names_of_members told no_names 0 (member_called 0 (plain kinds.Int) ∷ member_called 1 (array_of (plain kinds.Int) (Some 2)) ∷ [])
+
 abbrev pub members : Members ℕ
-members aggregate name =
-    if nat_eq name 0 then Some (record { bytes = 0; of = plain kinds.Int })
-    else (if nat_eq name 1 then Some (record { bytes = 4; of = array_of (plain kinds.Int) (Some 2) }) else None)
+members = members_by told nat_eq names
 
 abbrev pub pair : TypeTree
 pair = structure_at 1
@@ -140,6 +145,8 @@ pub record SizeExamples : Type 0 where
       ≡ byte_count 8 ∷ byte_count 32 ∷ byte_count 0 ∷ []
   -- a member of an element lies behind the elements before it
   pub offset_of_element : offset_along told members (array_of pair (Some 3)) (ElementAt (Some (pos 2)) ∷ NamedMember 1 ∷ []) ≡ Some 28
+  -- where an aggregate has no layout, its members lie nowhere
+  pub no_layout : map (λ of. offset_along told members of (NamedMember 0 ∷ [])) (structure_at 2 ∷ structure_at 3 ∷ []) ≡ None ∷ None ∷ []
   pub no_offset :
       HaveNoConstant
       (map offset_in_pair

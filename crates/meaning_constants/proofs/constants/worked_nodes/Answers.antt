@@ -29,6 +29,7 @@ returns-clause-sizes c = record {
   no_size = refl;
   offsets = refl;
   offset_of_element = refl;
+  no_layout = refl;
   no_offset = refl;
 }
 

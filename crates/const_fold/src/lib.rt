@@ -23,4 +23,5 @@ pub use folded::Folded;
 pub use folding::{fold, fold_measured};
 pub use known::{loaded_kind, part_of};
 pub use measured::measuring_is_enough;
+pub use number::{converted, wrapped};
 pub use part::{Part, PartType};

@@ -4,3 +4,4 @@ pub mod WayLemmas
 pub mod OutlineLemmas
 pub mod KnownLemmas
 pub mod MeasureLemmas
+pub mod OffsetLemmas

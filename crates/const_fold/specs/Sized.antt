@@ -1,5 +1,4 @@
--- The constant of a node by the layouts of a table of types. How far a member lies is told besides, since a table knows members by
--- their numbers.
+-- The constant of a node by the layouts and the members of a table of types.
 use Rattle.std.specs.Prelude.{ℕ, Bool, true, false, List, Option, Some, None}
 use Rattle.sparse_model.specs.declared.ids.NameId.{NameId}
 use Rattle.meaning_tree.specs.Nodes.{TreeNode, NodeList}
@@ -12,18 +11,20 @@ use Rattle.meaning_constants.specs.Constants.{Constant}
 use Rattle.meaning_constants.specs.Nodes.{node_constant}
 use Rattle.meaning_constants.specs.Sizes.{Sizes, sizes_by}
 use Rattle.const_fold.specs.Known.{node_at, node_facts}
+use Rattle.const_fold.specs.Offsets.{offset_of_node}
 
 -- the sizes and alignments that types have by the layouts of a table
 abbrev pub sizes_in : TypeTable → Sizes
 sizes_in table = sizes_by (told_in table)
 
--- a node's constant, where a `__builtin_offsetof` leads so far on
-abbrev pub sized_constant : NodeList NameId → TypeTable → List (Option NodeType) → (offset : Option ℕ) → Option (TreeNode NameId) → Option Constant
-sized_constant unit table kept offset None = None
-sized_constant unit table kept offset (Some node) = node_constant (sizes_in table) (node_facts unit table kept offset node)
+-- a node's constant, where a `__builtin_offsetof` leads as far as its designators
+abbrev pub sized_constant : NodeList NameId → TypeTable → List (Option NodeType) → Option (TreeNode NameId) → Option Constant
+sized_constant unit table kept None = None
+sized_constant unit table kept (Some node) =
+    node_constant (sizes_in table) (node_facts unit table kept (offset_of_node unit table kept node) node)
 
-abbrev pub sized_constant_at : NodeList NameId → TypeTable → List (Option NodeType) → (offset : Option ℕ) → ℕ → Option Constant
-sized_constant_at unit table kept offset handle = sized_constant unit table kept offset (node_at unit handle)
+abbrev pub sized_constant_at : NodeList NameId → TypeTable → List (Option NodeType) → ℕ → Option Constant
+sized_constant_at unit table kept handle = sized_constant unit table kept (node_at unit handle)
 
 -- void and a function, which have one byte
 abbrev pub has_one_byte : Outline → Bool

@@ -45,15 +45,15 @@ pub fn fold_measured(
     answer_of(constant_of(facts_of(unit, types, nodes, bytes, unit.node(e))))
 }
 
-/// The constant of a node by the layouts of its unit's types (C11 6.6). Types and constants of its parts, and of the
-/// enumerator that it names, stand in `nodes` by their handles. Of a `__builtin_offsetof` alone `offset` is asked: how far
-/// the member lies to which it leads, if it leads to one. It takes no memory, and one step.
-pub fn fold(unit: &Unit, types: &Types, nodes: &NodeTypes, offset: Option<u64>, e: Handle) -> Folded
+/// The constant of a node by the layouts and the members of its unit's types (C11 6.6). Types and constants of its parts,
+/// of the indices of designators, and of the enumerator that it names, stand in `nodes` by their handles. It takes no
+/// memory, and one step; of a `__builtin_offsetof` one for each designator.
+pub fn fold(unit: &Unit, types: &Types, nodes: &NodeTypes, e: Handle) -> Folded
     requires whole { unit.now.first ≡ 0 }
     requires node { e < end_of unit.now }
     requires kept { All (IsKnownNode types.now) nodes.now }
-    ensures { result ≡ folded_answer (sized_constant_at unit.now types.now nodes.now offset e) }
+    ensures { result ≡ folded_answer (sized_constant_at unit.now types.now nodes.now e) }
 {
-    let bytes = bytes_of(types, nodes, offset, unit.node(e));
+    let bytes = bytes_of(unit, types, nodes, unit.node(e));
     fold_measured(unit, types, nodes, bytes, e)
 }

@@ -95,8 +95,8 @@ pub fn part_of(types: &Types, node: NodeType) -> Part
     }
 }
 
-// What the node with this handle is as a part of another, if it has a type.
-fn part_at(types: &Types, nodes: &NodeTypes, handle: Handle) -> Option<Part>
+/// What the node with this handle is as a part of another, if it has a type.
+pub fn part_at(types: &Types, nodes: &NodeTypes, handle: Handle) -> Option<Part>
     requires { All (IsKnownNode types.now) nodes.now }
     ensures { option_map seen_part result ≡ option_map outlined_part (known.part_at types.now nodes.now handle) }
 {

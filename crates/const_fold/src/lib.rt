@@ -13,6 +13,7 @@ mod folding;
 mod known;
 mod measured;
 mod number;
+mod offset;
 mod operation;
 mod operator;
 mod part;

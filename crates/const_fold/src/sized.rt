@@ -1,7 +1,5 @@
 // The bytes that a node asks for, by the layouts of types.
 ghost use Rattle.std.specs.Prelude.{◌≡◌, ◌∷◌, [], All};
-ghost use Rattle.sparse_model.specs.declared.ids.NameId.{NameId};
-ghost use Rattle.meaning_tree.specs.Nodes.{NodeList};
 ghost use Rattle.meaning_constants.specs.Nodes.{fold_of};
 ghost use Rattle.meaning_constants.specs.Sizes as sizes;
 ghost use Rattle.c_tree.specs.Seen.{node_of};
@@ -9,14 +7,16 @@ ghost use Rattle.c_types.specs.Layouts.{told_in};
 ghost use Rattle.c_types.specs.Table.{IsTypeId, type_at};
 ghost use Rattle.const_fold.specs.Known.{IsKnownNode, node_facts, part_at};
 ghost use Rattle.const_fold.specs.Measured.{bytes_asked, measure_of_only};
+ghost use Rattle.const_fold.specs.Offsets.{offset_of_node};
 ghost use Rattle.const_fold.specs.Outlined.{known_children};
 ghost use Rattle.const_fold.specs.Sized.{has_one_byte, sizes_in};
 
 use crate::children::{Children, children_of};
 use crate::known::kept_at;
+use crate::offset::offset_of_node;
 use crate::way::{Way, way_of};
 use c_layout::{align_of, size_of};
-use c_tree::{Handle, Node};
+use c_tree::{Handle, Node, Unit};
 use c_types::{NodeTypes, Outline, Types};
 use sparse_model::TypeId;
 
@@ -31,8 +31,8 @@ fn has_one_byte(outline: Outline) -> bool
     }
 }
 
-// The size of a type, as `sizeof` asks for it.
-fn asked_size(types: &Types, t: TypeId) -> Option<u64>
+/// The size of a type, as `sizeof` asks for it.
+pub fn asked_size(types: &Types, t: TypeId) -> Option<u64>
     requires { IsTypeId types.now t }
     ensures { result ≡ sizes.asked_size (told_in types.now) (type_at types.now t) }
 {
@@ -101,15 +101,16 @@ fn align_of_only(types: &Types, nodes: &NodeTypes, children: Children) -> Option
     }
 }
 
-/// The bytes that a node asks for: of a `__builtin_offsetof` these.
-pub fn bytes_of(types: &Types, nodes: &NodeTypes, offset: Option<u64>, node: &Node) -> Option<u64>
-    requires { All (IsKnownNode types.now) nodes.now }
-    ensures { (unit : NodeList NameId) → result ≡ bytes_asked (sizes_in types.now) (fold_of node.now.kind) (node_facts unit types.now nodes.now offset (node_of node.now)) }
+/// The bytes that a node asks for: a size, an alignment, or how far the member lies.
+pub fn bytes_of(unit: &Unit, types: &Types, nodes: &NodeTypes, node: &Node) -> Option<u64>
+    requires whole { unit.now.first ≡ 0 }
+    requires kept { All (IsKnownNode types.now) nodes.now }
+    ensures { result ≡ bytes_asked (sizes_in types.now) (fold_of node.now.kind) (node_facts unit.now types.now nodes.now (offset_of_node unit.now types.now nodes.now (node_of node.now)) (node_of node.now)) }
 {
     match way_of(node.kind) {
         Way::Size => size_of_only(types, nodes, children_of(&node.children)),
         Way::Align => align_of_only(types, nodes, children_of(&node.children)),
-        Way::Offset => offset,
+        Way::Offset => offset_of_node(unit, types, nodes, node),
         Way::Nothing => None,
         Way::Literal(_) => None,
         Way::Named => None,

@@ -230,6 +230,18 @@ named_if (Some type_) = NamedType type_
 abbrev pub parameter_fact : UnitNodes → List Fact → (parameter : ℕ) → Fact
 parameter_fact nodes facts parameter = named_if (parameter_type nodes facts parameter)
 
+-- Names of types (6.7.7), and `typeof`
+
+abbrev pub named_type : UnitNodes → List Fact → (name : ℕ) → Option TypeTree
+named_type nodes facts name =
+    if has_declarator nodes name then type_declared (fact_at facts (child_at nodes name 1))
+    else option_map (λ specifiers. specifiers.type_) (specifiers_of nodes facts name)
+
+-- that of a place as it is declared, qualifiers and flags with it: nothing is loaded (our choice)
+abbrev pub type_designated : Fact → Option TypeTree
+type_designated (Expression expression) = Some expression.type_
+type_designated fact = None
+
 -- The limit of the size of an object
 
 -- no aggregate was told

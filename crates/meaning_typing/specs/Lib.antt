@@ -1,4 +1,5 @@
 pub mod Units
+pub mod Operations
 pub mod Surroundings
 pub mod Facts
 pub mod Specifiers

@@ -3,9 +3,14 @@ use Rattle.std.specs.Prelude.{◌≡◌, Bool, true, false, All}
 use Rattle.vocabulary.specs.declared.node_kind.NodeKind.{NodeKind}
 use Rattle.vocabulary.specs.declared.node_kind.NodeKind.TheVariants as kinds
 use Rattle.meaning_typing.specs.Units.{UnitNodes}
+use Rattle.meaning_typing.specs.Operations.{Operation, NoOperation, operation_of}
+
+abbrev pub is_operator : Operation → Bool
+is_operator NoOperation = false
+is_operator operation = true
 
 abbrev pub is_typed_kind : NodeKind → Bool
--- C11 6.7: declarations, specifiers and declarators of arithmetic types, pointers, arrays and functions
+-- C11 6.7: declarations, specifiers and declarators of arithmetic types, pointers, arrays and functions, and names of types
 is_typed_kind kinds.TranslationUnit = true
 is_typed_kind kinds.EmptyDeclaration = true
 is_typed_kind kinds.Declaration = true
@@ -31,6 +36,8 @@ is_typed_kind kinds.SignedSpecifier = true
 is_typed_kind kinds.UnsignedSpecifier = true
 is_typed_kind kinds.BoolSpecifier = true
 is_typed_kind kinds.TypedefName = true
+is_typed_kind kinds.TypeofType = true
+is_typed_kind kinds.TypeofExpression = true
 is_typed_kind kinds.Declarator = true
 is_typed_kind kinds.PointerDeclarator = true
 is_typed_kind kinds.ArrayDeclarator = true
@@ -38,6 +45,7 @@ is_typed_kind kinds.FunctionDeclarator = true
 is_typed_kind kinds.ParenthesizedAttributes = true
 is_typed_kind kinds.Parameter = true
 is_typed_kind kinds.Ellipsis = true
+is_typed_kind kinds.TypeName = true
 is_typed_kind kinds.AttributeList = true
 is_typed_kind kinds.NoderefAttribute = true
 is_typed_kind kinds.AddressSpaceAttribute = true
@@ -62,7 +70,7 @@ is_typed_kind kinds.Call = true
 is_typed_kind kinds.Address = true
 is_typed_kind kinds.Indirection = true
 is_typed_kind kinds.Assignment = true
-is_typed_kind kind = false
+is_typed_kind kind = is_operator (operation_of kind)
 
 abbrev pub AreTyped : UnitNodes → Type 0
 AreTyped nodes = All (λ node. is_typed_kind node.kind ≡ true) nodes

@@ -141,6 +141,8 @@ type_named fact = None
 -- a specifier of this kind names a type, so that no words do (6.7.2 p2)
 abbrev pub names_type : NodeKind → Bool
 names_type kinds.TypedefName = true
+names_type kinds.TypeofType = true
+names_type kinds.TypeofExpression = true
 names_type kind = false
 
 -- the type by what one of them names, or else by the words; where the named one isn't known, none is

@@ -2,11 +2,12 @@
 -- node above.
 use Rattle.std.specs.Prelude.{◌≡◌, ℕ, zero, suc, ◌-◌, ◌<◌, Bool, true, false, ◌&&◌, List, length, get_or, slice_get, Option, Some, None, if◌then◌else◌}
 use Rattle.vocabulary.specs.declared.node_kind.NodeKind.{NodeKind}
-use Rattle.vocabulary.specs.declared.node_kind.NodeKind.TheVariants.{TranslationUnit, FunctionDefinition, ArrayDeclarator, FunctionDeclarator, CompoundStatement, ExpressionStatement, ReturnStatement, ForStatement, Subscript, Call, Address, Indirection, Parenthesized, Assignment}
+use Rattle.vocabulary.specs.declared.node_kind.NodeKind.TheVariants.{TranslationUnit, FunctionDefinition, TypeofExpression, ArrayDeclarator, FunctionDeclarator, CompoundStatement, ExpressionStatement, ReturnStatement, ForStatement, Subscript, Call, Address, Indirection, Parenthesized, Assignment}
 use Rattle.vocabulary.specs.declared.role.Role.{Role}
 use Rattle.vocabulary.specs.declared.role.Role.TheVariants.{Evaluated, Condition, TypePart, Unevaluated}
 use Rattle.vocabulary.specs.Roles.{role_of}
 use Rattle.meaning_typing.specs.Units.{UnitNodes, kind_at, node_at}
+use Rattle.meaning_typing.specs.Operations.{Operation, StepBehind, StepBefore, SizeOperation, CompoundOperation, StatementsOperation, NoOperation, operation_of}
 
 -- what a node wants of a part
 pub data Want : Type 0 where
@@ -37,6 +38,16 @@ pub record Surrounding : Type 0 where
   pub is_evaluated : Bool
   pub around : Around
 
+-- by what an operator does with the operand at this place: it is changed, measured, or a value like most
+abbrev pub wanted_by : Operation → (place : ℕ) → Want
+wanted_by (StepBehind operator) place = ForStore
+wanted_by (StepBefore operator) place = ForStore
+wanted_by (CompoundOperation operator) zero = ForStore
+wanted_by SizeOperation place = ForPlace
+wanted_by StatementsOperation place = ForEffect
+wanted_by NoOperation place = ForNothing
+wanted_by operation place = ForValue
+
 -- by the kind of the node above and the place among its parts
 abbrev pub want_of : NodeKind → (place : ℕ) → Want
 want_of FunctionDefinition place = ForEffect
@@ -51,7 +62,8 @@ want_of Assignment zero = ForStore
 want_of Assignment (suc place) = ForValue
 want_of Parenthesized place = ForPlace
 want_of ArrayDeclarator place = ForValue
-want_of kind place = ForNothing
+want_of TypeofExpression place = ForPlace
+want_of kind place = wanted_by (operation_of kind) place
 
 -- a part of a type is written only
 abbrev pub wanted : NodeKind → (place : ℕ) → Role → Want

@@ -1,5 +1,5 @@
 -- What is known of the nodes of a unit: one sentence for all of them.
-use Rattle.std.specs.Prelude.{◌≡◌, ℕ, ◌<◌, ℤ, Bool, true, false, ◌&&◌, not, List, [], ◌∷◌, ◌++◌, map, length, take, slice_get, Option, Some, None, option_map, if◌then◌else◌}
+use Rattle.std.specs.Prelude.{◌≡◌, ℕ, ◌-◌, ◌<◌, ℤ, nat_lt, Bool, true, false, ◌&&◌, not, List, [], ◌∷◌, ◌++◌, map, length, take, slice_get, Option, Some, None, option_map, if◌then◌else◌}
 use Rattle.vocabulary.specs.declared.node_kind.NodeKind.{NodeKind}
 use Rattle.vocabulary.specs.declared.node_kind.NodeKind.TheVariants as kinds
 use Rattle.vocabulary.specs.declared.rule.RuleCode.{RuleCode}
@@ -11,12 +11,17 @@ use Rattle.meaning_constants.specs.Constants.{Part}
 use Rattle.meaning_constants.specs.Sizes.{Sizes, sizes_by}
 use Rattle.meaning_constants.specs.Nodes.{NodeFacts, node_constant, loaded_type}
 use Rattle.meaning_typing.specs.Units.{UnitNodes, node_at, kind_at, children_at, child_at, children_from}
+use Rattle.meaning_typing.specs.Operations.{Operation, StepBehind, StepBefore, UnaryOperation, NotOperation, SizeOperation, CastOperation, BinaryOperation, LogicalOperation, ConditionalOperation, CompoundOperation, CommaOperation, ExpectOperation, StatementsOperation, NoOperation, operation_of}
 use Rattle.meaning_typing.specs.Surroundings.{Surrounding, Want, ForValue, ForStore, surrounding_at}
 use Rattle.meaning_typing.specs.Facts.{Fact, Expression, Declared, NamedType, ExpressionFact, fact_at, is_loaded}
 use Rattle.meaning_typing.specs.Specifiers.{plain_type, specified}
-use Rattle.meaning_typing.specs.Declarators.{declarator_fact, parameter_fact, specifiers_of, large_in, nothing_told, type_declared, named_if}
+use Rattle.meaning_typing.specs.Declarators.{declarator_fact, parameter_fact, specifiers_of, large_in, nothing_told, type_declared, type_designated, named_if, named_type}
 use Rattle.meaning_typing.specs.Names.{name_row, redeclarations, typedefs_again}
 use Rattle.meaning_typing.specs.Expressions.{Argument, literal_row, string_row, indirection_row, address_row, subscript_row, assignment_row, call_row}
+use Rattle.meaning_typing.specs.Operators.{unary_row, not_row, binary_row, logical_row, comma_row, statement_expression_row}
+use Rattle.meaning_typing.specs.Conditionals.{conditional_row, conditional_without_middle}
+use Rattle.meaning_typing.specs.Changes.{compound_row, step_before_row, step_behind_row}
+use Rattle.meaning_typing.specs.Casts.{is_forced, cast_row, sizeof_row, expect_row}
 use Rattle.meaning_typing.specs.Statements.{result_around, return_row}
 use Rattle.meaning_typing.specs.Rows.{Row, nothing, known, unless_broken, fails_with}
 
@@ -86,6 +91,66 @@ abbrev pub first_fact : List Fact → List ℕ → Option Fact
 first_fact facts [] = None
 first_fact facts (handle ∷ handles) = Some (fact_at facts handle)
 
+-- Operators
+
+abbrev pub part_token : UnitNodes → (handle place : ℕ) → ℕ
+part_token nodes handle place = token_at nodes (child_at nodes handle place)
+
+abbrev pub part_fact : UnitNodes → List Fact → (handle place : ℕ) → Fact
+part_fact nodes facts handle place = fact_at facts (child_at nodes handle place)
+
+-- `?:` has three parts, or two without its middle operand
+abbrev pub has_middle : UnitNodes → (handle : ℕ) → Bool
+has_middle nodes handle = nat_lt 2 (length (node_at nodes handle).children)
+
+abbrev pub conditional_at : UnitNodes → List Fact → (handle : ℕ) → Row
+conditional_at nodes facts handle =
+    if has_middle nodes handle
+    then conditional_row (token_at nodes handle) (part_token nodes handle 0) (part_token nodes handle 1) (part_token nodes handle 2)
+    (part_fact nodes facts handle 0) (part_fact nodes facts handle 1) (part_fact nodes facts handle 2)
+    else conditional_without_middle (token_at nodes handle) (part_token nodes handle 0) (part_token nodes handle 1)
+    (part_fact nodes facts handle 0) (part_fact nodes facts handle 1)
+
+-- the last part of a body; where there is none, a handle that no node has
+abbrev pub last_statement : UnitNodes → (body : ℕ) → ℕ
+last_statement nodes body = child_at nodes body (length (node_at nodes body).children - 1)
+
+-- only an expression statement has a value, if an expression stands in it
+abbrev pub value_of_statement : NodeKind → Option Fact → Option Fact
+value_of_statement kinds.ExpressionStatement value = value
+value_of_statement kind value = None
+
+abbrev pub last_value : UnitNodes → List Fact → (statement : ℕ) → Option Fact
+last_value nodes facts statement = value_of_statement (kind_at nodes statement) (first_fact facts (children_at nodes statement))
+
+abbrev pub operation_row : UnitNodes → List Fact → (handle : ℕ) → Operation → Row
+operation_row nodes facts handle (StepBehind operator) =
+    step_behind_row nothing_told operator (token_at nodes handle) (part_token nodes handle 0) (part_fact nodes facts handle 0)
+operation_row nodes facts handle (StepBefore operator) =
+    step_before_row nothing_told operator (token_at nodes handle) (part_token nodes handle 0) (part_fact nodes facts handle 0)
+operation_row nodes facts handle (UnaryOperation operator) =
+    unary_row operator (token_at nodes handle) (part_token nodes handle 0) (part_fact nodes facts handle 0)
+operation_row nodes facts handle NotOperation = not_row (token_at nodes handle) (part_token nodes handle 0) (part_fact nodes facts handle 0)
+operation_row nodes facts handle SizeOperation = sizeof_row nothing_told (token_at nodes handle) (part_fact nodes facts handle 0)
+operation_row nodes facts handle CastOperation =
+    cast_row (token_at nodes handle) (is_forced nodes (child_at nodes handle 0)) (part_fact nodes facts handle 0) (part_fact nodes facts handle 1)
+operation_row nodes facts handle (BinaryOperation operator) =
+    binary_row nothing_told operator (token_at nodes handle) (part_token nodes handle 0) (part_token nodes handle 1)
+    (part_fact nodes facts handle 0) (part_fact nodes facts handle 1)
+operation_row nodes facts handle (LogicalOperation operator) =
+    logical_row operator (token_at nodes handle) (part_token nodes handle 0) (part_token nodes handle 1)
+    (part_fact nodes facts handle 0) (part_fact nodes facts handle 1)
+operation_row nodes facts handle ConditionalOperation = conditional_at nodes facts handle
+operation_row nodes facts handle (CompoundOperation operator) =
+    compound_row nothing_told operator (token_at nodes handle) (part_token nodes handle 0) (part_token nodes handle 1)
+    (part_fact nodes facts handle 0) (part_fact nodes facts handle 1)
+operation_row nodes facts handle CommaOperation = comma_row (part_fact nodes facts handle 1)
+operation_row nodes facts handle ExpectOperation =
+    expect_row (part_token nodes handle 0) (part_token nodes handle 1) (part_fact nodes facts handle 0) (part_fact nodes facts handle 1)
+operation_row nodes facts handle StatementsOperation =
+    statement_expression_row (last_value nodes facts (last_statement nodes (child_at nodes handle 0)))
+operation_row nodes facts handle NoOperation = nothing
+
 -- The row of a node by its kind, over what is known of the nodes before it
 abbrev pub row_of : UnitNodes → List Surrounding → List Fact → (handle : ℕ) → NodeKind → Row
 -- 6.7
@@ -93,6 +158,9 @@ row_of nodes surroundings facts handle kinds.Specifiers = known (specified nodes
 row_of nodes surroundings facts handle kinds.TypedefName = known (named_if (type_declared (fact_at facts (node_at nodes handle).number)))
 row_of nodes surroundings facts handle kinds.Declarator = declarator_row nodes surroundings facts handle (surrounding_at surroundings handle)
 row_of nodes surroundings facts handle kinds.Parameter = known (parameter_fact nodes facts handle)
+row_of nodes surroundings facts handle kinds.TypeName = known (named_if (named_type nodes facts handle))
+row_of nodes surroundings facts handle kinds.TypeofType = known (fact_at facts (child_at nodes handle 0))
+row_of nodes surroundings facts handle kinds.TypeofExpression = known (named_if (type_designated (fact_at facts (child_at nodes handle 0))))
 -- 6.5.1
 row_of nodes surroundings facts handle kinds.Name = name_row facts (fact_at facts (node_at nodes handle).number)
 row_of nodes surroundings facts handle (kinds.IntegerConstant kind) = literal_row (plain_type (IntegerTree kind))
@@ -118,7 +186,8 @@ row_of nodes surroundings facts handle kinds.Assignment =
 row_of nodes surroundings facts handle kinds.ReturnStatement =
     return_row (token_at nodes handle) (token_at nodes (child_at nodes handle 0)) (first_fact facts (children_at nodes handle))
     (result_around nodes facts (surrounding_at surroundings handle).around.function)
-row_of nodes surroundings facts handle kind = nothing
+-- 6.5.2.4, 6.5.3 to 6.5.17
+row_of nodes surroundings facts handle kind = operation_row nodes facts handle (operation_of kind)
 
 abbrev pub row_at : UnitNodes → List Surrounding → (earlier : List Fact) → (handle : ℕ) → Row
 row_at nodes surroundings earlier handle =

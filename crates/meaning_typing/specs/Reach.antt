@@ -7,7 +7,7 @@ use Rattle.meaning_typing.specs.Operations.{Operation, NoOperation, operation_of
 
 abbrev pub is_operator : Operation → Bool
 is_operator NoOperation = false
-is_operator operation = true
+is_operator other = true
 
 abbrev pub is_typed_kind : NodeKind → Bool
 -- C11 6.7: declarations, specifiers and declarators of arithmetic types, pointers, arrays and functions, and names of types

@@ -46,7 +46,7 @@ wanted_by (CompoundOperation operator) zero = ForStore
 wanted_by SizeOperation place = ForPlace
 wanted_by StatementsOperation place = ForEffect
 wanted_by NoOperation place = ForNothing
-wanted_by operation place = ForValue
+wanted_by other place = ForValue
 
 -- by the kind of the node above and the place among its parts
 abbrev pub want_of : NodeKind → (place : ℕ) → Want

@@ -4,7 +4,10 @@ use Rattle.sparse_model.specs.declared.ids.NameId.{NameId}
 use Rattle.meaning_tree.specs.Nodes.{NodeList}
 use Rattle.meaning_tree.specs.Listed.{renamed_node}
 use Rattle.meaning_typing.specs.Units.{UnitNodes}
+use Rattle.meaning_typing.specs.Operations as operations
 use Rattle.meaning_typing.specs.Surroundings as meaning
+use Rattle.node_surroundings.specs.declared.operation.Operation.{Operation}
+use Rattle.node_surroundings.specs.declared.operation.Operation.TheVariants as seen
 use Rattle.node_surroundings.specs.declared.surrounding.Want.{Want}
 use Rattle.node_surroundings.specs.declared.surrounding.Want.TheVariants as wants
 use Rattle.node_surroundings.specs.declared.surrounding.Around.{Around}
@@ -16,6 +19,22 @@ want_seen wants.ForStore = meaning.ForStore
 want_seen wants.ForPlace = meaning.ForPlace
 want_seen wants.ForEffect = meaning.ForEffect
 want_seen wants.ForNothing = meaning.ForNothing
+
+abbrev pub operation_seen : Operation → operations.Operation
+operation_seen (seen.StepBehind operator) = operations.StepBehind operator
+operation_seen (seen.StepBefore operator) = operations.StepBefore operator
+operation_seen (seen.Unary operator) = operations.UnaryOperation operator
+operation_seen seen.Not = operations.NotOperation
+operation_seen seen.Size = operations.SizeOperation
+operation_seen seen.Cast = operations.CastOperation
+operation_seen (seen.Binary operator) = operations.BinaryOperation operator
+operation_seen (seen.Logical operator) = operations.LogicalOperation operator
+operation_seen seen.Conditional = operations.ConditionalOperation
+operation_seen (seen.Compound operator) = operations.CompoundOperation operator
+operation_seen seen.Comma = operations.CommaOperation
+operation_seen seen.Expect = operations.ExpectOperation
+operation_seen seen.Statements = operations.StatementsOperation
+operation_seen seen.Nothing = operations.NoOperation
 
 abbrev pub around_seen : Around → meaning.Around
 around_seen around = record { function = around.function; scope = around.scope }

@@ -1,11 +1,14 @@
 // What a node asks of a part, by its kind and by the place and the role of the part.
 ghost use Rattle.std.specs.Prelude.{◌≡◌};
 ghost use Rattle.vocabulary.specs.declared.node_kind.NodeKind.TheVariants as kinds;
+ghost use Rattle.vocabulary.specs.declared.operator.Operator.{Operator};
 ghost use Rattle.vocabulary.specs.declared.role.Role.TheVariants as parts;
 ghost use Rattle.vocabulary.specs.Roles as roles;
+ghost use Rattle.meaning_typing.specs.Operations as operations;
 ghost use Rattle.meaning_typing.specs.Surroundings as meaning;
-ghost use Rattle.node_surroundings.specs.Seen.{around_seen, surrounding_seen, want_seen};
+ghost use Rattle.node_surroundings.specs.Seen.{around_seen, operation_seen, surrounding_seen, want_seen};
 
+use crate::operation::{Operation, operation_of};
 use crate::surrounding::{Around, Surrounding, Want};
 use c_tree::Handle;
 use sparse_model::{NodeKind, Role};
@@ -24,11 +27,34 @@ pub fn role_of(tag: u8) -> Role
 
 // The left side of an assignment is stored to (C11 6.5.16 p3).
 fn want_of_side(place: u32) -> Want
-    ensures { want_seen result ≡ meaning.want_of kinds.Assignment place }
+    ensures simple { want_seen result ≡ meaning.want_of kinds.Assignment place }
+    ensures compound { (operator : Operator) → want_seen result ≡ meaning.wanted_by (operations.CompoundOperation operator) place }
 {
     match place {
         0 => Want::ForStore,
         _ => Want::ForValue,
+    }
+}
+
+// What is wanted of the operand at this place.
+fn wanted_by(operation: Operation, place: u32) -> Want
+    ensures { want_seen result ≡ meaning.wanted_by (operation_seen operation) place }
+{
+    match operation {
+        Operation::StepBehind(_) => Want::ForStore,
+        Operation::StepBefore(_) => Want::ForStore,
+        Operation::Unary(_) => Want::ForValue,
+        Operation::Not => Want::ForValue,
+        Operation::Size => Want::ForPlace,
+        Operation::Cast => Want::ForValue,
+        Operation::Binary(_) => Want::ForValue,
+        Operation::Logical(_) => Want::ForValue,
+        Operation::Conditional => Want::ForValue,
+        Operation::Compound(_) => want_of_side(place),
+        Operation::Comma => Want::ForValue,
+        Operation::Expect => Want::ForValue,
+        Operation::Statements => Want::ForEffect,
+        Operation::Nothing => Want::ForNothing,
     }
 }
 
@@ -48,7 +74,8 @@ fn want_of(kind: NodeKind, place: u32) -> Want
         NodeKind::Assignment => want_of_side(place),
         NodeKind::Parenthesized => Want::ForPlace,
         NodeKind::ArrayDeclarator => Want::ForValue,
-        _ => Want::ForNothing,
+        NodeKind::TypeofExpression => Want::ForPlace,
+        _ => wanted_by(operation_of(kind), place),
     }
 }
 

@@ -7,6 +7,7 @@
 #![tactic(auto)]
 
 mod asking;
+mod operation;
 mod pass;
 mod settings;
 mod standing;
@@ -14,6 +15,7 @@ mod surrounding;
 #[cfg(test)]
 mod tests;
 
+pub use operation::{Operation, operation_of};
 pub use pass::surroundings_of;
 pub use standing::Surroundings;
 pub use surrounding::{Around, Surrounding, Want};

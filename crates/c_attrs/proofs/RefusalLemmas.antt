@@ -3,12 +3,10 @@ use Rattle.std.proofs.Common.{◌≡◌, ◌↔◌, ◌+◌, ℕ, length, Bool, 
 use Rattle.std.specs.List.{list_any}
 use Rattle.meaning_text.specs.Tokens.{Tok}
 use Rattle.meaning_attributes.specs.Attributes.{Attributes}
-use Rattle.meaning_attributes.specs.Meanings.{Meaning, Means, MeansNothing, IsBad, PassesLimit, BadSpace, BadContext, BadAlign}
+use Rattle.meaning_attributes.specs.Meanings.{Meaning, Means, MeansNothing, IsBad, PassesLimit}
 use Rattle.meaning_attributes.specs.Pieces.{comma_pieces}
 use Rattle.meaning_attributes.specs.Items.{meaning_of}
-use Rattle.meaning_attributes.specs.Reading.{Refusal, HasBad, HasLimit, attributes_read, bad_or, first_bad, passes_limit, unless_bad, with_items, word_index}
-use Rattle.c_attrs.specs.declared.fault.AttrFault.{AttrFault}
-use Rattle.c_attrs.specs.declared.fault.AttrFault.TheVariants.{Memory}
+use Rattle.meaning_attributes.specs.Reading.{Refusal, HasLimit, attributes_read, bad_or, first_bad, passes_limit, unless_bad, with_items, word_index}
 use Rattle.c_attrs.specs.Seen.{fault_telling}
 use Rattle.c_attrs.specs.Parts.{first_of, refusal_in, refusal_of}
 
@@ -31,47 +29,9 @@ pub refusal_in-read : (before : Attributes) (tokens : List Tok) → refusal_in (
 refusal_in-read before tokens =
     ap refusal_in (attributes_read-unless before tokens) ∙ refusal_in-unless (refusal_of (comma_pieces tokens)) (with_items before (comma_pieces tokens))
 
--- each refusal has a fault of its own, which isn't want of memory
-fault_telling-apart : (refusal other : Refusal) → fault_telling refusal ≡ fault_telling other → refusal ≡ other
-fault_telling-apart HasLimit HasLimit same = refl
-fault_telling-apart HasLimit (HasBad BadSpace index) same = cc
-fault_telling-apart HasLimit (HasBad BadContext index) same = cc
-fault_telling-apart HasLimit (HasBad BadAlign index) same = cc
-fault_telling-apart (HasBad BadSpace index) HasLimit same = cc
-fault_telling-apart (HasBad BadContext index) HasLimit same = cc
-fault_telling-apart (HasBad BadAlign index) HasLimit same = cc
-fault_telling-apart (HasBad BadSpace index) (HasBad BadSpace other) same = let is : index ≡ other = cc in ap (HasBad BadSpace) is
-fault_telling-apart (HasBad BadSpace index) (HasBad BadContext other) same = cc
-fault_telling-apart (HasBad BadSpace index) (HasBad BadAlign other) same = cc
-fault_telling-apart (HasBad BadContext index) (HasBad BadSpace other) same = cc
-fault_telling-apart (HasBad BadContext index) (HasBad BadContext other) same = let is : index ≡ other = cc in ap (HasBad BadContext) is
-fault_telling-apart (HasBad BadContext index) (HasBad BadAlign other) same = cc
-fault_telling-apart (HasBad BadAlign index) (HasBad BadSpace other) same = cc
-fault_telling-apart (HasBad BadAlign index) (HasBad BadContext other) same = cc
-fault_telling-apart (HasBad BadAlign index) (HasBad BadAlign other) same = let is : index ≡ other = cc in ap (HasBad BadAlign) is
-
-pub fault_telling-no_memory : (refusal : Refusal) → fault_telling refusal ≡ Memory → ⊥
-fault_telling-no_memory HasLimit same = cc
-fault_telling-no_memory (HasBad BadSpace index) same = cc
-fault_telling-no_memory (HasBad BadContext index) same = cc
-fault_telling-no_memory (HasBad BadAlign index) same = cc
-
--- a fault that was found tells the refusal
-pub told-found : (found : Option Refusal) (attributes : Attributes) (fault : AttrFault) → Some fault ≡ option_map fault_telling found → (refusal : Refusal) → (fault ≡ fault_telling refusal) ↔ (unless_bad found attributes ≡ Err refusal)
-told-found None attributes fault is refusal = cc
-told-found (Some other) attributes fault is refusal =
-    let same : fault ≡ fault_telling other = cc in (
-      λ told. ap Err (fault_telling-apart other refusal (sym same ∙ told)),
-      λ refused. let is_that : other ≡ refusal = cc in same ∙ ap fault_telling is_that,
-    )
-
 -- the limit of one item is that of the list
 pub any-behind : (item : List Tok) (items : List (List Tok)) → passes_limit (meaning_of item) ≡ false → list_any (λ other. passes_limit (meaning_of other)) (item ∷ items) ≡ list_any (λ other. passes_limit (meaning_of other)) items
 any-behind item items passes = rw passes refl
-
-pub first_of-none : (found : Option Refusal) → first_of found None ≡ found
-first_of-none None = refl
-first_of-none (Some refusal) = refl
 
 -- what was found up to an item goes before what is found behind it
 pub first_of-behind : (found : Option Refusal) (meaning : Meaning) (index : ℕ) (later : Option Refusal) → first_of found (bad_or meaning index later) ≡ first_of (first_of found (bad_or meaning index None)) later

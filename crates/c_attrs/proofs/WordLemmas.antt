@@ -14,10 +14,6 @@ failing : (test : Bool) → (test ≡ true → ⊥) → test ≡ false
 failing true fails = absurd (fails refl)
 failing false fails = refl
 
--- a text that nothing between underscores is isn't a word between them
-pub named-none : (text word : List ℕ) → ((plain : List ℕ) → text ≢ codes "__" ++ plain ++ codes "__") → bytes_eq text (codes "__" ++ word ++ codes "__") ≡ false
-named-none text word none = failing _ (λ same. none word ((bytes_eq-Decides text (codes "__" ++ word ++ codes "__")).0 same))
-
 -- what stands between underscores is compared with the word
 pub named-some : (text plain word : List ℕ) → text ≡ codes "__" ++ plain ++ codes "__" → bytes_eq text (codes "__" ++ word ++ codes "__") ≡ bytes_eq plain word
 named-some text plain word is =

@@ -1,10 +1,10 @@
 -- A parameter is bound by the name of its declarator.
-use Rattle.std.proofs.Common.{◌≡◌, ℕ, List, [], ◌∷◌, Some, None, refl, sym, ap}
+use Rattle.std.proofs.Common.{◌≡◌, ℕ, List, [], ◌∷◌, Some, sym, ap}
 use Rattle.std.proofs.lemmas.Option.{same_Some}
 use Rattle.vocabulary.specs.declared.scope.Bound.TheVariants.{Unlinked}
 use Rattle.meaning_tree.specs.Trees.{Node, Parts, NoParts, Part}
 use Rattle.meaning_derivation.specs.Values.{Value}
-use Rattle.meaning_derivation.specs.State.{State, Goes}
+use Rattle.meaning_derivation.specs.State.{State}
 use Rattle.meaning_derivation.specs.Scoping.{declared_at, parameter_bound}
 use Rattle.parse_state.specs.Declaring.{first_name}
 
@@ -14,8 +14,3 @@ parameter_named s specifiers NoParts name token is = absurd (cc is)
 parameter_named s specifiers (Part role (Node kind at [] number parts) others) name token is = absurd (cc is)
 parameter_named s specifiers (Part role (Node kind at (byte ∷ bytes) number parts) others) name token is =
     ap (λ (told : List ℕ × ℕ). declared_at s told.0 told.1 Unlinked) (sym (same_Some _ _ is))
-
-pub parameter_unnamed : (s : State) (specifiers : Value) (parts : Parts (List ℕ)) → None ≡ first_name parts → parameter_bound s specifiers parts ≡ Goes s
-parameter_unnamed s specifiers NoParts is = refl
-parameter_unnamed s specifiers (Part role (Node kind at [] number parts) others) is = refl
-parameter_unnamed s specifiers (Part role (Node kind at (byte ∷ bytes) number parts) others) is = absurd (cc is)

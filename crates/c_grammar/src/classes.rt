@@ -41,14 +41,14 @@ pub(crate) fn begins_type(class: TokenClass) -> bool
 }
 
 /// A name, whatever it is bound to.
-pub(crate) fn is_name(class: TokenClass) -> bool
+pub fn is_name(class: TokenClass) -> bool
     ensures { result ≡ is_among names class }
 {
     matches!(class, TokenClass::Identifier | TokenClass::TypedefName)
 }
 
 /// The word of an attribute.
-pub(crate) fn is_attribute_word(class: TokenClass) -> bool
+pub fn is_attribute_word(class: TokenClass) -> bool
     ensures { result ≡ is_among attribute_words class }
 {
     match class {

@@ -13,6 +13,6 @@ mod rows;
 mod table;
 
 pub use choice::choose;
-pub use classes::begins_expression;
+pub use classes::{begins_expression, is_attribute_word, is_name};
 pub use production::Production;
 pub use table::productions_of;

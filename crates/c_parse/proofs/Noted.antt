@@ -1,6 +1,5 @@
 -- What was noted goes before what comes, or lets it go on.
-use Rattle.std.proofs.Common.{◌≡◌, ℕ, ◌<◌, ◌≤◌, Bool, true, false, List, [], ◌∷◌, drop, slice_get, Option, Some, None, refl, sym, ap, ◌∙◌, if◌then◌else◌, nat_lt, arith}
-use Rattle.std.proofs.lemmas.Bool.Decides.{nat_tests}
+use Rattle.std.proofs.Common.{◌≡◌, ℕ, ◌<◌, ◌≤◌, Bool, true, List, [], ◌∷◌, drop, slice_get, Option, Some, None, refl, sym, ap, ◌∙◌, if◌then◌else◌}
 use Rattle.std.proofs.lemmas.Bool.{lt-ltb}
 use Rattle.vocabulary.specs.declared.production_item.ProductionItem.{ProductionItem}
 use Rattle.vocabulary.specs.declared.token_class.TokenClass.{TokenClass}
@@ -24,24 +23,9 @@ limit_told passed found taken otherwise is before =
     ap (λ one. behind_limit one taken otherwise) (sym is)
     ∙ ap (λ (test : Bool). if test then Fails (PassesLimit found.limit) found.terminal found.terminal else otherwise) (lt-ltb found.terminal taken before)
 
-not_before : (first second : ℕ) (test : Bool) → nat_lt first second ≡ test → second ≤ first → test ≡ false
-not_before first second test is behind = grind (arith, nat_tests, is, behind)
-
-pub limit_later : (passed : Option Passed) (found : PassedLimit) (taken : ℕ) (otherwise : Outcome) → Some (passed_of found) ≡ passed → taken ≤ found.terminal
-    → behind_limit passed taken otherwise ≡ otherwise
-limit_later passed found taken otherwise is behind =
-    ap (λ one. behind_limit one taken otherwise) (sym is)
-    ∙ ap (λ (test : Bool). if test then Fails (PassesLimit found.limit) found.terminal found.terminal else otherwise) (not_before found.terminal taken _ refl behind)
-
-pub limit_none : (passed : Option Passed) (taken : ℕ) (otherwise : Outcome) → None ≡ passed → behind_limit passed taken otherwise ≡ otherwise
-limit_none passed taken otherwise is = ap (λ one. behind_limit one taken otherwise) (sym is)
-
 pub held_told : (held : Option Held) (found : HeldError) (taken : ℕ) (otherwise : Outcome) → Some (held_of found) ≡ held
     → unless_held held taken otherwise ≡ Fails (IsError found.kind) taken found.token
 held_told held found taken otherwise is = ap (λ one. unless_held one taken otherwise) (sym is)
-
-pub held_none : (held : Option Held) (taken : ℕ) (otherwise : Outcome) → None ≡ held → unless_held held taken otherwise ≡ otherwise
-held_none held taken otherwise is = ap (λ one. unless_held one taken otherwise) (sym is)
 
 -- Terminals
 
@@ -67,11 +51,3 @@ noted_told item s terminals look fault is takes_it told =
     told_so (λ outcome. unless_noted s (advanced item s terminals) ≡ outcome) (λ outcome. take_one item s terminals ≡ outcome) fault
     (λ why decided stands fails.
     ap (λ (test : Bool). if test then unless_noted s (advanced item s terminals) else refused_at item s terminals) (ap (takes item) (sym is) ∙ takes_it) ∙ fails) told
-
-pub refused_told : (item : ProductionItem) (s : State) (terminals : List Terminal) (look : TokenClass) (fault : ParseFault) → look ≡ look_of s terminals
-    → takes item look ≡ false → IsTold (λ outcome. refused_at item s terminals ≡ outcome) fault
-    → IsTold (λ outcome. take_one item s terminals ≡ outcome) fault
-refused_told item s terminals look fault is takes_not told =
-    told_so (λ outcome. refused_at item s terminals ≡ outcome) (λ outcome. take_one item s terminals ≡ outcome) fault
-    (λ why decided stands fails.
-    ap (λ (test : Bool). if test then unless_noted s (advanced item s terminals) else refused_at item s terminals) (ap (takes item) (sym is) ∙ takes_not) ∙ fails) told

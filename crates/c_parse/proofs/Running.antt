@@ -30,9 +30,6 @@ pub begins_sorted : (items : List ProductionItem) (s : State) → items ≡ unit
 begins_sorted items s are none =
     ap (λ all. effects all (Some (sorts_of s.values))) are ∙ ap (λ values. effects unit_items (Some (sorts_of values))) none
 
-pub begins_start : (items : List ProductionItem) → items ≡ unit_items → before_end items ≡ start
-begins_start items are = ap before_end are
-
 -- before the first token of a unit
 abbrev pub first_standing : List Tok → Standing
 first_standing tokens = record { items = start; state = state_before tokens; terminals = terminals tokens }

@@ -12,54 +12,8 @@ use Rattle.meaning_derivation.proofs.Stepping.{symbols-append}
 use Rattle.c_parse.specs.Rows.{items_in, waiting, is_short, IsPending, most_waiting}
 use Rattle.c_parse.specs.declared.pending.Row.{Row}
 
--- the last row stands first
-pub items_in-last : (rows others : List Row) (row : Row) → rows ≡ others ++ row ∷ [] → items_in (reverse rows) ≡ row.items.now ++ items_in (reverse others)
-items_in-last rows others row is = ap (λ all. items_in (reverse all)) is ∙ ap items_in (reverse-append others (row ∷ []))
-
-pub waiting-next : (front row : Row) (rows others : List Row) → front.items.now ≡ [] → rows ≡ others ++ row ∷ [] → waiting front rows ≡ waiting row others
-waiting-next front row rows others none is = ap (λ items. items ++ items_in (reverse rows)) none ∙ items_in-last rows others row is
-
--- tests of rows with one more at the end
-short-parts : (rows others : List Row) (row : Row) → rows ≡ others ++ row ∷ [] → list_all is_short rows ≡ true → (list_all is_short others ≡ true) × (is_short row ≡ true)
-short-parts rows others row is all =
-    let halves = and_parts (list_all is_short others) (list_all is_short (row ∷ [])) (sym (ap (list_all is_short) is ∙ list_all-append is_short others (row ∷ [])) ∙ all) in
-    (halves.0, (and_parts (is_short row) true halves.1).0)
-
-pub short-more : (rows others : List Row) (row : Row) → rows ≡ others ++ row ∷ [] → list_all is_short others ≡ true → is_short row ≡ true → list_all is_short rows ≡ true
-short-more rows others row is all one =
-    ap (list_all is_short) is ∙ list_all-append is_short others (row ∷ []) ∙ ap (λ front. front && (is_short row && true)) all ∙ ap (λ test. test && true) one
-
 pub length-more : {X : Type 0} (xs others : List X) (x : X) → xs ≡ others ++ x ∷ [] → length xs ≡ length others + 1
 length-more xs others x is = ap length is ∙ length-append others (x ∷ [])
-
--- the next item is taken off
-pub pending-taken : (front rest : Row) (rows : List Row) (item : ProductionItem) (count less : ℕ) → IsPending front rows count
-    → front.items.now ≡ item ∷ rest.items.now → less ≡ symbols (item ∷ []) → IsPending rest rows (count - less)
-pending-taken front rest rows item count less pending is lesser =
-    let counted = pending.counted ∙ ap (λ items. symbols (items ++ items_in (reverse rows))) is in
-    let split = symbols-append (item ∷ []) (rest.items.now ++ items_in (reverse rows)) in
-    let shorter = ap length is in
-    let short = pending.short in
-    record {
-      counted = omega (arith, counted, split, lesser);
-      short = omega (arith, shorter, short);
-      all_short = pending.all_short;
-      few = pending.few;
-    }
-
--- the next row is opened
-pub pending-opened : (front row : Row) (rows others : List Row) (count : ℕ) → IsPending front rows count → front.items.now ≡ [] → rows ≡ others ++ row ∷ []
-    → IsPending row others count
-pending-opened front row rows others count pending none is =
-    let parts = short-parts rows others row is pending.all_short in
-    let longer = length-more rows others row is in
-    let few = pending.few in
-    record {
-      counted = pending.counted ∙ ap symbols (waiting-next front row rows others none is);
-      short = leb-true _ _ parts.1;
-      all_short = parts.0;
-      few = omega (arith, longer, few);
-    }
 
 -- a row is put before the others
 pub pending-put : (front row : Row) (rows others : List Row) (count more : ℕ) → IsPending front rows count

@@ -1,11 +1,11 @@
 // What is asked of an item alone.
 ghost use Rattle.std.specs.Prelude.{◌≡◌, ◌≤◌, ◌∷◌, [], length};
-ghost use Rattle.meaning_grammar.specs.Classes.{class_number, is_among, is_same};
-ghost use Rattle.meaning_grammar.specs.ClassLists.{attribute_words, names};
+ghost use Rattle.meaning_grammar.specs.Classes.{class_number, is_same};
 ghost use Rattle.meaning_grammar.specs.Items.{is_passed_over, takes};
 ghost use Rattle.meaning_derivation.specs.Derivation.{symbols};
 ghost use Rattle.meaning_derivation.specs.Taking.{keeps};
 
+use c_grammar::{is_attribute_word, is_name};
 use vocabulary::{ProductionItem, TokenClass};
 
 /// How many symbols of the grammar it is: actions and the end aren't counted.
@@ -140,66 +140,6 @@ pub(crate) fn is_same(first: TokenClass, second: TokenClass) -> bool
     ensures { result ≡ is_same first second }
 {
     class_number(first) == class_number(second)
-}
-
-// A name, whatever it is bound to.
-fn is_name(class: TokenClass) -> bool
-    ensures { result ≡ is_among names class }
-{
-    matches!(class, TokenClass::Identifier | TokenClass::TypedefName)
-}
-
-// The word of an attribute.
-fn is_attribute_word(class: TokenClass) -> bool
-    ensures { result ≡ is_among attribute_words class }
-{
-    match class {
-        TokenClass::Identifier
-        | TokenClass::TypedefName
-        | TokenClass::OtherKeyword
-        | TokenClass::TypedefKeyword
-        | TokenClass::ExternKeyword
-        | TokenClass::StaticKeyword
-        | TokenClass::AutoKeyword
-        | TokenClass::RegisterKeyword
-        | TokenClass::InlineKeyword
-        | TokenClass::NoreturnKeyword
-        | TokenClass::ConstKeyword
-        | TokenClass::VolatileKeyword
-        | TokenClass::RestrictKeyword
-        | TokenClass::VoidKeyword
-        | TokenClass::CharKeyword
-        | TokenClass::ShortKeyword
-        | TokenClass::IntKeyword
-        | TokenClass::LongKeyword
-        | TokenClass::SignedKeyword
-        | TokenClass::UnsignedKeyword => true,
-        TokenClass::BoolKeyword
-        | TokenClass::StructKeyword
-        | TokenClass::UnionKeyword
-        | TokenClass::EnumKeyword
-        | TokenClass::TypeofKeyword
-        | TokenClass::AttributeKeyword
-        | TokenClass::StaticAssertKeyword
-        | TokenClass::CaseKeyword
-        | TokenClass::DefaultKeyword
-        | TokenClass::IfKeyword
-        | TokenClass::ElseKeyword
-        | TokenClass::SwitchKeyword
-        | TokenClass::WhileKeyword
-        | TokenClass::DoKeyword
-        | TokenClass::ForKeyword
-        | TokenClass::GotoKeyword
-        | TokenClass::ContinueKeyword
-        | TokenClass::BreakKeyword
-        | TokenClass::ReturnKeyword
-        | TokenClass::ContextKeyword => true,
-        TokenClass::SizeofKeyword
-        | TokenClass::AlignofKeyword
-        | TokenClass::BuiltinExpectKeyword
-        | TokenClass::BuiltinOffsetofKeyword => true,
-        _ => false,
-    }
 }
 
 // Between balanced parentheses each token is passed over but a parenthesis and the end.

@@ -25,11 +25,6 @@ module _ (hash first : Tok) (s : UnitState) where
   pub asks-more : (other : Tok) (rest : List Tok) → is_header_kind first.kind ≡ true → include_turn hash (first ∷ other ∷ rest) s ≡ Halts (refused s MalformedDirective hash.at [])
   asks-more other rest is = ap (λ b. by_kind b (Halts (refused s MalformedDirective hash.at [])) (with_expanded s (first ∷ other ∷ rest) goes)) is
 
-  -- other tokens
-  pub asks-expanded : (rest : List Tok) → is_header_kind first.kind ≡ false → include_turn hash (first ∷ rest) s ≡ with_expanded s (first ∷ rest) goes
-  asks-expanded [] is = ap (λ b. by_kind b (asked hash first (header_spelled first.text) s) (with_expanded s (first ∷ []) goes)) is
-  asks-expanded (other ∷ rest) is = ap (λ b. by_kind b (Halts (refused s MalformedDirective hash.at [])) (with_expanded s (first ∷ other ∷ rest) goes)) is
-
   -- which became these
   pub expanded-asks : (tokens left : List Tok) (u : UnitState) → expanded_in s tokens ≡ record { tokens = left; ending = Continues u } → with_expanded s tokens goes ≡ asked_if hash first (header_of left) u
   expanded-asks tokens left u is = ap (λ (p : Piece). turn_of_ending p.tokens p.ending goes) is

@@ -1,5 +1,5 @@
 -- What comes of the texts that a unit begins with.
-use Rattle.std.proofs.Common.{◌≡◌, ◌≤◌, ℕ, List, [], ◌∷◌, ◌++◌, length, drop, map, Option, Some, None, IfSome, IsSomeAnd, Result, Ok, Err, refl, sym, ap, subst, ◌∙◌, arith, length-append}
+use Rattle.std.proofs.Common.{◌≡◌, ◌≤◌, ℕ, List, [], ◌∷◌, ◌++◌, length, drop, Option, Some, None, IfSome, Result, Ok, Err, sym, ap, subst, ◌∙◌, arith, length-append}
 use Rattle.std.proofs.lemmas.List.{length-map}
 use Rattle.vocabulary.specs.declared.error_kind.ErrorKind.TheVariants.{NoSuchFile}
 use Rattle.meaning_outside.specs.Files.{FileMap, file_at}
@@ -11,7 +11,7 @@ use Rattle.meaning_preprocessing.specs.State.{UnitState, Stop, Continues, IsOver
 use Rattle.meaning_preprocessing.specs.Unit.{Reader, main_piece, main_piece_of, over_parts, reader, text_of_file, unit_limits, capped}
 use Rattle.c_tokens.specs.declared.token.Token.{Token}
 use Rattle.c_tokens.specs.Spellings.{AreApart}
-use Rattle.c_tokens.specs.Seen.{Extends, text_of, tok_of, toks_of}
+use Rattle.c_tokens.specs.Seen.{Extends, tok_of, toks_of}
 use Rattle.c_preproc.specs.Begins.{IsReadCommand, IsReadMain}
 use Rattle.c_preproc.specs.Conditions.{AreKnown}
 use Rattle.c_preproc.specs.Kept.{found_at, tokens_kept}

@@ -10,7 +10,7 @@ use Rattle.meaning_text.specs.Tokens.{Tok, AtLineStart, LexesFile, OpensFile}
 use Rattle.meaning_text.specs.Tokens as tokens
 use Rattle.meaning_preprocessing.specs.Directives.{turn_of}
 use Rattle.meaning_preprocessing.specs.Groups as groups
-use Rattle.meaning_preprocessing.specs.Groups.{Evaluation, Turn, Turns, Halts, closed_file}
+use Rattle.meaning_preprocessing.specs.Groups.{Evaluation, Halts}
 use Rattle.meaning_preprocessing.specs.Lines.{file_parts, lines_of}
 use Rattle.meaning_preprocessing.specs.State.{UnitState, Stop, IsOver, Piece, only_ending, tokens_before, and_then}
 use Rattle.meaning_preprocessing.specs.Unit.{Reader, over_parts, turn_piece, text_of_file, lexed_piece, stop_of_fault, unit_limits, capped}
@@ -66,11 +66,6 @@ known-parts names all text hash rest behind is known =
       rest_known = known-front names rest behind others;
       behind_known = known-back names rest behind others;
     }
-
--- fewer tokens are left
-pub behind-shorter : (all text : List Token) (hash : Token) (rest behind : List Token) → text ++ hash ∷ rest ++ behind ≡ all → length behind < length all
-behind-shorter all text hash rest behind is =
-    omega (arith, ap length is, length-append (text ++ hash ∷ rest) behind, length-append text (hash ∷ rest))
 
 -- A directive
 

@@ -1,5 +1,5 @@
 -- What stands before the first line of a unit.
-use Rattle.std.proofs.Common.{◌≡◌, ◌≢◌, ◌<◌, ◌≤◌, ◌+◌, ℕ, zero, suc, List, [], ◌∷◌, length, map, slice_get, All, Option, Some, None, option_map, codes, refl, sym, ap, subst, ◌∙◌, arith}
+use Rattle.std.proofs.Common.{◌≡◌, ◌≢◌, ◌<◌, ◌≤◌, ◌+◌, ℕ, zero, suc, List, [], ◌∷◌, length, map, All, Option, Some, None, option_map, codes, refl, sym, ap, subst, ◌∙◌, arith}
 use Rattle.std.specs.Global.{Vec}
 use Rattle.std.proofs.lemmas.Option.{none-some}
 use Rattle.std.proofs.lemmas.List.Elements.{All-nil, All-push}
@@ -23,7 +23,6 @@ use Rattle.c_preproc.specs.Conditions.{HasMacros}
 use Rattle.c_preproc.specs.Made.{AreMadeWords}
 use Rattle.c_preproc.specs.States.{HasFiles, Holds}
 use Rattle.c_preproc.specs.declared.made.MadeWords.{MadeWords}
-use Rattle.c_preproc.specs.declared.state.State.{State}
 use Rattle.c_preproc.proofs.MacroLineLemmas.{new-has}
 
 -- a name that has no macro yet gets this one

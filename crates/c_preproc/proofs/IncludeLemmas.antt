@@ -1,16 +1,15 @@
 -- What comes of a file that is asked for.
 use Rattle.std.proofs.Common.{◌≡◌, ◌<◌, ◌+◌, ◌-◌, ℕ, List, length, drop, Option, Some, None, IfSome, IsSomeAnd, Result, Ok, Err, refl, sym, ap, subst, ◌∙◌}
 use Rattle.vocabulary.specs.declared.error_kind.ErrorKind.TheVariants.{IncludeNotFound}
-use Rattle.vocabulary.specs.declared.limit.LimitKind.TheVariants.{FileSize}
 use Rattle.meaning_outside.specs.Files.{FileMap, file_at}
-use Rattle.meaning_outside.specs.Loads.{Loaded, AgreesWith}
+use Rattle.meaning_outside.specs.Loads.{Loaded}
 use Rattle.meaning_preprocessing.specs.Groups.{Evaluation}
 use Rattle.meaning_preprocessing.specs.Search as search
 use Rattle.meaning_preprocessing.specs.Search.{FoundFile, first_found, name_of_header, paths_for}
-use Rattle.meaning_preprocessing.specs.State.{UnitState, Stop, Passes, IsOver, Piece, only_ending, refused}
+use Rattle.meaning_preprocessing.specs.State.{UnitState, Stop, IsOver, Piece, only_ending, refused}
 use Rattle.meaning_preprocessing.specs.Unit.{Setting, reader}
-use Rattle.c_tokens.specs.Seen.{Extends, IsKnown, text_of}
-use Rattle.c_tokens.proofs.SeenLemmas.{IsKnown-Extends, text_of-Extends}
+use Rattle.c_tokens.specs.Seen.{Extends}
+use Rattle.c_tokens.proofs.SeenLemmas.{text_of-Extends}
 use Rattle.c_preproc.specs.Headers.{IsKnownHeader, header_seen}
 use Rattle.c_preproc.specs.Loads.{IsSearched, IsTooLong, KeepsLoads, bytes_found, paths_seen}
 use Rattle.c_preproc.specs.Opens.{IsIncluded, IsOpened}
@@ -29,10 +28,6 @@ use Rattle.c_preproc.proofs.OpenLemmas.{opened-long, reader-found, reader-missin
 pub header-later : (names later : List (List ℕ)) → Extends names later → (header : Header) → IsKnownHeader names header → header_seen later header ≡ header_seen names header
 header-later names later more (InQuotes name) known = ap search.InQuotes (text_of-Extends names later more name known)
 header-later names later more (InAngles name) known = ap search.InAngles (text_of-Extends names later more name known)
-
-pub header-known : (names later : List (List ℕ)) → Extends names later → (header : Header) → IsKnownHeader names header → IsKnownHeader later header
-header-known names later more (InQuotes name) known = IsKnown-Extends names later more name known
-header-known names later more (InAngles name) known = IsKnown-Extends names later more name known
 
 -- the paths of the files are those that the state has
 pub keeps-held : (names : List (List ℕ)) (main : List ℕ) (state : State) (s : UnitState) → Holds names main state s → (given : List Loaded) (kept : Kept) → KeepsLoads names (paths_seen names state) given kept → KeepsLoads names s.paths given kept

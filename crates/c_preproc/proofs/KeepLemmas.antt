@@ -9,7 +9,7 @@ use Rattle.meaning_preprocessing.specs.Unit.{over_parts, stop_of_fault, text_of_
 use Rattle.sparse_model.specs.declared.ids.NameId.{NameId}
 use Rattle.c_tokens.specs.declared.fault.LexFault.{LexFault}
 use Rattle.c_tokens.specs.Spellings.{AreApart}
-use Rattle.c_tokens.specs.Seen.{Extends, IsKnown, fault_of, text_of, toks_of}
+use Rattle.c_tokens.specs.Seen.{Extends, fault_of, text_of, toks_of}
 use Rattle.c_tokens.proofs.SeenLemmas.{Extends-Extends, IsKnown-Extends, text_of-Extends}
 use Rattle.c_preproc.specs.Conditions.{AreKnown}
 use Rattle.c_preproc.specs.Kept.{found_at, tokens_in_kept}

@@ -1,11 +1,11 @@
 -- What is kept of loads stays so where the table of names grows, and where something more is kept.
-use Rattle.std.proofs.Common.{◌≡◌, ◌≢◌, ◌<◌, ◌≤◌, ◌+◌, ℕ, zero, suc, Bool, true, false, nat_eq, List, [], ◌∷◌, ◌++◌, length, drop, slice_get, All, Option, Some, None, ◌⊎◌, inl, inr, refl, sym, ap, subst, ◌∙◌, ⊎_elim, arith, length-append}
+use Rattle.std.proofs.Common.{◌≡◌, ◌≢◌, ◌<◌, ◌≤◌, ◌+◌, ℕ, zero, suc, false, nat_eq, List, [], ◌∷◌, ◌++◌, length, drop, slice_get, All, Option, Some, None, ◌⊎◌, inl, inr, refl, sym, ap, subst, ◌∙◌, ⊎_elim, arith, length-append}
 use Rattle.std.specs.Global.{Vec}
 use Rattle.std.proofs.lemmas.Bool.{cases_Bool, eqb-true, eqb-false, ne_eqb}
 use Rattle.std.proofs.lemmas.List.Elements.{All-head, All-nil, All-cons, All-push, All-tail, All-weaker}
-use Rattle.std.proofs.lemmas.Option.{none-some, same_Some, slice_get_past}
-use Rattle.meaning_outside.specs.Files.{FileMap, file_at}
-use Rattle.meaning_outside.specs.Loads.{Loaded, AgreesWith, EachPathIsLoadedOnce, NoneIsOf}
+use Rattle.std.proofs.lemmas.Option.{none-some, same_Some}
+use Rattle.meaning_outside.specs.Files.{file_at}
+use Rattle.meaning_outside.specs.Loads.{Loaded, NoneIsOf}
 use Rattle.meaning_outside.specs.Loads as loads
 use Rattle.meaning_text.specs.Lexing.{Tokens, lexed_file}
 use Rattle.meaning_preprocessing.specs.State.{number_from, paths_with}

@@ -46,9 +46,6 @@ stay-none all = sym (append-nil all) ∙ ap (λ (more : List Loaded). all ++ mor
 pub one-since : (before now : List Loaded) (load : Loaded) → now ≡ before ++ load ∷ [] → loads_since before now ≡ load ∷ []
 one-since before now load is = ap (drop (length before)) is ∙ drop-append_seam before (load ∷ [])
 
-pub one-stays : (before now : List Loaded) (load : Loaded) → now ≡ before ++ load ∷ [] → LoadsStay before now
-one-stays before now load is = is ∙ ap (λ (more : List Loaded). before ++ more) (sym (one-since before now load is))
-
 module _ (first mid last : List Loaded) (here : LoadsStay first mid) (there : LoadsStay mid last) where
   pub since-then : loads_since first last ≡ loads_since first mid ++ loads_since mid last
   since-then =

@@ -1,6 +1,5 @@
 -- What is found at a path, and at the first of several.
 use Rattle.std.proofs.Common.{◌≡◌, ◌≤◌, ◌<◌, ℕ, List, [], ◌∷◌, ◌++◌, length, Option, Some, None, IfSome, IsErrAnd, IsSomeAnd, Result, Ok, Err, refl, sym, ap, subst, ◌∙◌}
-use Rattle.std.specs.Global.{Vec}
 use Rattle.std.proofs.lemmas.List.{append-nil}
 use Rattle.vocabulary.specs.declared.limit.LimitKind.TheVariants.{FileSize}
 use Rattle.meaning_outside.specs.Files.{FileMap, file_at}
@@ -44,17 +43,6 @@ module _ (names : List (List ℕ)) (apart : AreApart names) (paths : List (List 
   agrees-now given is files agrees =
       let this : Loaded = record { path = path; most = 8388608; given = given } in
       (agrees-back files earlier (this ∷ []) (subst (λ (more : List Loaded). AgreesWith files (earlier ++ more)) (one-since before now this is) agrees)).0
-
-  pub looked-whole : (text : Vec ℕ) → length text.items ≤ 8388608 → now ≡ before ++ loaded path 8388608 load.Whole text.items ∷ [] → IsLooked names paths (earlier ++ loads_since before now) kept path (Ok (Some (source.Loaded id text)))
-  looked-whole text small is = record {
-    earlier = earlier;
-    is = ap (λ (more : List Loaded). earlier ++ more) (one-since before now (loaded path 8388608 load.Whole text.items) is);
-    keeps = keeps;
-    known = known;
-    spelled = spelled;
-    new = new;
-    small = small;
-  }
 
   pub looked-missing : (into : List ℕ) (then_ : Kept) → now ≡ before ++ loaded path 8388608 load.Missing into ∷ [] → found_at then_ id ≡ Some Nothing → ((other : NameId) → (other ≡ id → ⊥) → found_at then_ other ≡ found_at kept other)
       → then_.files ≡ kept.files → IsLooked names paths (earlier ++ loads_since before now) then_ path (Ok None)

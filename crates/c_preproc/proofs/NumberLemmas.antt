@@ -1,5 +1,5 @@
 -- The number that a path gets, and what a state stands for then.
-use Rattle.std.proofs.Common.{◌≡◌, ◌≢◌, ◌<◌, ◌≤◌, ◌+◌, ℕ, zero, suc, Bool, true, false, nat_eq, List, [], ◌∷◌, ◌++◌, length, map, slice_get, All, Option, Some, None, option_map, codes, if◌then◌else◌, refl, sym, ap, subst, ◌∙◌, ⊎_elim, true≢false, arith, eq-eqb, length-append}
+use Rattle.std.proofs.Common.{◌≡◌, ◌≢◌, ◌<◌, ◌≤◌, ◌+◌, ℕ, zero, suc, true, false, nat_eq, List, [], ◌∷◌, ◌++◌, length, map, slice_get, All, Option, Some, None, option_map, if◌then◌else◌, refl, sym, ap, subst, ◌∙◌, ⊎_elim, true≢false, arith, eq-eqb}
 use Rattle.std.specs.Global.{Vec}
 use Rattle.std.specs.Str.{bytes_eq}
 use Rattle.std.proofs.lemmas.Bool.{cases_Bool, eqb-false, eqb-true}
@@ -14,8 +14,8 @@ use Rattle.c_tokens.specs.Seen.{Extends, IsKnown, text_of}
 use Rattle.c_tokens.proofs.SeenLemmas.{IsKnown-Extends, text_of-Extends, text_of-injective}
 use Rattle.c_macros.specs.Seen.{KnowsAll}
 use Rattle.c_macros.specs.Table.{Table, spelling_of_file}
-use Rattle.c_preproc.specs.Numbers.{IsNewPath, IsNumberable, IsNumbered, is_id, is_main}
-use Rattle.c_preproc.specs.States.{HasFiles, Holds}
+use Rattle.c_preproc.specs.Numbers.{IsNewPath, IsNumbered, is_id, is_main}
+use Rattle.c_preproc.specs.States.{Holds}
 use Rattle.c_preproc.specs.declared.state.State.{State}
 use Rattle.c_preproc.proofs.FirstLemmas.{same-has}
 use Rattle.c_preproc.proofs.StateLemmas.{Holds-later}

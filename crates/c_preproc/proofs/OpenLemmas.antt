@@ -2,7 +2,6 @@
 use Rattle.std.proofs.Common.{◌≡◌, ◌<◌, ◌≤◌, ◌+◌, ◌-◌, ◌⊎◌, ℕ, zero, suc, Bool, true, false, nat_lt, List, [], ◌∷◌, ◌++◌, length, take, drop, All, Option, Some, None, IfSome, if◌then◌else◌, refl, sym, ap, subst, ◌∙◌, ⊎_elim, append_assoc, arith, length-append, take-append-drop}
 use Rattle.std.proofs.Math.Seq.{drop-append_seam}
 use Rattle.std.proofs.lemmas.Bool.{lt-ltb, le-ltb}
-use Rattle.std.proofs.lemmas.List.{append-nil}
 use Rattle.std.proofs.lemmas.List.Elements.{All-drop, All-head, All-tail}
 use Rattle.vocabulary.specs.declared.limit.LimitKind.TheVariants.{AllFiles, FileSize, IncludeDepth}
 use Rattle.vocabulary.specs.declared.error_kind.ErrorKind.TheVariants.{IncludeNotFound}
@@ -12,11 +11,11 @@ use Rattle.meaning_preprocessing.specs.Groups.{Evaluation}
 use Rattle.meaning_preprocessing.specs.Lines.{file_parts, lines_of}
 use Rattle.meaning_preprocessing.specs.Search as search
 use Rattle.meaning_preprocessing.specs.Search.{FoundFile, first_found, name_of_header, paths_for}
-use Rattle.meaning_preprocessing.specs.State.{UnitState, Stop, Passes, IsOver, Piece, only_ending, and_then, refused, number_from, paths_with}
+use Rattle.meaning_preprocessing.specs.State.{UnitState, Passes, IsOver, Piece, only_ending, and_then, refused, paths_with}
 use Rattle.meaning_preprocessing.specs.Unit as unit
 use Rattle.meaning_preprocessing.specs.Unit.{Limits, Setting, Reader, file_piece, found_piece, lexed_piece, over_parts, reader, sized, unit_limits}
 use Rattle.c_tokens.specs.declared.token.Token.{Token}
-use Rattle.c_tokens.specs.Seen.{Extends, IsKnown, toks_of}
+use Rattle.c_tokens.specs.Seen.{Extends, IsKnown}
 use Rattle.c_tokens.proofs.SeenLemmas.{slice_get-append, toks_of-Extends}
 use Rattle.c_preproc.specs.Conditions.{AreKnown}
 use Rattle.c_preproc.specs.Groups.{groups_seen}
@@ -30,7 +29,6 @@ use Rattle.c_preproc.specs.Units.{setting_of}
 use Rattle.c_preproc.specs.declared.file.OpenFile.{OpenFile}
 use Rattle.c_preproc.specs.declared.kept.KeptFile.{KeptFile}
 use Rattle.c_preproc.specs.declared.pre_fault.PreFault.{PreFault}
-use Rattle.c_preproc.specs.declared.pre_fault.PreFault.TheVariants.{Limit}
 use Rattle.c_preproc.proofs.UnitLemmas.{sized-large, sized-small}
 
 -- The limits of files

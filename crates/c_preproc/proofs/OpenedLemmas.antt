@@ -1,17 +1,15 @@
 -- What comes of a file that was found, where it begins to be read.
-use Rattle.std.proofs.Common.{◌≡◌, ◌<◌, ◌≤◌, ◌+◌, ◌⊎◌, inl, inr, ℕ, List, [], ◌∷◌, ◌++◌, length, Option, Some, None, IfSome, Result, Ok, Err, refl, sym, ap, subst, ◌∙◌, ⊎_elim, arith}
+use Rattle.std.proofs.Common.{◌≡◌, ◌<◌, ◌≤◌, ◌+◌, ◌⊎◌, ℕ, List, [], ◌∷◌, ◌++◌, length, Option, Some, None, IfSome, Result, Ok, Err, refl, sym, ap, subst, ◌∙◌, ⊎_elim, arith}
 use Rattle.meaning_outside.specs.Files.{FileMap, file_at}
 use Rattle.meaning_outside.specs.Loads.{Loaded, AgreesWith, EachPathIsLoadedOnce, NoneIsOf}
 use Rattle.meaning_outside.specs.Loads as loads
 use Rattle.meaning_preprocessing.specs.Groups.{Evaluation}
-use Rattle.meaning_preprocessing.specs.Search.{FoundFile}
-use Rattle.meaning_preprocessing.specs.State.{UnitState, Stop, IsOver, Piece, only_ending}
-use Rattle.meaning_preprocessing.specs.Unit.{Reader, file_piece, over_parts}
+use Rattle.meaning_preprocessing.specs.State.{UnitState, Stop, IsOver, only_ending}
+use Rattle.meaning_preprocessing.specs.Unit.{Reader, file_piece}
 use Rattle.sparse_model.specs.declared.ids.NameId.{NameId}
 use Rattle.c_tokens.specs.Spellings.{AreApart}
-use Rattle.c_preproc.specs.Kept.{bytes_kept, tokens_kept}
-use Rattle.c_preproc.specs.Lines.{parts_of}
-use Rattle.c_preproc.specs.Loads.{IsFileOf, IsNew, IsSource}
+use Rattle.c_preproc.specs.Kept.{bytes_kept}
+use Rattle.c_preproc.specs.Loads.{IsNew, IsSource}
 use Rattle.c_preproc.specs.Numbers.{IsKeptNow, IsPassed}
 use Rattle.c_preproc.specs.Opens.{IsOpened, opened_piece}
 use Rattle.c_preproc.specs.States.{Holds, stop_of}
@@ -50,19 +48,6 @@ module _ (names : List (List ℕ)) (main : List ℕ) (state : State) (s : UnitSt
                 opened-enters value include depth (record { path = path; bytes = there.0 }) s is.small (omega (arith, few, is.size, holds.bytes)) shallow
                 ∙ ap (λ n. file_piece value include (record { path = path; bytes = there.0 }) (record s { bytes = s.bytes + n })) (sym is.size)
                 ∙ kept-piece names kept.files.items path there.0 place (record s { bytes = s.bytes + count }) is value include,
-          ),
-    )
-
-    pub kept-passed : (fault : PreFault) → IsPassed state.bytes count depth fault → IsOpened names main state given kept path depth s (Err fault)
-    kept-passed fault passed = (
-      found.0.once,
-      λ files agrees.
-          let there = found.2 files agrees in (
-            there.0,
-            there.1,
-            λ value include.
-                opened-passed value include depth (record { path = path; bytes = there.0 }) s names fault there.2.small
-                (passed-so state.bytes s.bytes count (length there.0) depth fault holds.bytes there.2.size passed),
           ),
     )
 

@@ -33,10 +33,6 @@ module _ {X : Type 0} (f : X → List ℕ) where
       (λ i. Some (record last { names = (ap (map f) pushed ∙ map-append f before (name ∷ []) ∙ ap (λ names. map f before ++ names) (sym named)) i }))
       ∙ ap (option_map (names_before (map f before))) is ∙ given
 
-  -- where a list breaks off, there is none
-  pub none_read : (before : List X) (seen all : Option Parameters) → None ≡ seen → option_map (names_before (map f before)) seen ≡ all → None ≡ all
-  none_read before seen all is given = ap (option_map (names_before (map f before))) is ∙ given
-
 -- What stands at the front, by the kinds of its first two tokens.
 abbrev by_kinds : (names : List (List ℕ)) (rest name dots comma : Bool) → Token → (others behind : List Token) → Option Parameters
 by_kinds names rest name dots comma first others behind = elim rest as (λ _. Option Parameters) [

@@ -1,5 +1,5 @@
 -- Parts of groups that are skipped, and where they end.
-use Rattle.std.proofs.Common.{◌≡◌, ◌≢◌, ◌≤◌, ◌-◌, ℕ, Bool, true, false, ◌&&◌, nat_eq, List, [], ◌∷◌, ◌++◌, length, All, Option, Some, None, if◌then◌else◌, refl, sym, ap, subst, ◌∙◌, ⊎_elim, append_assoc, arith, length-append}
+use Rattle.std.proofs.Common.{◌≡◌, ◌≢◌, ◌≤◌, ◌-◌, ℕ, Bool, true, false, ◌&&◌, nat_eq, List, [], ◌∷◌, ◌++◌, length, Some, None, if◌then◌else◌, refl, sym, ap, subst, ◌∙◌, ⊎_elim, append_assoc, arith, length-append}
 use Rattle.std.specs.Map.{lookup}
 use Rattle.std.specs.Prelude.{not}
 use Rattle.std.proofs.lemmas.Bool.{cases_Bool, eqb-true, eqb-false}
@@ -314,9 +314,6 @@ at-directive names tokens left text hash rest behind name at left_is is at_is pa
     }
 
 -- Open files
-
-pub worth-self : (names : List (List ℕ)) (files : List KeptFile) (file : OpenFile) → IsWorthAsMuch names files file file
-worth-self names files file = record { place = refl; fewer = omega arith; same = λ value include s. refl }
 
 -- what is left of a part that is skipped is passed
 pub worth-passed : (names : List (List ℕ)) (files : List KeptFile) (file : OpenFile) (end : ℕ) → are_read (groups_seen file.groups.items) ≡ false

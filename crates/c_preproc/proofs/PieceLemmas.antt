@@ -1,12 +1,11 @@
 -- Pieces behind one another, and the limit of all their tokens.
-use Rattle.std.proofs.Common.{◌≡◌, ◌≢◌, ℕ, ◌+◌, ◌<◌, ◌≤◌, Bool, true, false, nat_lt, List, [], ◌∷◌, ◌++◌, length, take, Option, Some, None, IfSome, Result, Ok, Err, IfErr, OnOk, refl, sym, ap, subst, ◌∙◌, ⊎_elim, append_assoc, arith, length-append}
+use Rattle.std.proofs.Common.{◌≡◌, ◌≢◌, ℕ, ◌+◌, ◌<◌, ◌≤◌, Bool, true, false, List, [], ◌∷◌, ◌++◌, length, take, Option, Some, None, IfSome, refl, sym, ap, ◌∙◌, ⊎_elim, append_assoc, arith, length-append}
 use Rattle.std.proofs.lemmas.Bool.{lt-ltb, le-ltb, cases_lt}
 use Rattle.vocabulary.specs.declared.limit.LimitKind.TheVariants.{UnitTokens}
 use Rattle.meaning_text.specs.Tokens.{Tok}
-use Rattle.meaning_preprocessing.specs.State.{UnitState, Stop, Passes, PieceEnd, Continues, IsOver, Piece, only_ending, tokens_before, behind_ending, and_then}
+use Rattle.meaning_preprocessing.specs.State.{UnitState, Stop, Passes, PieceEnd, Continues, IsOver, Piece, tokens_before, behind_ending, and_then}
 use Rattle.meaning_preprocessing.specs.Unit.{capped, unit_limits}
-use Rattle.c_tokens.specs.Seen.{toks_of}
-use Rattle.c_preproc.specs.States.{EndsUnit, GoesOn, Holds, IsFaultInText, IsHeld, IsKnownFault, put_of, stop_of}
+use Rattle.c_preproc.specs.States.{EndsUnit, GoesOn, IsFaultInText, IsKnownFault, put_of, stop_of}
 use Rattle.c_preproc.specs.declared.pre_fault.PreFault.{PreFault}
 use Rattle.c_preproc.specs.declared.pre_fault.PreFault.TheVariants.{Error, ReadFault, Limit, Memory}
 use Rattle.c_preproc.specs.declared.state.State.{State}
@@ -99,17 +98,9 @@ goes-then names path state tokens piece mid next goes =
 
 -- Faults
 
--- no load failed where only text was read
-pub no-failed-load : (names : List (List ℕ)) (result : Result Unit PreFault) → IfErr result (IsFaultInText names) → result ≢ Err ReadFault
-no-failed-load names result known is = subst (λ (r : Result Unit PreFault). IfErr r (IsFaultInText names)) is known
-
 -- the ids of its faults are known
 pub known-fault : (names : List (List ℕ)) (fault : PreFault) → IsFaultInText names fault → IsKnownFault names fault
 known-fault names (Error kind place word path) known = known
 known-fault names ReadFault known = tt
 known-fault names (Limit limit) known = tt
 known-fault names Memory known = tt
-
-pub known-faults : (names : List (List ℕ)) (result : Result Unit PreFault) → IfErr result (IsFaultInText names) → IfErr result (IsKnownFault names)
-known-faults names (Ok done) known = tt
-known-faults names (Err fault) known = known-fault names fault known

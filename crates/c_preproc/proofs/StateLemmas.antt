@@ -1,5 +1,5 @@
 -- What stays so of a state where the table of names grows, and where a part of the state changes.
-use Rattle.std.proofs.Common.{◌≡◌, ◌<◌, ◌≤◌, ◌+◌, ◌^◌, ℕ, zero, suc, Bool, true, false, cond, nat_eq, nat_lt, List, [], ◌∷◌, ◌++◌, length, map, slice_get, slice_index_or, All, Option, Some, None, option_map, unwrap_or, codes, if◌then◌else◌, ◌⊎◌, inl, inr, refl, sym, ap, subst, ◌∙◌, ⊎_elim, true≢false, arith, eq-eqb, length-append}
+use Rattle.std.proofs.Common.{◌≡◌, ◌<◌, ◌≤◌, ◌+◌, ◌^◌, ℕ, zero, suc, Bool, true, false, cond, nat_eq, nat_lt, List, [], ◌∷◌, ◌++◌, length, map, slice_get, slice_index_or, All, Option, Some, None, option_map, unwrap_or, codes, if◌then◌else◌, ◌⊎◌, inl, inr, refl, sym, ap, subst, ◌∙◌, ⊎_elim, true≢false, arith, eq-eqb}
 use Rattle.std.specs.Global.{Vec}
 use Rattle.std.specs.List.{filter}
 use Rattle.std.specs.Str.{bytes_eq}
@@ -35,9 +35,9 @@ use Rattle.c_macros.specs.Table.{Table, macro_at, spelling_of_file}
 use Rattle.c_macros.proofs.KnowsLemmas.{All-named, KnowsAll-Extends, macro-Extends}
 use Rattle.c_macros.proofs.PredefinedLemmas.{spelled-found}
 use Rattle.c_macros.proofs.ReadingLemmas.{found-known}
-use Rattle.c_preproc.specs.Conditions.{AreKnown, AreNamed, HasMacros, IsSpelling, is_left_identifier}
+use Rattle.c_preproc.specs.Conditions.{AreKnown, AreNamed, HasMacros, is_left_identifier}
 use Rattle.c_preproc.specs.Made.{AreMadeWords}
-use Rattle.c_preproc.specs.States.{HasFiles, Holds, IsHeld, put_of}
+use Rattle.c_preproc.specs.States.{HasFiles, Holds, put_of}
 use Rattle.c_preproc.specs.declared.made.MadeWords.{MadeWords}
 use Rattle.c_preproc.specs.declared.state.State.{State}
 use Rattle.c_preproc.proofs.BodyLemmas.{equal-known}
@@ -136,9 +136,6 @@ module _ (names later : List (List ℕ)) (more : Extends names later) where
       few = holds.few;
       tokens_known = known-later state.tokens.items holds.tokens_known;
     }
-
-    pub held-later : (state : State) → IsHeld names state → IsHeld later state
-    held-later state held = (held.0, held.1, Holds-later held.0 state held.1 held.2)
 
   -- what was put is read as before
   pub put-later : (path : List ℕ) (state : State) (s : UnitState) → Holds names path state s → put_of later state ≡ put_of names state

@@ -1,8 +1,7 @@
 -- What expansions say of texts and conditions.
-use Rattle.std.proofs.Common.{◌≡◌, ◌<◌, ◌≤◌, ◌+◌, ◌^◌, ℕ, Bool, true, false, not, ◌==◌, List, [], ◌∷◌, ◌++◌, length, map, All, Option, Some, None, IfSome, Result, Ok, Err, refl, sym, ap, subst, ◌∙◌, arith, length-append}
+use Rattle.std.proofs.Common.{◌≡◌, ◌<◌, ◌≤◌, ◌+◌, ◌^◌, ℕ, Bool, true, false, ◌==◌, List, [], ◌∷◌, ◌++◌, length, map, Option, Some, None, IfSome, sym, ap, subst, ◌∙◌, arith, length-append}
 use Rattle.std.specs.Global.{Vec}
-use Rattle.std.proofs.lemmas.List.{length-map, map-append}
-use Rattle.std.proofs.lemmas.List.Elements.{All-append}
+use Rattle.std.proofs.lemmas.List.{length-map}
 use Rattle.vocabulary.specs.declared.limit.LimitKind.TheVariants.{FileSize, AllFiles, IncludeDepth, MacroReplacements, MacroTokens, UnitTokens, ParseStack, Nodes, Parameters, ContextStep, ObjectSize, Steps, Cells}
 use Rattle.vocabulary.specs.declared.error_kind.ErrorKind.{ErrorKind}
 use Rattle.meaning_text.specs.Places.{At}
@@ -13,25 +12,23 @@ use Rattle.meaning_macros.specs.Expansion as macros
 use Rattle.meaning_preprocessing.specs.Groups as groups
 use Rattle.meaning_preprocessing.specs.Groups.{are_read, Evaluation, Turn, Halts, by_answer, evaluated_line, turn_of_ending}
 use Rattle.meaning_preprocessing.specs.ConditionLines.{with_undefined}
-use Rattle.meaning_preprocessing.specs.State.{UnitState, Stop, Passes, PieceEnd, Continues, IsOver, Piece, only_ending, and_then, tokens_before, ending_of, expanded_in, token_alone, table_in, behind_ending, refused}
+use Rattle.meaning_preprocessing.specs.State.{UnitState, Stop, Passes, Continues, IsOver, Piece, only_ending, and_then, tokens_before, ending_of, expanded_in, token_alone, table_in, refused}
 use Rattle.meaning_preprocessing.specs.Unit.{unit_limits, capped, text_piece}
 use Rattle.sparse_model.specs.declared.ids.NameId.{NameId}
 use Rattle.c_tokens.specs.declared.token.Token.{Token}
 use Rattle.c_tokens.specs.Spellings.{AreApart}
-use Rattle.c_tokens.specs.Seen.{Extends, IsKnown, text_of, tok_of, toks_of}
-use Rattle.c_tokens.proofs.SeenLemmas.{toks_of-Extends}
+use Rattle.c_tokens.specs.Seen.{Extends, text_of, tok_of, toks_of}
 use Rattle.c_macros.specs.declared.budget.Budget.{Budget}
 use Rattle.c_macros.specs.declared.expand_fault.ExpandFault.{ExpandFault}
 use Rattle.c_macros.specs.declared.expand_fault.ExpandFault.TheVariants.{Arguments, OpenCall, BadPaste, Limit, Memory}
 use Rattle.c_macros.specs.Ends.{Ends, budget_by}
 use Rattle.c_macros.specs.Expanded.{EndsWith, FaultIsOf, TokensAreOf, expanded_of}
-use Rattle.c_preproc.specs.Conditions.{AreKnown}
-use Rattle.c_preproc.specs.States.{EndsUnit, GoesOn, Holds, put_of, stop_of}
+use Rattle.c_preproc.specs.States.{EndsUnit, Holds, put_of, stop_of}
 use Rattle.c_preproc.specs.Texts.{IsExpanded, StopsBehind, StopsExpansion, before_in}
 use Rattle.c_preproc.specs.declared.pre_fault.PreFault.{PreFault}
 use Rattle.c_preproc.specs.declared.state.State.{State}
-use Rattle.c_preproc.proofs.PieceLemmas.{before-before, capped-beyond, capped-within, ends-then, longer-then}
-use Rattle.c_preproc.proofs.StateLemmas.{Holds-later, expanded-is, put-later, with-budget, with-tokens}
+use Rattle.c_preproc.proofs.PieceLemmas.{capped-beyond, capped-within, ends-then, longer-then}
+use Rattle.c_preproc.proofs.StateLemmas.{Holds-later, expanded-is, put-later, with-budget}
 
 -- the piece that an expansion is
 abbrev piece_of : UnitState → Expanded → Piece
@@ -76,22 +73,9 @@ module _ (names : List (List ℕ)) (apart : AreApart names) (path : List ℕ) (s
         λ i. record { tokens = sym put i; ending = ending_of s (end i) },
       )
 
--- what was expanded goes before what follows
-pub expanded-then : (piece : Piece) (tokens : List Tok) (s : UnitState) (next : UnitState → Piece) → piece ≡ record { tokens = tokens; ending = Continues s } → and_then piece next ≡ tokens_before tokens (next s)
-expanded-then piece tokens s next is = ap (λ p. and_then p next) is
-
 -- Tokens that are put
 
 module _ (names : List (List ℕ)) (path : List ℕ) (state : State) (s : UnitState) (holds : Holds names path state s) (made : List Token) (next : UnitState → Piece) where
-  pub put-goes : (all : Vec Token) → all.items ≡ state.tokens.items ++ made → length state.tokens.items + length made ≤ 2000000 → AreKnown names made
-      → GoesOn names path (record state { tokens = all }) (tokens_before (put_of names state) (tokens_before (toks_of names made) (next s))) next
-  put-goes all are few known = (
-    s,
-    with-tokens names path state s all (omega (arith, few, ap length are, length-append state.tokens.items made))
-        (subst (AreKnown names) (sym are) (All-append (λ (t : Token). IsKnown names t.name) state.tokens.items made holds.tokens_known known)) holds,
-    ap (λ put. tokens_before put (next s)) (ap (toks_of names) are ∙ map-append (tok_of names) state.tokens.items made) ∙ sym (before-before (put_of names state) (toks_of names made) (next s)),
-  )
-
   -- so many are too many
   pub put-ends : 2000000 < length state.tokens.items + length made
       → (capped unit_limits.unit_tokens (tokens_before (put_of names state) (tokens_before (toks_of names made) (next s)))).ending ≡ IsOver (Passes UnitTokens)

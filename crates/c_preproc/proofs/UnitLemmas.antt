@@ -1,28 +1,21 @@
 -- What all of a unit comes to, and the one file that is loaded.
-use Rattle.std.proofs.Common.{◌≡◌, ◌<◌, ◌≤◌, ◌+◌, ℕ, Bool, true, false, nat_lt, List, [], ◌∷◌, ◌++◌, length, drop, map, All, Option, Some, None, IfSome, IsErrAnd, IsSomeAnd, Result, Ok, Err, codes, if◌then◌else◌, refl, sym, ap, subst, ◌∙◌, arith, length-append}
-use Rattle.std.proofs.Math.Seq.{drop-append_seam}
+use Rattle.std.proofs.Common.{◌≡◌, ◌<◌, ◌≤◌, ◌+◌, ℕ, Bool, true, false, nat_lt, List, [], ◌∷◌, ◌++◌, length, map, All, Option, Some, None, IfSome, IsErrAnd, IsSomeAnd, Result, Ok, Err, if◌then◌else◌, refl, sym, ap, subst, ◌∙◌, arith, length-append}
 use Rattle.std.proofs.lemmas.Bool.{lt-ltb, le-ltb}
 use Rattle.std.proofs.lemmas.List.{append-nil, length-map}
-use Rattle.std.proofs.lemmas.Slice.Eq.{bytes_eq-Decides}
-use Rattle.std.specs.Str.{bytes_eq}
 use Rattle.vocabulary.specs.declared.limit.LimitKind.TheVariants.{FileSize, AllFiles}
-use Rattle.meaning_outside.specs.Files.{FileMap, file_at}
-use Rattle.meaning_outside.specs.Loads.{Loaded, AgreesWith, EachPathIsLoadedOnce, LoadsStay, loads_since}
+use Rattle.meaning_outside.specs.Files.{FileMap}
+use Rattle.meaning_outside.specs.Loads.{Loaded}
 use Rattle.meaning_conditions.proofs.Valuing.{answers_exist}
 use Rattle.meaning_conditions.specs.plain.Reading.{answer_of}
-use Rattle.meaning_text.specs.Tokens.{Tok}
-use Rattle.meaning_preprocessing.specs.Groups.{Evaluation}
-use Rattle.meaning_preprocessing.specs.State.{UnitState, Stop, Passes, PieceEnd, Continues, IsOver, Piece, only_ending, tokens_before, and_then, behind_ending, number_from, paths_with}
-use Rattle.meaning_preprocessing.specs.Unit.{Limits, Setting, Reader, sized, file_piece, text_of_file, reader, command_piece, main_piece, main_piece_of, first_state, capped, unit_piece, unit_end, unit_limits, preprocessed, IsPreprocessedUnit, Ends, EndsEarly}
+use Rattle.meaning_preprocessing.specs.State.{UnitState, Stop, Passes, PieceEnd, Continues, IsOver, Piece, only_ending, tokens_before, and_then, behind_ending}
+use Rattle.meaning_preprocessing.specs.Unit.{Limits, Setting, sized, file_piece, text_of_file, reader, command_piece, main_piece, main_piece_of, first_state, capped, unit_end, unit_limits, preprocessed, IsPreprocessedUnit, Ends, EndsEarly}
 use Rattle.meaning_preprocessing.specs.Unit as unit
-use Rattle.sparse_outside.specs.Load.{Loads, loaded}
-use Rattle.sparse_outside.specs.Laws.{ToldMapAgrees}
-use Rattle.sparse_outside.specs.declared.files.Load.{Load}
+use Rattle.sparse_outside.specs.Load.{loaded}
 use Rattle.sparse_outside.specs.declared.files.Load.TheVariants as load
 use Rattle.c_tokens.specs.Seen.{IsKnown, text_of, toks_of, tok_of}
 use Rattle.c_preproc.specs.Conditions.{AreKnown}
 use Rattle.c_preproc.specs.Loads.{HasLoaded}
-use Rattle.c_preproc.specs.States.{EndsUnit, GoesOn, Holds, IsFaultInText, IsHeld, put_of, stop_of}
+use Rattle.c_preproc.specs.States.{EndsUnit, Holds, IsFaultInText, IsHeld, put_of, stop_of}
 use Rattle.c_preproc.specs.Units.{EndsEarlySo, IsKnownUnit, IsUnit, setting_of}
 use Rattle.c_preproc.specs.declared.pre_fault.PreFault.{PreFault}
 use Rattle.c_preproc.specs.declared.state.State.{State}

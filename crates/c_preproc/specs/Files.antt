@@ -1,7 +1,7 @@
 -- How what is left of a file is seen by the definitions of `meaning_preprocessing`.
 use Rattle.std.specs.Prelude.{ℕ, ◌<◌, List, length, Result, Ok, Err, ⊤}
 use Rattle.meaning_preprocessing.specs.Groups.{Evaluation}
-use Rattle.meaning_preprocessing.specs.State.{UnitState, Continues, Piece, and_then, only_ending}
+use Rattle.meaning_preprocessing.specs.State.{Continues, Piece, and_then, only_ending}
 use Rattle.meaning_preprocessing.specs.Unit.{Reader}
 use Rattle.c_tokens.specs.declared.token.Token.{Token}
 use Rattle.c_preproc.specs.Opens.{open_piece}

@@ -1,5 +1,5 @@
 -- What is kept of loads, by the ids of paths.
-use Rattle.std.specs.Prelude.{◌≡◌, ◌≤◌, ℕ, List, [], length, slice_get, nat_eq, All, Option, Some, None, ⊤}
+use Rattle.std.specs.Prelude.{◌≡◌, ◌≤◌, ℕ, List, [], slice_get, nat_eq, Option, Some, None, ⊤}
 use Rattle.std.specs.Map.{lookup}
 use Rattle.sparse_model.specs.declared.ids.NameId.{NameId}
 use Rattle.c_tokens.specs.declared.token.Token.{Token}

@@ -1,6 +1,5 @@
 -- What is kept of loads, and what it tells of each map of files that agrees with them.
 use Rattle.std.specs.Prelude.{◌≡◌, ◌<◌, ◌≤◌, ℕ, List, ◌++◌, ◌∷◌, [], length, drop, map, All, Option, Some, None, IfSome, IsSomeAnd, Result, Ok, Err, ⊤}
-use Rattle.std.specs.Global.{Vec}
 use Rattle.vocabulary.specs.declared.limit.LimitKind.TheVariants.{FileSize}
 use Rattle.meaning_outside.specs.Faults.{Told}
 use Rattle.meaning_outside.specs.Files.{FileMap, file_at}

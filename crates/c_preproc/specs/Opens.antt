@@ -1,5 +1,5 @@
 -- How files that are read within one another are seen by the definitions of `meaning_preprocessing`.
-use Rattle.std.specs.Prelude.{◌≡◌, ◌<◌, ◌≤◌, ◌+◌, ◌-◌, ◌*◌, ℕ, nat_lt, List, ◌++◌, ◌∷◌, [], length, drop, map, All, Option, Some, None, IfSome, Result, Ok, Err, ⊤, if◌then◌else◌}
+use Rattle.std.specs.Prelude.{◌≡◌, ◌<◌, ◌≤◌, ◌+◌, ◌-◌, ◌*◌, ℕ, nat_lt, List, ◌++◌, ◌∷◌, [], length, drop, Some, IfSome, Result, Ok, Err, ⊤, if◌then◌else◌}
 use Rattle.vocabulary.specs.declared.limit.LimitKind.TheVariants.{IncludeDepth}
 use Rattle.meaning_outside.specs.Files.{FileMap, file_at}
 use Rattle.meaning_outside.specs.Loads.{Loaded, AgreesWith, EachPathIsLoadedOnce}
@@ -7,7 +7,7 @@ use Rattle.meaning_preprocessing.specs.Groups as groups
 use Rattle.meaning_preprocessing.specs.Groups.{Evaluation, Turn, Turns, Includes, Halts}
 use Rattle.meaning_preprocessing.specs.Search as search
 use Rattle.meaning_preprocessing.specs.Search.{FoundFile}
-use Rattle.meaning_preprocessing.specs.State.{UnitState, Stop, Passes, IsOver, Piece, only_ending, and_then}
+use Rattle.meaning_preprocessing.specs.State.{UnitState, Passes, IsOver, Piece, only_ending, and_then}
 use Rattle.meaning_preprocessing.specs.Unit as unit
 use Rattle.meaning_preprocessing.specs.Unit.{Setting, Reader, file_piece, over_parts, reader, sized, unit_limits}
 use Rattle.c_tokens.specs.declared.token.Token.{Token}
@@ -16,7 +16,7 @@ use Rattle.c_preproc.specs.Kept.{bytes_kept, tokens_kept}
 use Rattle.c_preproc.specs.Lines.{parts_of}
 use Rattle.c_preproc.specs.Loads.{IsPlace, KeepsLoads}
 use Rattle.c_preproc.specs.Requests.{IsKnownRequest, request_seen}
-use Rattle.c_preproc.specs.States.{Holds, IsDone, stop_of}
+use Rattle.c_preproc.specs.States.{Holds, stop_of}
 use Rattle.c_preproc.specs.Units.{setting_of}
 use Rattle.c_preproc.specs.declared.file.OpenFile.{OpenFile}
 use Rattle.c_preproc.specs.declared.groups.Group.{Group}

@@ -4,7 +4,6 @@ use Rattle.meaning_text.specs.Tokens.{Tok}
 use Rattle.meaning_preprocessing.specs.Groups.{Turn, Turns, Halts}
 use Rattle.meaning_preprocessing.specs.State.{UnitState, Stop, Refuses, Passes, IsOver, Piece, path_of, spelled_path, tokens_before}
 use Rattle.meaning_preprocessing.specs.Unit.{capped, unit_limits}
-use Rattle.sparse_model.specs.declared.ids.NameId.{NameId}
 use Rattle.c_tokens.specs.Seen.{IsKnown, at_of, text_of, toks_of}
 use Rattle.c_macros.specs.Ends.{budget_by}
 use Rattle.c_macros.specs.Seen.{KnowsAll}

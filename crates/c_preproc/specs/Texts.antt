@@ -1,10 +1,9 @@
 -- How expansions, and what conditions come to, are seen by the definitions of `meaning_preprocessing`.
 use Rattle.std.specs.Prelude.{◌≡◌, ℕ, Bool, List, [], length, IfSome, Result, Ok, Err, ⊤}
-use Rattle.vocabulary.specs.declared.error_kind.ErrorKind.{ErrorKind}
 use Rattle.vocabulary.specs.declared.error_kind.ErrorKind.TheVariants.{WrongNumberOfMacroArguments, UnterminatedMacroCall}
 use Rattle.vocabulary.specs.declared.error_kind.ErrorKind.TheVariants as errors
 use Rattle.meaning_preprocessing.specs.Groups.{Turn, Halts}
-use Rattle.meaning_preprocessing.specs.State.{UnitState, Stop, Passes, PieceEnd, Continues, IsOver, Piece, refused}
+use Rattle.meaning_preprocessing.specs.State.{UnitState, Stop, Passes, Continues, IsOver, Piece, refused}
 use Rattle.c_tokens.specs.declared.token.Token.{Token}
 use Rattle.c_tokens.specs.Seen.{at_of, toks_of}
 use Rattle.c_macros.specs.declared.expand_fault.ExpandFault.{ExpandFault}

@@ -8,10 +8,6 @@ use Rattle.c_scope.specs.declared.slot.Slot.TheVariants.{Mark, Name}
 use Rattle.c_scope.specs.Seen.{entry_of}
 use Rattle.c_scope.specs.Slots.{item_of, entries_in, opened_in}
 
--- a slot that comes last stands first
-pub reverse-push : {X : Type 0} (xs : List X) (x : X) → reverse (xs ++ x ∷ []) ≡ x ∷ reverse xs
-reverse-push xs x = reverse-append xs (x ∷ [])
-
 -- and the other way round
 pub reverse-cons : {X : Type 0} (x : X) (xs : List X) → reverse (x ∷ xs) ≡ reverse xs ++ x ∷ []
 reverse-cons x xs = reverse-append (x ∷ []) xs

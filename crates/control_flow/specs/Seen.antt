@@ -1,5 +1,5 @@
 -- The graph that a flow is.
-use Rattle.std.specs.Prelude.{ℕ, ℤ, List, map}
+use Rattle.std.specs.Prelude.{ℕ, List, map}
 use Rattle.meaning_paths.specs.Steps as steps
 use Rattle.meaning_paths.specs.Graphs.{BasicBlock}
 use Rattle.meaning_paths.specs.ContextRules as rules

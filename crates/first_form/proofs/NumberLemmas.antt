@@ -5,11 +5,11 @@ use Rattle.std.specs.Char.{is_ascii_digit}
 use Rattle.std.specs.Result.{OkIff}
 use Rattle.std.specs.Str.{IsUtf8}
 use Rattle.std.specs.Str.Parse.{AllDigits, ParsesUnsigned, digits_value}
-use Rattle.std.proofs.lemmas.Bool.{and_parts, cases_lt, false≢true, le-leb, lt-leb}
+use Rattle.std.proofs.lemmas.Bool.{cases_lt, le-leb, lt-leb}
 use Rattle.std.proofs.lemmas.Str.{IsUtf8-from_ascii}
 use Rattle.std.proofs.lemmas.Str.Parse.{IsNumeralModel, numerals_by_value, parse_digits, digit_at}
 use Rattle.std.proofs.lemmas.List.{get_or_past}
-use Rattle.meaning_syntax.specs.Words.{is_plain_decimal, number_of}
+use Rattle.meaning_syntax.specs.Words.{number_of}
 
 -- the tokens of digits, and their value
 pub digits : IsNumeralModel (λ ds. list_all is_ascii_digit ds ≡ true) (digits_value 10)
@@ -30,10 +30,6 @@ digits_are_text text all = IsUtf8-from_ascii text (digit_bytes_at text (digits.t
 pub record IsDigits (text : List ℕ) : Type 0 where
   pub some : 0 < length text
   pub digits : list_all is_ascii_digit text ≡ true
-
-pub plain_decimal_parts : (text : List ℕ) → is_plain_decimal text ≡ true → IsDigits text
-plain_decimal_parts [] is = absurd (false≢true is)
-plain_decimal_parts (digit ∷ rest) is = record { some = omega arith; digits = (and_parts _ _ is).0 }
 
 -- digits are parsed exactly where their number fits
 parsed_where_it_fits :

@@ -1,9 +1,9 @@
 -- From blocks, one behind the other, to the whole graph.
-use Rattle.std.proofs.Common.{◌≡◌, ◌⊎◌, inl, inr, ℕ, zero, suc, ◌==◌, false, ◌+◌, ◌<◌, ◌≤◌, List, [], ◌∷◌, length, drop, add-one, drop-cons, get_or, refl, sym, ap, ◌∙◌, subst, arith}
+use Rattle.std.proofs.Common.{◌≡◌, ◌⊎◌, inl, inr, ℕ, zero, suc, ◌==◌, false, ◌+◌, ◌<◌, ◌≤◌, List, [], ◌∷◌, length, drop, add-one, drop-cons, get_or, sym, ap, ◌∙◌, subst, arith}
 use Rattle.std.proofs.lemmas.Bool.{cases_lt}
 use Rattle.std.proofs.lemmas.List.{get_or_past}
 use Rattle.meaning_paths.specs.Walks.{IsIn}
-use Rattle.meaning_paths.specs.Graphs.{BasicBlock, BeginsWithPoint, EachBeginsWithPoint, IsClosed, empty_block, size_of_graph, size_of_steps, steps_at, successors_at}
+use Rattle.meaning_paths.specs.Graphs.{BasicBlock, empty_block, size_of_graph, size_of_steps, steps_at}
 use Rattle.flows.specs.Asked.{AllBelow}
 
 -- a number that isn't 0 is more

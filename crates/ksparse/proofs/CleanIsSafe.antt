@@ -13,7 +13,7 @@ use Rattle.meaning_syntax.proofs.Derivations.{derived_trees_are_unique, derived_
 use Rattle.meaning_first_rules.specs.Failures.{Cause, SpacesMixed, FlaggedAccess, Failure, IsListing, code_of}
 use Rattle.meaning_derivation.specs.State.{Fault, IsError, PassesLimit}
 use Rattle.meaning_preprocessing.specs.State.{Stop, Refuses, Passes}
-use Rattle.meaning_preprocessing.specs.Unit.{UnitEnd, Ends, EndsEarly, PreprocessedUnit}
+use Rattle.meaning_preprocessing.specs.Unit.{UnitEnd, Ends, EndsEarly}
 use Rattle.meaning_answer.specs.Reply.{Reply, Clean}
 use Rattle.meaning_answer.specs.Requests.{Request, BadWord, MissingFile, Check, Expand, request_of}
 use Rattle.meaning_answer.specs.Lines.{warned, failures_on, undefined_on, stop_reply, refusal_reply}

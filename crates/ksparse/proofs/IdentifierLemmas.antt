@@ -1,5 +1,5 @@
 -- The digits of universal character names.
-use Rattle.std.proofs.Common.{◌≡◌, ℕ, zero, suc, ◌<◌, ◌-◌, ◌&&◌, true, false, List, [], ◌∷◌, sym, ◌∙◌, ap, subst, arith}
+use Rattle.std.proofs.Common.{◌≡◌, ℕ, zero, suc, ◌<◌, ◌-◌, ◌&&◌, true, false, List, [], ◌∷◌, sym, ◌∙◌, ap, arith}
 use Rattle.std.specs.Char.{is_ascii_hexdigit}
 use Rattle.meaning_text.specs.Words.{begins_hexadecimal}
 
@@ -19,8 +19,3 @@ pub no_digit :
 no_digit zero left others b front some digit = absurd (omega arith)
 no_digit (suc wanted) left others b front some digit =
     ap (begins_hexadecimal (suc wanted)) front ∙ ap (λ is_digit. is_digit && begins_hexadecimal wanted others) digit
-
--- and no byte
-pub no_byte : (wanted : ℕ) (left : List ℕ) → left ≡ [] → 0 < wanted → begins_hexadecimal wanted left ≡ false
-no_byte zero left none some = absurd (omega arith)
-no_byte (suc wanted) left none some = ap (begins_hexadecimal (suc wanted)) none

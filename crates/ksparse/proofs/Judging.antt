@@ -1,10 +1,9 @@
 -- What was read and judged of tokens.
-use Rattle.std.proofs.Common.{◌≡◌, ℕ, List, [], true, false, Option, Some, None, Result, Ok, Err, IfOk, IfSome, IfNone, length, sym, ◌∙◌, ap, subst, refl, inl, inr, arith}
+use Rattle.std.proofs.Common.{◌≡◌, ℕ, List, [], true, false, Option, Some, None, Result, Ok, Err, IfOk, IfSome, IfNone, sym, ◌∙◌, ap, subst, refl}
 use Rattle.c_tokens.specs.declared.token.Token.{Token}
 use Rattle.c_tokens.specs.Seen.{toks_of}
 use Rattle.meaning_text.specs.Tokens.{Tok}
-use Rattle.meaning_text.specs.Terminals.{terminals_of}
-use Rattle.meaning_syntax.specs.Items.{Item, item_spelled}
+use Rattle.meaning_syntax.specs.Items.{Item}
 use Rattle.meaning_syntax.specs.Binding.{are_bound}
 use Rattle.meaning_syntax.specs.plain.Reading.{Texts, read_items, read_unit}
 use Rattle.meaning_first_rules.specs.plain.Judging as judging

@@ -6,7 +6,6 @@ pub mod FailureLemmas
 pub mod FrontLemmas
 pub mod IdentifierLemmas
 pub mod Judging
-pub mod Loads
 pub mod ParsingLemmas
 pub mod ReadingLemmas
 pub mod SafeTexts

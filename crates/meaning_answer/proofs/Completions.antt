@@ -1,5 +1,5 @@
 -- A command is complete where the answer that the plain program computes was taken whole, and only there.
-use Rattle.std.proofs.Common.{◌≡◌, ◌≢◌, ℕ, List, [], ◌∷◌, ◌⊎◌, Option, Some, None, sym, ◌∙◌, ap, subst, refl, inl, inr, codes, get_or, arith}
+use Rattle.std.proofs.Common.{◌≡◌, ◌≢◌, ℕ, List, [], ◌∷◌, ◌⊎◌, Option, Some, None, ◌∙◌, ap, subst, refl, inl, inr, codes, get_or, arith}
 use Rattle.std.specs.Cmp.Lexicographic.{slice_cmp}
 use Rattle.std.specs.FinMap as map
 use Rattle.std.specs.Fmt.{digits}
@@ -14,7 +14,6 @@ use Rattle.meaning_preprocessing.specs.State.{and_then}
 use Rattle.meaning_preprocessing.specs.Unit.{Setting, PreprocessedUnit, capped, command_piece, first_state, main_piece_of, preprocessed, reader, unit_end, unit_limits}
 use Rattle.meaning_preprocessing.specs.examples.Rows.{plain_options}
 use Rattle.meaning_answer.specs.Reply.{Ending, Refused, Usage, NoMemory, Reply, line}
-use Rattle.meaning_answer.specs.Answers.{IsAnswer}
 use Rattle.meaning_answer.specs.Delivery.{Sinks, Delivers, Completes}
 use Rattle.meaning_answer.specs.plain.Replying.{end_reply, reply_to}
 use Rattle.meaning_answer.specs.examples.Completion.{taken, CompletionExamples, no_file, two_paths, three_words}

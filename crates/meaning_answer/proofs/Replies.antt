@@ -19,16 +19,16 @@ use Rattle.meaning_syntax.specs.Trees.{unit_tree, Derives}
 use Rattle.meaning_syntax.specs.plain.Reading.{read_unit}
 use Rattle.meaning_syntax.proofs.UnitReading.{IsUnit-read_unit}
 use Rattle.meaning_syntax.proofs.Derivations.{read_units_derive, derived_trees_are_those}
-use Rattle.meaning_first_rules.specs.Failures.{Failure, IsListing}
+use Rattle.meaning_first_rules.specs.Failures.{IsListing}
 use Rattle.meaning_first_rules.specs.plain.Judging.{failures_of}
 use Rattle.meaning_first_rules.proofs.Units.{listings_exist, listings_are_unique}
-use Rattle.meaning_preprocessing.specs.Unit.{UnitEnd, Ends, EndsEarly, PreprocessedUnit, IsPreprocessedUnit}
+use Rattle.meaning_preprocessing.specs.Unit.{UnitEnd, Ends, EndsEarly, PreprocessedUnit}
 use Rattle.meaning_preprocessing.proofs.Uniqueness.{units_exist, units_are_unique}
 use Rattle.meaning_answer.specs.Reply.{Reply}
-use Rattle.meaning_answer.specs.Requests.{Options, Request, BadWord, MissingFile, Check, Expand, request_of}
-use Rattle.meaning_answer.specs.Lines.{stop_reply, refusal_reply, not_built_reply, checked_reply, bad_word_reply, missing_file_reply}
+use Rattle.meaning_answer.specs.Requests.{Request, BadWord, MissingFile, Check, Expand, request_of}
+use Rattle.meaning_answer.specs.Lines.{stop_reply, refusal_reply, checked_reply, bad_word_reply, missing_file_reply}
 use Rattle.meaning_answer.specs.Answers.{files_of, IsParsed, TellsFailures, TellsNotBuilt, IsFormReply, IsCheckReply, IsCheckEnd, IsRequestReply, expand_reply}
-use Rattle.meaning_answer.specs.plain.Replying.{items_reply, form_reply, outcome_reply, check_reply, end_reply, unit_of, request_reply, reply_to}
+use Rattle.meaning_answer.specs.plain.Replying.{items_reply, form_reply, outcome_reply, check_reply, end_reply, unit_of, request_reply}
 use Rattle.meaning_answer.specs.laws.Commands.{AnswersExist, AnswersAreUnique, PlainAnswersAreRight}
 
 -- tokens that aren't refused are parsed

@@ -12,7 +12,7 @@ use Rattle.vocabulary.specs.declared.error_kind.ErrorKind.TheVariants.{FormNotBu
 use Rattle.vocabulary.specs.Errors.{error_line}
 use Rattle.meaning_types.specs.Spelling.{spelling}
 use Rattle.meaning_first_rules.specs.Failures.{Cause, SpacesMixed, FlaggedAccess, Failure}
-use Rattle.meaning_first_rules.specs.Text.{place_text, place_of, cause_text, access_text, path_in, placed_text, unit_failure_text, unit_warnings_text}
+use Rattle.meaning_first_rules.specs.Text.{place_text, place_of, cause_text, access_text, path_in, unit_failure_text, unit_warnings_text}
 use Rattle.meaning_preprocessing.specs.State.{Stop, Refuses, Passes}
 use Rattle.meaning_preprocessing.specs.Unit.{UnitEnd, Ends, EndsEarly}
 use Rattle.meaning_answer.specs.Reply.{Reply, IsLine}

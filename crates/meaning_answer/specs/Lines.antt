@@ -13,7 +13,7 @@ use Rattle.meaning_text.specs.Tokens.{Tok}
 use Rattle.meaning_first_rules.specs.Failures.{Failure, code_of}
 use Rattle.meaning_derivation.specs.State.{Fault, IsError, PassesLimit}
 use Rattle.meaning_first_rules.specs.Text.{warning_line, path_in, unit_warnings_text}
-use Rattle.meaning_preprocessing.specs.State.{Stop, Refuses, Passes, UnitRefusal}
+use Rattle.meaning_preprocessing.specs.State.{Stop, Refuses, Passes}
 use Rattle.meaning_warnings.specs.Errors.{error_lines}
 use Rattle.meaning_warnings.specs.Places.{begins_at, token_text}
 use Rattle.meaning_answer.specs.Reply.{Refused, Usage, Warned, Limit, Reply, silence, line}

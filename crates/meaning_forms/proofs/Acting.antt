@@ -44,7 +44,7 @@ use Rattle.meaning_derivation.proofs.Sorting.{attribute_appended-values, context
 use Rattle.meaning_forms.proofs.Slots.{is_within, IsOf-more, within-fits, both}
 use Rattle.meaning_forms.proofs.Knowledge.{Known, AWord, ATree, AList, AreOf, Is, grown, is_list, grown-is, alone-is, are_of-behind, with_parts-none}
 use Rattle.meaning_forms.proofs.Effects.{behind_known, behind_shape, type_name_shape, specifiers_known, where_, declarator_parts, one_attribute, lists_of_attributes, slots_from}
-use Rattle.meaning_forms.proofs.Fronts.{Stand, beneath, word_first, tree_first, list_first, some_first, stand_more, stand_same}
+use Rattle.meaning_forms.proofs.Fronts.{Stand, beneath, word_first, tree_first, list_first, stand_more, stand_same}
 use Rattle.meaning_forms.proofs.Making.{reached, reached_unless, made-values, made_stands}
 
 -- a test that holds, and what is known then

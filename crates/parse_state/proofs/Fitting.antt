@@ -1,12 +1,10 @@
 -- Values of the sorts that an action takes are covered by sources that cover those sorts.
 use Rattle.std.proofs.Common.{◌≡◌, Bool, true, false, List, [], ◌∷◌, None, IsSome, take, reverse, length, if◌then◌else◌, refl, sym, ap, ap₂, ◌∙◌}
-use Rattle.std.specs.List.{list_all}
 use Rattle.vocabulary.specs.declared.action.Action.{Action}
 use Rattle.vocabulary.specs.declared.production_item.ProductionItem.TheVariants.{Do}
 use Rattle.meaning_grammar.specs.Sorts.{Sort, AWord, ATree, AList, is_same_sort, action_effect, exchanged, effect}
-use Rattle.meaning_derivation.specs.Values.{Value, sort_of, sorts_of}
+use Rattle.meaning_derivation.specs.Values.{Value, sorts_of}
 use Rattle.parse_state.specs.declared.shape.Source.{Source}
-use Rattle.parse_state.specs.Lying.{is_word_sort, AreWords}
 use Rattle.parse_state.specs.Sources.{covers, IsCovered, IsFit}
 
 same_sort : (sort other : Sort) → is_same_sort sort other ≡ true → sort ≡ other
@@ -39,10 +37,3 @@ fit action values is = fits (action_effect action).takes (action_effect action).
 pub covered : (action : Action) (values : List Value) (sources : List Source) → IsSome (effect (Do action) (sorts_of values))
     → covers (reverse (action_effect action).takes) sources ≡ true → IsCovered values (length (action_effect action).takes) sources
 covered action values sources is all = ap (λ sorts. covers (reverse sorts) sources) (fit action values is) ∙ all
-
--- where a word stands on a list the last value is a word
-pub word_on_list : (values : List Value) → take 2 (sorts_of values) ≡ AWord ∷ AList ∷ [] → AreWords values 1
-word_on_list [] is = absurd (cc is)
-word_on_list (value ∷ []) is = absurd (cc is)
-word_on_list (value ∷ other ∷ values) is =
-    let top : sort_of value ≡ AWord = cc is in ap (λ (sort : Sort). list_all is_word_sort (sort ∷ [])) top

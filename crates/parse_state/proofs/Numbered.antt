@@ -2,12 +2,12 @@
 use Rattle.std.proofs.Common.{◌≡◌, ℕ, zero, suc, ◌+◌, ◌-◌, ◌<◌, ◌≤◌, Bool, true, ◌&&◌, List, [], ◌∷◌, ◌++◌, map, reverse, length, slice_get, Some, refl, sym, ap, ap₂, subst, ◌∙◌, arith, append_assoc, length-append}
 use Rattle.std.specs.List.{list_all}
 use Rattle.std.proofs.lemmas.Bool.{and_parts, lt-ltb}
-use Rattle.std.proofs.lemmas.List.{length-map, map-append}
+use Rattle.std.proofs.lemmas.List.{map-append}
 use Rattle.std.proofs.lemmas.List.Folds.{list_all-append}
-use Rattle.std.proofs.lemmas.Option.{same_Some, slice_get_within}
+use Rattle.std.proofs.lemmas.Option.{same_Some}
 use Rattle.vocabulary.specs.Roles.{role_of}
 use Rattle.meaning_tree.specs.Trees.{SyntaxTree, Node, NoParts, Part}
-use Rattle.meaning_tree.specs.Nodes.{TreeNode, NodeList, HasNode, end_of}
+use Rattle.meaning_tree.specs.Nodes.{TreeNode, NodeList, end_of}
 use Rattle.meaning_tree.specs.Runs.{IsRun, AreRuns, run, no_runs, last_run}
 use Rattle.meaning_tree.specs.Listed.{tree_at, parts_at, tree_over, trees_from, renamed_node}
 use Rattle.meaning_tree.proofs.Runs.{run-rises, runs-rise}

@@ -1,5 +1,5 @@
 -- The only tree of a list stands in its place.
-use Rattle.std.proofs.Common.{◌≡◌, ℕ, zero, suc, ◌+◌, true, List, [], ◌∷◌, ◌++◌, map, reverse, take, length, slice_get, Option, Some, None, option_map, is_some, refl, sym, ap, ◌∙◌, arith}
+use Rattle.std.proofs.Common.{◌≡◌, ℕ, zero, suc, ◌+◌, true, List, [], ◌∷◌, ◌++◌, map, reverse, take, slice_get, Option, Some, None, option_map, is_some, refl, sym, ap, ◌∙◌}
 use Rattle.std.specs.List.{list_all}
 use Rattle.std.proofs.lemmas.Bool.{and_parts}
 use Rattle.std.proofs.lemmas.Option.{same_Some}
@@ -16,17 +16,6 @@ use Rattle.parse_state.specs.Giving.{is_below, has_handles_below}
 use Rattle.parse_state.specs.Making.{start_of}
 use Rattle.parse_state.proofs.Stacks.{all-reverse}
 use Rattle.parse_state.proofs.Seeing.{seen, value_at-seen, values_of-pushed, values_of-below}
-
--- a list of one
-pub child_alone : (children : List (ℕ × ℕ)) (child : ℕ × ℕ) → length children ≡ 1 → slice_get children 0 ≡ Some child → Some child.0 ≡ only_child children
-child_alone [] child one first = absurd (cc first)
-child_alone (only ∷ []) child one first = ap (λ it. Some it.0) (sym (same_Some _ _ first))
-child_alone (only ∷ other ∷ children) child one first = absurd (omega (arith, one))
-
-pub not_alone : (children : List (ℕ × ℕ)) → (length children ≡ 1 → ⊥) → None ≡ only_child children
-not_alone [] more = refl
-not_alone (only ∷ []) more = absurd (more refl)
-not_alone (only ∷ other ∷ children) more = refl
 
 only_part : (trees : List SyntaxTree) (children : List (ℕ × ℕ)) → only_tree (parts_at trees children) ≡ option_map (tree_at trees) (only_child children)
 only_part trees [] = refl

@@ -1,5 +1,5 @@
 -- Specifiers that are a declaration on their own: whether they are a lone tag, and what becomes of them then.
-use Rattle.std.proofs.Common.{◌≡◌, ℕ, zero, suc, ◌+◌, ◌-◌, ◌<◌, ◌≤◌, Bool, true, false, ◌&&◌, List, [], ◌∷◌, ◌++◌, map, nat_lt, reverse, drop, length, slice_get, Option, Some, None, IfSome, IfNone, All, refl, sym, ap, ap₂, subst, ◌∙◌, arith, if◌then◌else◌}
+use Rattle.std.proofs.Common.{◌≡◌, ℕ, suc, ◌+◌, ◌-◌, ◌<◌, ◌≤◌, Bool, true, false, ◌&&◌, List, [], ◌∷◌, ◌++◌, map, nat_lt, reverse, drop, length, slice_get, Option, Some, None, IfSome, IfNone, All, refl, sym, ap, ap₂, subst, ◌∙◌, arith, if◌then◌else◌}
 use Rattle.std.specs.List.{list_all}
 use Rattle.std.proofs.lemmas.List.{reverse-reverse}
 use Rattle.std.proofs.lemmas.List.Elements.{All-head}
@@ -16,7 +16,7 @@ use Rattle.meaning_tree.specs.Listed.{tree_at, parts_at}
 use Rattle.meaning_tree.proofs.Finding.{node_unique}
 use Rattle.meaning_tree.proofs.Runs.{run-rises}
 use Rattle.meaning_tree.proofs.Listing.{parts_at-stays}
-use Rattle.meaning_scopes.specs.Scopes.{ScopeList, Binds}
+use Rattle.meaning_scopes.specs.Scopes.{Binds}
 use Rattle.meaning_derivation.specs.Values as values
 use Rattle.meaning_derivation.specs.Values.{TreeValue, value_at}
 use Rattle.meaning_derivation.specs.State.{ClosedList, State, Goes}
@@ -40,7 +40,7 @@ use Rattle.parse_state.specs.Storage.{has_child}
 use Rattle.parse_state.specs.Tags.{IsLone, is_new_tag}
 use Rattle.parse_state.proofs.DeclaredNames.{kinds-seen}
 use Rattle.parse_state.proofs.Lying.{run-of_one, stacked-parted}
-use Rattle.parse_state.proofs.Numbered.{last_two, numbered-last, stacked-handles, trees_before, specifier_tree, over_both, top_tree, all_trees, count, values_numbered}
+use Rattle.parse_state.proofs.Numbered.{last_two, numbered-last, stacked-handles, trees_before, top_tree, all_trees, count, values_numbered}
 use Rattle.parse_state.proofs.Parts.{node_seen, tree_seen, no_tree_seen}
 use Rattle.parse_state.proofs.Sound.{all-weaker, handles-later}
 use Rattle.parse_state.proofs.SpecifiedKinds.{below_end, children_known}

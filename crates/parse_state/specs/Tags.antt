@@ -1,5 +1,5 @@
 -- Tags that are declared alone, by ids and handles.
-use Rattle.std.specs.Prelude.{◌≡◌, ℕ, Bool, ◌&&◌, List, [], ◌∷◌, reverse, slice_get, Some}
+use Rattle.std.specs.Prelude.{◌≡◌, ℕ, Bool, ◌&&◌, [], ◌∷◌, reverse, slice_get, Some}
 use Rattle.meaning_tree.specs.Nodes.{TreeNode, HasNode}
 use Rattle.meaning_derivation.specs.Scoping.{is_lone_tag, is_member_list, is_new_here}
 use Rattle.sparse_model.specs.declared.ids.NameId.{NameId}

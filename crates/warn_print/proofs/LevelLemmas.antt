@@ -1,18 +1,18 @@
 -- What the outermost level of a type tells of its text and of its weight.
-use Rattle.std.proofs.Common.{◌≡◌, ℕ, ◌+◌, ◌<◌, List, [], ◌++◌, codes, Bool, true, false, Some, None, refl, sym, ap, ◌∙◌, subst, arith, append_assoc}
+use Rattle.std.proofs.Common.{◌≡◌, ℕ, ◌+◌, ◌<◌, List, [], ◌++◌, codes, Bool, Some, None, refl, sym, ap, ◌∙◌, subst, arith, append_assoc}
 use Rattle.std.specs.Prelude.{if◌then◌else◌}
-use Rattle.std.proofs.lemmas.Option.{none-some, same_Some, slice_get_past}
+use Rattle.std.proofs.lemmas.Option.{none-some, same_Some}
 use Rattle.sparse_model.specs.declared.ids.TypeId.{TypeId}
-use Rattle.meaning_types.specs.Types.{TypeTree, Typed, TypeTrees, NoTypes, Qualifiers, Flags}
+use Rattle.meaning_types.specs.Types.{TypeTree, Typed, TypeTrees, Qualifiers, Flags}
 use Rattle.c_types.specs.declared.shapes.OuterBase.{OuterBase}
 use Rattle.c_types.specs.declared.shapes.OuterBase.TheVariants as outers
 use Rattle.meaning_types.specs.Spelling.{length_spelling, marks}
 use Rattle.c_types.specs.Levels.{BeginsWith}
 use Rattle.c_types.specs.declared.shapes.OuterShape.{OuterShape}
-use Rattle.c_types.specs.Rows.{is_variadic, no_type, parameter_types}
+use Rattle.c_types.specs.Rows.{is_variadic, parameter_types}
 use Rattle.c_types.specs.Table.{TypeTable, IsOuterOver, IsTypeId, base_of_outer, space_of, type_at, type_of_outer, types_in}
 use Rattle.warn_print.specs.Seen.{named_flags}
-use Rattle.warn_print.specs.Pieces.{derivation_in, derivation_weight, inner_of, leaf_text, marks_in, more_in, parameters_in, plain_derivation, spelled_in, type_weight, types_weight}
+use Rattle.warn_print.specs.Pieces.{derivation_in, derivation_weight, inner_of, marks_in, more_in, parameters_in, plain_derivation, spelled_in, type_weight, types_weight}
 
 -- four texts behind a first one, and a last one in the end
 behind_four : (a b c d e : List ℕ) → a ++ b ++ c ++ d ++ e ≡ a ++ (b ++ c ++ d ++ e)
@@ -55,16 +55,6 @@ module _ (names : List (List ℕ)) (table : TypeTable) (parameters : TypeTrees) 
   level-lighter (outers.Integer kind identity) inner is = absurd (none-some inner is)
   level-lighter (outers.Aggregate number is_union) inner is = absurd (none-some inner is)
 
-  -- another type is written at once
-  pub level-leaf : (base : OuterBase) → inner_of base ≡ None → spelled_in names table (level base) ≡ leaf_text names table base ++ marks_in names (level base)
-  level-leaf (outers.Pointer target) none = absurd (none-some target (sym none))
-  level-leaf (outers.Array element count) none = absurd (none-some element (sym none))
-  level-leaf (outers.Function result count variadic) none = absurd (none-some result (sym none))
-  level-leaf outers.Void none = refl
-  level-leaf (outers.Integer kind None) none = refl
-  level-leaf (outers.Integer kind (Some identity)) none = refl
-  level-leaf (outers.Aggregate number is_union) none = refl
-
 -- the one inside is a type of the table
 pub inner-known : (table : TypeTable) (base : OuterBase) (inner : TypeId) → IsOuterOver (types_in table) base → inner_of base ≡ Some inner → IsTypeId table inner
 inner-known table (outers.Pointer target) inner known is = subst (IsTypeId table) (same_Some _ _ is) known
@@ -73,10 +63,6 @@ inner-known table (outers.Function result count variadic) inner known is = subst
 inner-known table outers.Void inner known is = absurd (none-some inner is)
 inner-known table (outers.Integer kind identity) inner known is = absurd (none-some inner is)
 inner-known table (outers.Aggregate number is_union) inner known is = absurd (none-some inner is)
-
--- a type whose id isn't known is void
-pub unknown-void : (table : TypeTable) (id : TypeId) → (IsTypeId table id → ⊥) → type_at table id ≡ no_type
-unknown-void table id unknown = rw (slice_get_past (types_in table) id.0 (omega (arith, unknown))) refl
 
 -- Parameters
 
@@ -98,14 +84,6 @@ module _ (names : List (List ℕ)) (table : TypeTable) (t first rest : TypeId) (
 
 -- of a function without parameters
 module _ (names : List (List ℕ)) (table : TypeTable) where
-  pub parameters-none : (parameters : TypeTrees) (variadic : Bool) → parameters ≡ NoTypes → parameters_in names table parameters variadic ≡ (if variadic then codes "..." else codes "void")
-  parameters-none parameters true none = rw none refl
-  parameters-none parameters false none = rw none refl
-
-  pub more-none : (parameters : TypeTrees) (variadic : Bool) → parameters ≡ NoTypes → more_in names table parameters variadic ≡ (if variadic then codes ", ..." else [])
-  more-none parameters true none = rw none refl
-  more-none parameters false none = rw none refl
-
   -- what derives a function is its parentheses
   pub behind-function :
       (parameters : TypeTrees) (qualifiers : Qualifiers) (flags : Flags) (result : TypeId) (count : ℕ) (variadic : Bool)

@@ -1,5 +1,4 @@
-use Rattle.std.proofs.Common.{◌≡◌, drop, sym, ap, subst, ◌∙◌}
-use Rattle.meaning_grammar.specs.Sorts.{AList}
+use Rattle.std.proofs.Common.{◌≡◌, drop, ap, ◌∙◌}
 use Rattle.meaning_derivation.specs.Values.{sort_of, value_at}
 use Rattle.meaning_derivation.specs.State.{State}
 use Rattle.parse_state.specs.Seen.{state_of}

@@ -1,5 +1,4 @@
 use Rattle.std.proofs.Common.{◌≡◌, List, ◌∷◌, drop, ap, ◌∙◌}
-use Rattle.meaning_grammar.specs.Sorts.{AList}
 use Rattle.meaning_derivation.specs.Values.{Value, TreeValue, sort_of, value_at}
 use Rattle.meaning_derivation.specs.Attributes.{constant_at}
 use Rattle.parse_state.specs.Seen.{state_of}

@@ -1,4 +1,4 @@
-use Rattle.std.proofs.Common.{◌≢◌, ℕ, nat_eq, [], ◌∷◌, List, Option, unwrap_or, option_map, codes, refl, ap, arith, ◌∙◌}
+use Rattle.std.proofs.Common.{◌≢◌, ℕ, nat_eq, [], ◌∷◌, List, Option, unwrap_or, option_map, refl, ap, arith, ◌∙◌}
 use Rattle.std.specs.Map.{lookup}
 use Rattle.meaning_preprocessing.specs.Unit.{first_definitions}
 use Rattle.sparse_model.specs.declared.ids.NameId.{NameId}

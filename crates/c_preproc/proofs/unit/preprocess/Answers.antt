@@ -1,4 +1,4 @@
-use Rattle.std.proofs.Common.{Err, Result, ap, sym, subst, ◌∙◌}
+use Rattle.std.proofs.Common.{Err, sym, subst, ◌∙◌}
 use Rattle.meaning_outside.specs.Loads.{AgreesWith, EachPathIsLoadedOnce, loads_since}
 use Rattle.meaning_conditions.proofs.Valuing.{answers_exist}
 use Rattle.meaning_conditions.specs.plain.Reading.{answer_of}

@@ -1,9 +1,9 @@
 -- One block more, and the whole.
-use Rattle.std.proofs.Common.{ℕ, ◌+◌, ◌<◌, List, length, get_or, drop, map, unsigned_abs, rules, sym, ap, ◌∙◌, subst, arith, below_more}
+use Rattle.std.proofs.Common.{ℕ, ◌+◌, ◌<◌, length, get_or, map, unsigned_abs, rules, sym, ap, ◌∙◌, subst, arith, below_more}
 use Rattle.std.specs.Int.{w64}
 use Rattle.std.proofs.lemmas.Int.{to_z-of_z}
 use Rattle.std.proofs.lemmas.List.{drop_all, get_or-map}
-use Rattle.meaning_paths.specs.Graphs.{BasicBlock, BeginsWithPoint, empty_block, size_of_graph, size_of_steps, steps_at, successors_at}
+use Rattle.meaning_paths.specs.Graphs.{BasicBlock, BeginsWithPoint, empty_block, size_of_graph, size_of_steps, successors_at}
 use Rattle.control_flow.specs.Seen.{block_of, graph_of_blocks, step_of, targets}
 use Rattle.context_walk.proofs.FlowLemmas.{length-graph}
 use Rattle.flows.specs.Asked.{AllBelow}

@@ -1,7 +1,5 @@
-use Rattle.std.proofs.Common.{◌≡◌, ℕ, List, Some, None, length, sym, subst, arith}
-use Rattle.c_tokens.specs.Seen.{toks_of}
+use Rattle.std.proofs.Common.{◌≡◌, ℕ, List, Some, None, sym, subst, arith}
 use Rattle.meaning_syntax.specs.plain.Reading.{read_items}
-use Rattle.first_form.specs.declared.failure.Failure.{Failure}
 use Rattle.first_form.specs.declared.item.Item.{Item}
 use Rattle.first_form.specs.Known.{AreKnownFailures}
 use Rattle.first_form.specs.Seen.{items_of, spellings_of}

@@ -1,6 +1,6 @@
-use Rattle.std.proofs.Common.{ℕ, ◌+◌, List, drop, sym, ◌∙◌, ap}
+use Rattle.std.proofs.Common.{ℕ, ◌+◌, drop, sym, ◌∙◌, ap}
 use Rattle.std.proofs.lemmas.Result.{IfErr-weaker}
-use Rattle.meaning_answer.specs.Options.{Word, word_of}
+use Rattle.meaning_answer.specs.Options.{Word}
 use Rattle.meaning_answer.specs.Requests.{is_bad}
 use Rattle.ksparse.specs.Reading.{Reading, has_file, reading_seen, request_behind, taken}
 use Rattle.ksparse.proofs.ReadingLemmas.{command_first, words_begin, words_go_on, word_at_fault, none_left, command_right, missing_file}

@@ -1,5 +1,5 @@
 use Rattle.std.proofs.Common.{sym, ◌∙◌}
-use Rattle.ksparse.proofs.IdentifierLemmas.{hexadecimal_behind, no_digit}
+use Rattle.ksparse.proofs.IdentifierLemmas.{hexadecimal_behind}
 use Rattle.ksparse.proofs.identifier.begins_hexadecimal.Goals as goal
 
 pub digits-preserved : goal.digits-preserved

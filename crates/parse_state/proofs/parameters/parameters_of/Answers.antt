@@ -1,5 +1,5 @@
 -- The children of a node stand before it.
-use Rattle.std.proofs.Common.{◌≡◌, ℕ, true, length, [], sym, ap, ◌∙◌, arith}
+use Rattle.std.proofs.Common.{◌≡◌, ℕ, length, [], sym, ap, ◌∙◌, arith}
 use Rattle.std.specs.List.{list_all}
 use Rattle.meaning_tree.specs.Nodes.{end_of}
 use Rattle.parse_state.specs.Giving.{is_below}

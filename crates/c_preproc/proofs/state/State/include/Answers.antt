@@ -1,4 +1,4 @@
-use Rattle.std.proofs.Common.{◌≡◌, ◌++◌, Ok, Err, Some, None, List, ℕ, map, refl, sym, subst, ap, ◌∙◌}
+use Rattle.std.proofs.Common.{◌≡◌, ◌++◌, Ok, Err, Some, None, ℕ, map, refl, subst, ap, ◌∙◌}
 use Rattle.vocabulary.specs.declared.error_kind.ErrorKind.TheVariants.{IncludeNotFound}
 use Rattle.meaning_outside.specs.Loads.{loads_since}
 use Rattle.meaning_preprocessing.specs.Search.{name_of_header, paths_for}

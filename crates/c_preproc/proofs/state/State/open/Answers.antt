@@ -1,11 +1,9 @@
-use Rattle.std.proofs.Common.{◌≡◌, ◌+◌, Ok, Err, Result, ℕ, length, refl, sym, subst, ap, ◌∙◌, arith}
-use Rattle.c_preproc.specs.Kept.{bytes_kept}
-use Rattle.c_preproc.specs.Loads.{IsNew, IsSource}
+use Rattle.std.proofs.Common.{◌≡◌, ◌+◌, Ok, ℕ, length, refl, sym, subst, ap, ◌∙◌, arith}
+use Rattle.c_preproc.specs.Loads.{IsSource}
 use Rattle.c_preproc.specs.Numbers.{IsKeptNow, IsPassed}
 use Rattle.c_preproc.specs.Opens.{IsOpened}
 use Rattle.c_preproc.specs.States.{Holds}
-use Rattle.c_preproc.specs.declared.pre_fault.PreFault.{PreFault}
-use Rattle.c_preproc.proofs.OpenedLemmas.{kept-passed, new-opened, new-passed, opened-kept}
+use Rattle.c_preproc.proofs.OpenedLemmas.{new-opened, new-passed, opened-kept}
 use Rattle.c_preproc.proofs.StateLemmas.{with-bytes}
 use Rattle.c_preproc.proofs.state.State.open.Goals as goal
 

@@ -1,5 +1,5 @@
-use Rattle.std.proofs.Common.{◌∙◌, sym, ap, arith, ◌++◌, length}
-use Rattle.c_preproc.proofs.TextLemmas.{put-ends, put-goes}
+use Rattle.std.proofs.Common.{◌∙◌, arith, ◌++◌}
+use Rattle.c_preproc.proofs.TextLemmas.{put-ends}
 use Rattle.c_preproc.proofs.state.State.put.Goals as goal
 
 pub returns-then-is_beyond-clause-ends : goal.returns-then-is_beyond-clause-ends

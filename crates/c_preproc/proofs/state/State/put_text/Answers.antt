@@ -1,4 +1,4 @@
-use Rattle.std.proofs.Common.{OnOk, IfErr, subst, ap, ◌∙◌}
+use Rattle.std.proofs.Common.{OnOk, IfErr, subst, ◌∙◌}
 use Rattle.meaning_preprocessing.specs.State.{and_then, expanded_in, tokens_before}
 use Rattle.c_tokens.specs.Seen.{toks_of}
 use Rattle.c_preproc.specs.States.{EndsUnit, GoesOn}

@@ -1,4 +1,4 @@
-use Rattle.std.proofs.Common.{OnOk, IfErr, [], length, sym, ap, subst, ◌∙◌}
+use Rattle.std.proofs.Common.{OnOk, IfErr, [], sym, ap, subst, ◌∙◌}
 use Rattle.meaning_preprocessing.specs.State.{and_then, tokens_before}
 use Rattle.c_tokens.specs.Seen.{toks_of}
 use Rattle.c_preproc.specs.Groups.{groups_seen}

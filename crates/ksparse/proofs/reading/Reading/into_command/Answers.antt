@@ -1,4 +1,4 @@
-use Rattle.std.proofs.Common.{List, true, false, ap, sym, ◌∙◌}
+use Rattle.std.proofs.Common.{List, true, false, ap, ◌∙◌}
 use Rattle.meaning_answer.specs.Requests.{classes_on}
 use Rattle.ksparse.specs.declared.option.Switch.{Switch}
 use Rattle.ksparse.specs.Options.{switches_seen}

@@ -47,10 +47,6 @@ pub made_covers : (s middle : State) (count : ℕ) (tree : SyntaxTree) → made 
 made_covers s middle count tree is list =
     subst (λ (values : List Value). IsCovered values 2 on_list) (sym (values_made s middle count tree is)) (tree_on_list tree (drop count s.values) list)
 
--- Constants
-
-module _ (names : List (List ℕ)) (start : ℕ) where
-
 -- Refusals
 
 -- a fault that tells of a refusal is told so of the list

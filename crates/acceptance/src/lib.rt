@@ -15,12 +15,6 @@ mod growth;
 #[cfg(test)]
 mod model;
 #[cfg(test)]
-mod nestings;
-#[cfg(test)]
-mod pairs;
-#[cfg(test)]
 mod run;
-#[cfg(test)]
-mod sizes;
 #[cfg(test)]
 mod untold;

@@ -41,16 +41,3 @@ pub fn assert_ran(rt: &(impl Abort + AllocGlobal), case: &str, ran: &Ran, exit: 
     assert_eq!(rt; ran.err.bytes(), err, "{case}");
     assert_eq!(rt; ran.out.bytes(), b"".as_slice(), "{case}");
 }
-
-/// Asserts the same of the check of the file `t.c` with this text.
-pub fn assert_check(
-    rt: &(impl Abort + AllocGlobal),
-    case: &str,
-    text: &[u8],
-    exit: Exit,
-    err: &str,
-) -> Result<(), AllocError> {
-    let ran = check(rt.alloc(), text)?;
-    assert_ran(rt, case, &ran, exit, err.as_bytes());
-    Ok(())
-}

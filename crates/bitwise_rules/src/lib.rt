@@ -11,7 +11,5 @@ mod law;
 mod operands;
 mod parts;
 mod table;
-#[cfg(test)]
-mod tests;
 
 pub use answer::{RuleAnswer, operator_rule};

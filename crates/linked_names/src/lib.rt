@@ -11,8 +11,6 @@ mod forms;
 mod group;
 mod linked_names;
 mod placed;
-#[cfg(test)]
-mod tests;
 mod trace;
 mod typedef_names;
 mod witnesses;

@@ -9,8 +9,6 @@ mod access;
 mod convert;
 mod rows;
 mod targets;
-#[cfg(test)]
-mod tests;
 
 pub use access::access_rule;
 pub use convert::{ConvertAnswer, Position, convert_rule};

@@ -1,0 +1,3 @@
+-- All pairs.
+pub mod Conversions
+pub mod Operators

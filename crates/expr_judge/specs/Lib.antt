@@ -10,3 +10,4 @@ pub mod Sorts
 pub mod Outcomes
 pub mod Changes
 pub mod Arms
+pub mod Expected

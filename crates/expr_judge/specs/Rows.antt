@@ -1,9 +1,8 @@
 -- How a row is seen: the failures in their order, and of what is broken the least.
-use Rattle.std.specs.Prelude.{ℕ, pos, nat_eq, List, [], ◌∷◌, ◌++◌, Option, Some, None, IfSome, option_map, if◌then◌else◌}
+use Rattle.std.specs.Prelude.{ℕ, pos, List, [], ◌∷◌, ◌++◌, Option, Some, None, IfSome, option_map}
 use Rattle.vocabulary.specs.declared.error_kind.ErrorKind.{ErrorKind}
 use Rattle.vocabulary.specs.declared.rule.RuleCode.{RuleCode}
 use Rattle.sparse_model.specs.declared.failure.Failure.{Failure}
-use Rattle.sparse_model.specs.declared.ids.NameId.{NameId}
 use Rattle.sparse_model.specs.declared.ids.TypeId.{TypeId}
 use Rattle.meaning_operands.specs.Failures as meaning
 use Rattle.meaning_typing.specs.Facts.{Fact}

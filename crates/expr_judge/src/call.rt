@@ -82,8 +82,8 @@ fn passed_freely(types: &Types, argument: Argument) -> Converted
     }
 }
 
-// It becomes a value of its parameter's type.
-fn passed_as(types: &Types, part: u16, argument: Argument, to: TypeId) -> Converted
+/// An argument becomes a value of its parameter's type.
+pub fn passed_as(types: &Types, part: u16, argument: Argument, to: TypeId) -> Converted
     requires argument { IsKnownArgument types.now argument }
     requires to { IsTypeId types.now to }
     ensures converted { converted_seen types.now result ≡ converted_told (meaning.passed_as part argument.token (valued_part types.now argument.part) (type_at types.now to)) }

@@ -9,3 +9,4 @@ pub mod SortLemmas
 pub mod OutcomeLemmas
 pub mod ChangeLemmas
 pub mod ArmLemmas
+pub mod CastLemmas

@@ -11,3 +11,4 @@ pub mod Outcomes
 pub mod Changes
 pub mod Arms
 pub mod Expected
+pub mod Casts

@@ -30,8 +30,8 @@ pub fn number_of(types: &Types, fact: ExpressionFact) -> Option<i128>
     part_of(types, fact.node).number
 }
 
-// Whether it is the number 0.
-fn is_zero_number(number: Option<i128>) -> bool
+/// Whether it is the number 0.
+pub fn is_zero_number(number: Option<i128>) -> bool
     ensures { result ≡ meaning.is_zero_number number }
 {
     match number {

@@ -101,9 +101,9 @@ compare:
 headers: $(PROGRAM)
 	$(PYTHON) scripts/headers.py $(PROGRAM) $(LINUX) $(FILES)
 
-smoke: $(PROGRAM) $(FLOWS) $(WORKBENCH)
+smoke: $(PROGRAM) $(FLOWS) $(WORKBENCH) build/judged
 	$(PYTHON) scripts/smoke.py $(PROGRAM)
-	$(PYTHON) scripts/smoke_large.py $(FLOWS) $(WORKBENCH)
+	$(PYTHON) scripts/smoke_large.py $(FLOWS) $(WORKBENCH) build/judged
 
 install: $(PROGRAM)
 	install -D -m 755 $(PROGRAM) $(DESTDIR)$(PREFIX)/bin/ksparse

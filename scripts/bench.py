@@ -308,6 +308,14 @@ FAMILIES = (
 
 # What flags a pointer of these texts has.
 FLAGGED = b"int __attribute__((noderef)) *"
+# A type that is restricted, and shorter than an int.
+RESTRICTED = b"typedef unsigned short __attribute__((bitwise)) t; "
+# How long chains are that are judged, and how long those of conditionals.
+CHAINS = (60000, 600000)
+CONDITIONALS = (40000, 400000)
+# Operators between two operands that make a value, and those that change the first one; `=` has a chain of its own.
+BINARY = (b"*", b"/", b"%", b"+", b"-", b"<<", b">>", b"<", b">", b"<=", b">=", b"==", b"!=", b"&", b"^", b"|", b"&&", b"||")
+COMPOUND = (b"*=", b"/=", b"%=", b"+=", b"-=", b"<<=", b">>=", b"&=", b"^=", b"|=")
 
 # What the judge judges as long as no command asks it. Conversions and accesses that fail are warned of.
 JUDGING = (
@@ -344,6 +352,26 @@ JUDGING = (
     of_judging("stars of a function", b"void f(void) { ", b"*", b"f", b"", b"; }", LONG),
     of_judging("accesses that warn", FLAGGED + b"u; void f(void) { ", b"*u; ", b"", b"", b" }", LONG, status=1),
     of_judging("conversions that warn", FLAGGED + b"u; int *p; void f(void) { ", b"p = u; ", b"", b"", b" }", (40000, 400000), status=1),
+    *(of_judging(f"operands of {it.decode()}", b"void f(int a) { ", b"a %b " % it, b"a", b"", b"; }", CHAINS) for it in BINARY + COMPOUND),
+    *(of_judging(f"operands behind {it.decode()}", b"void f(int a) { ", it + b" ", b"a", b"", b"; }", CHAINS) for it in (b"+", b"-", b"~", b"!", b"sizeof")),
+    *(of_judging(f"operands before {it.decode()}", b"void f(int a) { ", b"a%b, " % it, b"a", b"", b"; }", CHAINS) for it in (b"++", b"--")),
+    of_judging("a sum of constants", b"void f(void) { ", b"1 + ", b"1", b"", b"; }", CHAINS),
+    of_judging("commas", b"void f(int a) { ", b"a, ", b"a", b"", b"; }", CHAINS),
+    of_judging("casts", b"void f(int a) { ", b"(long)", b"a", b"", b"; }", CHAINS),
+    of_judging("casts of constants", b"void f(void) { ", b"(int)", b"1", b"", b"; }", CHAINS),
+    of_judging("casts of pointers", b"void f(int *p) { ", b"(int *)p; ", b"", b"", b" }", (30000, 300000)),
+    of_judging("?: to the right", b"void f(int a) { ", b"a ? a : ", b"a", b"", b"; }", CONDITIONALS),
+    of_judging("?: without a middle", b"void f(int a) { ", b"a ?: ", b"a", b"", b"; }", CONDITIONALS),
+    of_judging("?: of pointers", b"void f(int *p, void *v) { ", b"p ? v : ", b"p", b"", b"; }", CONDITIONALS),
+    of_judging("differences of pointers", b"void f(int *p) { ", b"p - p; ", b"", b"", b" }", CONDITIONALS),
+    of_judging("comparisons of pointers", b"void f(int *p, void *v) { ", b"p == v; ", b"", b"", b" }", CONDITIONALS),
+    of_judging("restricted operands", RESTRICTED + b"void f(t h) { ", b"h & ", b"~h", b"", b"; }", CHAINS),
+    of_judging("sizes of types", b"void f(void) { ", b"sizeof(int *) + ", b"1", b"", b"; }", (25000, 250000)),
+    of_judging("statement expressions", b"void f(int a) { ", b"({ ", b"a", b"; })", b"; }", (360, 3600)),
+    of_judging("nested __builtin_expect", b"void f(int a) { ", b"__builtin_expect(", b"a", b", 1)", b"; }", (300, 3000)),
+    of_judging("operands that warn", RESTRICTED + b"void f(t h) { ", b"h + 1; ", b"", b"", b" }", CONDITIONALS, status=1),
+    of_judging("comparisons that warn", b"void f(int *p, char *s) { ", b"p == s; ", b"", b"", b" }", CONDITIONALS, status=1),
+    of_judging("casts that warn", RESTRICTED + b"void f(t h) { ", b"(int)h; ", b"", b"", b" }", (30000, 300000), status=1),
     of_judging("arguments that warn", FLAGGED + b"u; int g(int *); void f(void) { ", b"g(u); ", b"", b"", b" }", (30000, 300000), status=1),
 )
 

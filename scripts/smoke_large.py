@@ -1,12 +1,13 @@
 #!/usr/bin/env python3
-"""Runs `flows` and `workbench` over large and deep texts, with ample memory, and compares their answers with those by hand.
+"""Runs `flows`, `workbench` and `judged` over large and deep texts, with ample memory, and compares their answers with those by hand.
 
-usage: smoke_large.py FLOWS WORKBENCH
+usage: smoke_large.py FLOWS WORKBENCH JUDGED
 """
 import os
 import subprocess
 import sys
 import tempfile
+from typing import NamedTuple
 
 from bench_flows import back_to_first, cases, row
 
@@ -42,27 +43,142 @@ EXPANSIONS = (
     ("a chain", "".join(f"#define a{number} a{number + 1}\n" for number in range(CHAIN)) + "a0", f"a{CHAIN}", (CHAIN, CHAIN)),
 )
 
+# How long a chain of operators is, and one of conditionals: nearly as long as the limit on tokens lets them be. How deep parentheses
+# and statement expressions stand in one another.
+OPERATORS = 600_000
+CONDITIONALS = 400_000
+PARENTHESES = 4_000
+STATEMENTS = 3_600
 
-def differs(name, command, text, answer):
-    """Whether the program writes anything but this answer of the text."""
+# What chains stand behind, all in the first line.
+UNIT = "typedef unsigned short __attribute__((bitwise)) t; void f(int a, t h, int *p, char *s, char c) { "
+
+DEGRADES = ("warning: restricted t degrades to integer",)
+DIFFER = ("warning: operands of different restricted types", "   left int", "   right restricted t")
+TESTED = ("warning: fouled restricted t compared or tested",)
+CHANGED = ("warning: bad assignment operator on restricted t",)
+STORED = ("warning: incorrect type in assignment (different restricted types)", "   expected int", "   got restricted t")
+CAST = ("warning: cast of restricted t",)
+UNLIKE = ("warning: incompatible types in conditional", "   left int", "   right int *")
+WRONG = ("error[64]: wrong operand types",)
+POINTER = ("warning: incorrect type in assignment (different base types)", "   expected int *")
+NULL = ("warning: using plain integer as NULL pointer",)
+SUM = ("warning: cast truncates constant (600000 becomes -64)",)
+ARM = ("warning: cast truncates constant (300 becomes 44)",)
+TRUNCATE = ("-Wcast-truncate",)
+
+
+class Chain(NamedTuple):
+    """A link so often behind a front, with an end behind it and what closes each link, and the texts that are told of it: of the
+    column that is so far behind the start of the last link, or else of the front.
+    """
+
+    name: str
+    front: str
+    link: str
+    count: int
+    end: str
+    texts: tuple
+    last: int | None = None
+    at: int = 0
+    back: str = ""
+    words: tuple = ()
+
+    def text(self):
+        return UNIT + self.front + self.link * self.count + self.end + self.back * self.count + "; }\n"
+
+    def told(self):
+        column = len(UNIT) + 1
+        if self.last is None:
+            column += self.at
+        else:
+            column += len(self.front) + len(self.link) * (self.count - 1) + self.last
+        return "".join(f"t.c:1:{column}: {text}\n" for text in self.texts)
+
+    def status(self):
+        if not self.texts:
+            return 0
+        return 2 if self.texts[0].startswith("error") else 1
+
+
+def operands(operators, end, texts):
+    """Chains of operands with these operators between, of which the last operator fails."""
+    return [Chain(f"operands of {it}", "", f"a {it} ", OPERATORS, end, texts, last=2) for it in operators.split()]
+
+
+def prefixes(operators, end, texts):
+    """Chains of these operators before an operand, of which the last one fails."""
+    return [Chain(f"operands behind {it}", "", f"{it} ", OPERATORS, end, texts, last=0) for it in operators.split()]
+
+
+# The last link of a chain fails, or what the chain stands in: each link before is judged, and nothing is told of it.
+CHAINS = (
+    *operands("* / % + - << >> < > <= >=", "h", DEGRADES),
+    *operands("== != & ^ |", "h", DIFFER),
+    *operands("&& ||", "~h", TESTED),
+    *operands("*= /= %= += -= <<= >>=", "h", CHANGED),
+    *operands("&= ^= |=", "h", DIFFER),
+    *operands("=", "h", STORED),
+    *prefixes("+ -", "h", DEGRADES),
+    *prefixes("!", "~h", TESTED),
+    *prefixes("~", "p", WRONG),
+    Chain("a fouled value behind ~", "!", "~ ", OPERATORS, "h", TESTED),
+    Chain("operands behind sizeof", "p = ", "sizeof ", OPERATORS, "a", (*POINTER, "   got unsigned long"), at=2),
+    Chain("increments", "", "a++, ", OPERATORS, "h++", CHANGED, last=len("a++, h")),
+    Chain("decrements", "", "--a, ", OPERATORS, "--h", CHANGED, last=len("--a, ")),
+    Chain("commas", "!(", "a, ", OPERATORS, "~h)", TESTED),
+    Chain("casts", "", "(int)", OPERATORS, "h", CAST, last=0),
+    Chain("?: to the right", "", "a ? a : ", CONDITIONALS, "p", UNLIKE, last=2),
+    Chain("?: without a middle", "", "a ?: ", CONDITIONALS, "p", UNLIKE, last=2),
+    Chain("conditions of ?:", "", "a ? a : ", CONDITIONALS, "~h ? a : a", TESTED, last=len("a ? a : ~h ")),
+    Chain("?: in the middle", "", "a ? ", PARENTHESES, "p", (), back=" : p"),
+    Chain("a sum", "(char)(", "1 + ", OPERATORS - 1, "1)", SUM, words=TRUNCATE),
+    Chain("constants of ?:", "(char)(", "0 ? 2 : ", CONDITIONALS, "300)", ARM, words=TRUNCATE),
+    Chain("parentheses", "p = ", "(", PARENTHESES, "s", (*POINTER, "   got char *"), back=")", at=2),
+    Chain("parentheses around 0", "p = ", "(", PARENTHESES, "1 - 1", NULL, back=")", at=2),
+    Chain("statement expressions", "p = ", "({ ", STATEMENTS, "c", (*POINTER, "   got char"), back="; })", at=2),
+    Chain("a fouled value in statements", "!", "({ ", STATEMENTS, "~h", TESTED, back="; })"),
+)
+
+
+def differs(name, command, path, text, expected):
+    """Whether a command over the file with this text leaves anything but this: what it writes, and its status."""
     with tempfile.TemporaryDirectory() as folder:
-        with open(os.path.join(folder, "t.txt"), "w", encoding="utf-8") as file:
+        with open(os.path.join(folder, path), "w", encoding="utf-8") as file:
             file.write(text)
         ran = subprocess.run(command, cwd=folder, capture_output=True, text=True, timeout=60, check=False)
     got = (ran.stdout, ran.stderr, ran.returncode)
-    if got == (answer + "\n", "", 0):
+    if got == expected:
         return False
-    print(f"{name}: expected {answer[:60]}, got {ran.stdout[:60]!r}, {ran.stderr[:60]!r}, status {ran.returncode}")
+    short = [(out[:60], err[:60], status) for out, err, status in (expected, got)]
+    print(f"{name}: expected {short[0]}, got {short[1]}")
     return True
 
 
-def main():
-    flows, workbench = map(os.path.abspath, sys.argv[1:])
-    failures = sum(differs(name, [flows, "t.txt"], flow.decode(), answer) for name, flow, answer in FLOWS)
-    failures += sum(differs(name, [workbench, "if_value", "t.txt"], text, answer) for name, text, answer in CONDITIONS)
+def flows_differ(flows):
+    """How many flows are answered otherwise."""
+    return sum(differs(name, [flows, "t.txt"], "t.txt", flow.decode(), (answer + "\n", "", 0)) for name, flow, answer in FLOWS)
+
+
+def workbench_differs(workbench):
+    """How many values of conditions and expansions."""
+    failures = 0
+    for name, text, answer in CONDITIONS:
+        failures += differs(name, [workbench, "if_value", "t.txt"], "t.txt", text, (answer + "\n", "", 0))
     for name, text, tokens, (replacements, most) in EXPANSIONS:
         command = [workbench, "expand", "t.txt", f"replacements={replacements}", f"tokens={most}"]
-        failures += differs(name, command, text + "\n", tokens + NOTHING_LEFT)
+        failures += differs(name, command, "t.txt", text + "\n", (tokens + NOTHING_LEFT + "\n", "", 0))
+    return failures
+
+
+def judged_differs(judged):
+    """How many chains are judged otherwise."""
+    return sum(differs(it.name, [judged, *it.words, "t.c"], "t.c", it.text(), ("", it.told(), it.status())) for it in CHAINS)
+
+
+def main():
+    flows, workbench, judged = map(os.path.abspath, sys.argv[1:])
+    failures = flows_differ(flows) + workbench_differs(workbench) + judged_differs(judged)
     print(f"smoke: {failures} differences in large texts")
     return 1 if failures else 0
 

@@ -1,0 +1,99 @@
+#!/usr/bin/env python3
+"""Runs the fixtures and the archives of the judge over `reference`, so that both are known to agree.
+
+usage: judged_rows.py DATA [ARCHIVE ..]
+
+DATA is the folder in which `judged` and `include` stand. A text that is longer than `LONGEST` isn't run, since the reader goes into
+what is nested. Prints each row in which the two differ, and exits 1 where there is one.
+"""
+import os
+import re
+import sys
+import threading
+
+import archives
+from reference import judging
+
+LONGEST = 20_000
+# What so long a text needs, where it is nothing but parentheses
+STACK, FRAMES = 1 << 29, 1_000_000
+
+MARK = re.compile(rb"//( *)([\^|]) (.*)")
+WORDS = re.compile(rb"// words: (.*)")
+
+
+def marked(name, text):
+    """The words of a fixture's command, and what its marks expect: the lines and the status."""
+    words, lines, place, code = [name], [], (1, 1), None
+    for number, line in enumerate(text.split(b"\n"), 1):
+        mark, said = MARK.match(line), WORDS.match(line)
+        if mark is None:
+            words = [name if word == b"FILE" else word for word in said[1].split()] if said else words
+            code = code if line.startswith(b"//") or not line.strip() else number
+            continue
+        if mark[2] == b"^":
+            place = (code, len(mark[1]) + 3) if code else (1, 1)
+        begin = b"" if mark[3].startswith(b"error[") else b"warning: " if mark[2] == b"^" else b"   "
+        lines.append(b"%b:%d:%d: %b%b\n" % (name, *place, begin, mark[3]))
+    status = judging.REFUSED if any(b": error[" in line for line in lines) else judging.WARNED if lines else judging.CLEAN
+    return words, (b"", b"".join(lines), status)
+
+
+def fixtures(data):
+    """The fixtures: where each stands, its words, the files that it sees, and what it expects."""
+    headers = {}
+    for at, _, names in os.walk(os.path.join(data, "include")):
+        for name in names:
+            path = os.path.join(at, name)
+            with open(path, "rb") as file:
+                headers[os.path.relpath(path, data).encode()] = file.read()
+    for name in sorted(os.listdir(os.path.join(data, "judged"))):
+        with open(os.path.join(data, "judged", name), "rb") as file:
+            text = file.read()
+        words, expected = marked(name.encode(), text)
+        yield name, words, headers | {name.encode(): text}, expected
+
+
+def cases(path):
+    """The same of the cases of an archive."""
+    with open(path, "rb") as file:
+        found = archives.read(file.read())
+    for case in found:
+        if case.program == "judged":
+            expected = case.expected["out"], case.expected["err"], int(case.expected["status"])
+            yield f"{path}:{case.line}", case.words, case.files, expected
+
+
+def difference(words, files, expected):
+    """What the reader says otherwise, or nothing."""
+    try:
+        found = judging.answer(words, files)
+    except judging.NotBuilt as form:
+        return f"isn't read here: {form}"
+    return None if found == expected else f"{found} in place of {expected}"
+
+
+def run(status):
+    """Runs all rows; the status is handed out in a list."""
+    rows = [*fixtures(sys.argv[1]), *(row for path in sys.argv[2:] for row in cases(path))]
+    short = [row for row in rows if max(map(len, row[2].values()), default=0) <= LONGEST]
+    for where, *row in short:
+        wrong = difference(*row)
+        if wrong:
+            status[0] = 1
+            print(f"{where}: {wrong}")
+    print(f"judged_rows: {len(short)} rows, {len(rows) - len(short)} too long; {'rows differ' if status[0] else 'ok'}")
+
+
+def main():
+    sys.setrecursionlimit(FRAMES)
+    threading.stack_size(STACK)
+    status = [0]
+    thread = threading.Thread(target=run, args=(status,))
+    thread.start()
+    thread.join()
+    return status[0]
+
+
+if __name__ == "__main__":
+    sys.exit(main())

@@ -83,14 +83,15 @@ costs: | kit
 bench: $(PROGRAM) $(WORKBENCH) $(FLOWS) build/judged
 	$(PYTHON) scripts/bench.py $(PROGRAM) $(WORKBENCH) $(FLOWS) build/judged $(FAMILIES)
 
-fuzz: $(PROGRAM) $(WORKBENCH) $(FLOWS) build/trees
-	$(PYTHON) scripts/fuzz.py $(PROGRAM) $(WORKBENCH) $(FLOWS) build/trees
+fuzz: $(PROGRAM) $(WORKBENCH) $(FLOWS) build/trees build/judged
+	$(PYTHON) scripts/fuzz.py $(PROGRAM) $(WORKBENCH) $(FLOWS) build/trees build/judged
 
-# Worked rows over the checker that fuzz compares the program with.
+# Worked rows over what fuzz compares the programs with.
 PREPROCESSED := aggregates_assertions aggregates_attributes aggregates_enumerators aggregates_initializers aggregates_members aggregates_tags aggregates_typeof an_include_directory attributes_not_in_the_form attributes_refused checks_through_macros checks_through_macros_of_headers command_lines declarations_bodies declarations_in_blocks declarations_members declarations_name_classes declarations_nested_functions declarations_parameters declarations_redeclared declarations_specifiers declarations_type_names expansion_arguments expansion_changing_names expansion_hidden_names expansion_limits expansion_of_kernel_macros expansion_pasting expansion_strings expressions_casts expressions_literals expressions_names expressions_of_all_levels expressions_refused header_names include_limits include_limits_of_headers includes kernel_headers keywords option_words order_at_one_token parsed_names parsed_not_in_the_form parsing_limits preprocessed_text preprocessed_text_of_headers statements_and_labels statements_and_scopes statements_not_in_the_form statements_of_all_kinds statements_of_contexts statements_refused syntax_errors undefined_names undefined_names_of_headers unsupported_forms unsupported_words whole_files
 
 rows:
 	$(PYTHON) scripts/preprocessing_rows.py $$(grep -lE '^[$$] (workbench|trees)' crates/cases/data/*.txt) $(PREPROCESSED:%=crates/cases/data/%.txt)
+	$(PYTHON) scripts/judged_rows.py crates/fixtures/data $$(grep -lE '^[$$] judged' crates/cases/data/*.txt)
 
 # What gcc says of expressions, and of structures and unions, beside the committed examples.
 compare:

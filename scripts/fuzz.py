@@ -2,7 +2,7 @@
 """Batters the program with random files in, near and outside the first form, and with random words; and the calls of libraries
 that no command makes yet.
 
-usage: fuzz.py PROGRAM WORKBENCH FLOWS TREES [COUNT [SEED]]
+usage: fuzz.py PROGRAM WORKBENCH FLOWS TREES JUDGED [COUNT [SEED]]
 
 A run must end by itself within ten seconds, write nothing to standard output, and give for a file the
 status and the bytes on standard error that `rules.py` and `reference` work out from the rules alone. Random words and files with
@@ -15,6 +15,9 @@ Random control flow graphs go through FLOWS, which must print the answers that `
 
 Random units by the grammar go through TREES, which must print the tree that a second reader makes of them.
 
+Random expressions over declared objects go through JUDGED, and without their marks through gcc, as `fuzz_judged.py` says, which
+makes those alone.
+
 Where a compiler is installed, random macros go through it and through `reference`, and both must come to the same tokens.
 """
 import os
@@ -24,6 +27,7 @@ import sys
 import tempfile
 
 import compilers
+from fuzz_judged import check_judged, check_refusals
 from fuzz_units import check_commands, check_headers, check_readings, check_tools, check_trees, run
 from made_flows import answer as flow_answer, flow_text, random_flow
 from made_units import Maker
@@ -187,9 +191,9 @@ def check_expansions(folder, chance, count):
 
 
 def main():
-    program, workbench, flows, trees = map(os.path.abspath, sys.argv[1:5])
-    count = int(sys.argv[5]) if len(sys.argv) > 5 else 2000
-    seed = int(sys.argv[6]) if len(sys.argv) > 6 else random.randrange(1 << 32)
+    program, workbench, flows, trees, judged = map(os.path.abspath, sys.argv[1:6])
+    count = int(sys.argv[6]) if len(sys.argv) > 6 else 2000
+    seed = int(sys.argv[7]) if len(sys.argv) > 7 else random.randrange(1 << 32)
     chance = random.Random(seed)
     print(f"fuzz: {count} files, seed {seed}")
     with tempfile.TemporaryDirectory() as folder:
@@ -202,6 +206,8 @@ def main():
             and check_flows(flows, folder, chance, count)
             and check_headers(workbench, folder, chance, count)
             and check_expansions(folder, chance, count // 4)
+            and check_judged(judged, folder, chance, count)
+            and check_refusals(folder, chance, count // 4)
         )
     if not passed:
         return 1

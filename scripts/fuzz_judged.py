@@ -1,0 +1,134 @@
+#!/usr/bin/env python3
+"""Random units for the judge: what `judged` says of them, and what gcc refuses, beside the reader of the rules in `reference`.
+
+usage: fuzz_judged.py JUDGED [COUNT [SEED]]
+
+JUDGED must write what `reference.judging` works out from the rules alone: the warnings in order, or the one error, and the status.
+Where it isn't there a line says so. Where gcc is installed it must refuse exactly the units that break a constraint, their marks
+defined away, but for the differences that `refusals.py` names. A unit with another answer is made smaller before it is printed.
+"""
+import os
+import random
+import shutil
+import subprocess
+import sys
+import tempfile
+
+import refusals
+from made_judged import Maker
+from reference import judging
+from shrinking import shrunk
+
+COMPILER = "gcc"
+CLASSES = [b"-Wcast-to-as", b"-Wcast-truncate", b"-Wno-bitwise", b"-Wno-address-space", b"-Wno-non-pointer-null"]
+
+
+def maker(chance, is_plain):
+    """A maker of units, one in four without operators."""
+    return Maker(chance, has_operators=chance.randrange(4) > 0, is_plain=is_plain)
+
+
+def words_of(chance):
+    """The words of a command: mostly those that switch on what is off."""
+    if chance.randrange(4):
+        return [*CLASSES[:2], b"t.c"]
+    return [word for word in CLASSES if chance.randrange(3) == 0] + [b"t.c"]
+
+
+def put(folder, text):
+    with open(os.path.join(folder, "t.c"), "wb") as file:
+        file.write(text)
+
+
+def said(program, words, folder):
+    """What the program writes, and its status."""
+    done = subprocess.run([program, *words], cwd=folder, capture_output=True, timeout=10)
+    return done.stdout, done.stderr, done.returncode
+
+
+def wanted(words, text):
+    """What it has to write; None where the reader says nothing of the unit."""
+    try:
+        return judging.answer(words, {b"t.c": text})
+    except judging.NotBuilt:
+        return None
+
+
+def judged_differs(program, words, folder):
+    """A test of a text: whether `judged` says another thing of it than the reader."""
+
+    def differs(text):
+        answer = wanted(words, text)
+        if answer is None:
+            return False
+        put(folder, text)
+        return said(program, words, folder) != answer
+
+    return differs
+
+
+def refusal_differs(folder):
+    """A test of a text: whether the compiler refuses it and the reader doesn't, or the other way round."""
+
+    def differs(text):
+        try:
+            is_refused = refusals.is_refused(text)
+        except judging.NotBuilt:
+            return False
+        put(folder, text)
+        return is_refused != (refusals.compiler_refuses(COMPILER, "t.c", folder) is not None)
+
+    return differs
+
+
+def check_judged(program, folder, chance, count):
+    """Compares what is said of so many units; true where all are alike."""
+    if not os.path.exists(program):
+        print(f"fuzz: no program {program}: what the judge says isn't compared")
+        return True
+    for number in range(count):
+        text, words = maker(chance, False).unit().encode(), words_of(chance)
+        differs = judged_differs(program, words, folder)
+        if differs(text):
+            small = shrunk(text, differs)
+            differs(small)
+            print(f"fuzz: judged {b' '.join(words).decode()}, unit {number}, made smaller:\n{small.decode()}")
+            print(f"fuzz: it answers {said(program, words, folder)!r}")
+            print(f"fuzz: in place of {wanted(words, small)!r}")
+            return False
+    return True
+
+
+def check_refusals(folder, chance, count):
+    """Compares which of so many units are refused; true where all are alike."""
+    if not shutil.which(COMPILER):
+        print(f"fuzz: no {COMPILER}: what it refuses isn't compared")
+        return True
+    for number in range(count):
+        text = maker(chance, True).unit().encode()
+        differs = refusal_differs(folder)
+        if differs(text):
+            small = shrunk(text, differs)
+            differs(small)
+            print(f"fuzz: {COMPILER}, unit {number}, made smaller:\n{small.decode()}")
+            print(f"fuzz: it says {refusals.compiler_refuses(COMPILER, 't.c', folder)!r}")
+            print(f"fuzz: the reader {'refuses' if refusals.is_refused(small) else 'accepts'} it")
+            return False
+    return True
+
+
+def main():
+    program = os.path.abspath(sys.argv[1])
+    count = int(sys.argv[2]) if len(sys.argv) > 2 else 2000
+    seed = int(sys.argv[3]) if len(sys.argv) > 3 else random.randrange(1 << 32)
+    chance = random.Random(seed)
+    print(f"fuzz: {count} units for the judge, seed {seed}")
+    with tempfile.TemporaryDirectory() as folder:
+        if not (check_judged(program, folder, chance, count) and check_refusals(folder, chance, count // 4)):
+            return 1
+    print("fuzz: ok")
+    return 0
+
+
+if __name__ == "__main__":
+    sys.exit(main())

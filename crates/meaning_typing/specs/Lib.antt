@@ -14,6 +14,7 @@ pub mod Conditionals
 pub mod Casts
 pub mod Changes
 pub mod Statements
+pub mod Offsets
 pub mod Typing
 pub mod Evaluation
 pub mod Building

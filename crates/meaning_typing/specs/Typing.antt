@@ -23,6 +23,7 @@ use Rattle.meaning_typing.specs.Conditionals.{conditional_row, conditional_witho
 use Rattle.meaning_typing.specs.Changes.{compound_row, step_before_row, step_behind_row}
 use Rattle.meaning_typing.specs.Casts.{is_forced, cast_row, sizeof_row, expect_row}
 use Rattle.meaning_typing.specs.Statements.{result_around, return_row}
+use Rattle.meaning_typing.specs.Offsets.{known_members, offset_at}
 use Rattle.meaning_typing.specs.Rows.{Row, nothing, known, unless_broken, fails_with}
 
 -- Constants: they are part of what is known, since types ask for them
@@ -45,7 +46,7 @@ facts_for_constant nodes facts handle =
       number = (node_at nodes handle).number;
       parts = map (λ child. part_seen (fact_at facts child)) (children_at nodes handle);
       enumerator = None;
-      offset = None;
+      offset = offset_at nothing_told known_members nodes facts handle;
     }
 
 -- the number of the constant of a node, if it has one (C11 6.6)

@@ -5,3 +5,4 @@ pub mod Rows
 pub mod Enumerations
 pub mod Values
 pub mod Operators
+pub mod Offsets

@@ -1,5 +1,6 @@
 // What is proved of typing, and examples.
 ghost use Rattle.meaning_typing.specs.examples.Enumerations.{EnumerationExamples};
+ghost use Rattle.meaning_typing.specs.examples.Offsets.{OffsetExamples};
 ghost use Rattle.meaning_typing.specs.examples.Operators.{AddressExamples, CastFailures, ForceExamples, MeetingFailures, OperandConstraints, RestrictedFailures, TypeExamples};
 ghost use Rattle.meaning_typing.specs.examples.Rows.{ConstraintExamples, FailureExamples};
 ghost use Rattle.meaning_typing.specs.examples.Typing.{FactExamples, SurroundingExamples};
@@ -35,6 +36,7 @@ pub fn words_stand_in_any_order()
 pub fn worked_examples()
     ensures surroundings { SurroundingExamples }
     ensures facts { FactExamples }
+    ensures offsets { OffsetExamples }
 {}
 
 /// Statements of which one can tell by eye what fails in them and what they break.

@@ -26,3 +26,18 @@ returns-clause-facts c = record {
   automatic = refl;
   linked = refl;
 }
+
+pub returns-clause-offsets : goal.returns-clause-offsets
+returns-clause-offsets c = record {
+  first = refl;
+  second = refl;
+  element = refl;
+  behind = refl;
+  before = refl;
+  not_constant = refl;
+  unknown = refl;
+  no_member = refl;
+  no_aggregate = refl;
+  no_array = refl;
+  nothing_is_told = refl;
+}

@@ -3,3 +3,4 @@ pub mod Seen
 pub mod Marking
 pub mod Asked
 pub mod Placed
+pub mod Force

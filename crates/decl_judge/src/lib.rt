@@ -6,8 +6,10 @@
 
 mod asked;
 mod declared;
+mod force;
 mod marking;
 mod marks;
+mod names;
 mod nodes;
 mod parameters;
 mod parts;
@@ -15,7 +17,9 @@ mod specifiers;
 mod words;
 
 pub use declared::{DeclaratorPlace, declarator_fact, parameter_fact, parameter_type};
+pub use force::is_forced;
 pub use marks::{Marks, marks_among, own_marks};
+pub use names::{name_fact, typeof_fact};
 pub use nodes::{child_at, kind_at, node_at, token_at};
 pub use parts::derived;
 pub use specifiers::specified;

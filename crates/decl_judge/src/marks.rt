@@ -105,8 +105,8 @@ fn marks_behind(unit: &Unit, marks: Marks, attributes: &TagList) -> Result<Marks
     Ok(after)
 }
 
-// The attributes of a node, if it is a list of them.
-fn attributes_at(unit: &Unit, handle: Handle) -> Option<&TagList>
+/// The attributes of a node, if it is a list of them.
+pub fn attributes_at(unit: &Unit, handle: Handle) -> Option<&TagList>
     requires { unit.now.first ≡ 0 }
     ensures attributes { handles_or_none (option_map (λ list. list.now) result) ≡ meaning.attributes_of (kind_of (nodes_of unit.now) handle) (children_at (nodes_of unit.now) handle) }
     ensures list { is_some result ≡ is_list (kind_of (nodes_of unit.now) handle) }

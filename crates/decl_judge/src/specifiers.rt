@@ -51,6 +51,8 @@ fn names_type(kind: NodeKind) -> bool
 {
     match kind {
         NodeKind::TypedefName => true,
+        NodeKind::TypeofType => true,
+        NodeKind::TypeofExpression => true,
         _ => false,
     }
 }

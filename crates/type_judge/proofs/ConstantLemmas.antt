@@ -29,6 +29,7 @@ use Rattle.c_types.specs.declared.nodes.NodeType.{NodeType}
 use Rattle.c_types.specs.Layouts.{told_in}
 use Rattle.c_types.specs.Table.{TypeTable, type_at}
 use Rattle.const_fold.specs.Known.{IsKnownNode, enumerator_at, folded_answer, if_name, node_facts, number_with, part_at, part_of}
+use Rattle.const_fold.specs.Offsets.{offset_of_node}
 use Rattle.const_fold.specs.Sized.{sized_constant, sized_constant_at}
 use Rattle.node_facts.specs.declared.expression.ExpressionFact.{ExpressionFact}
 use Rattle.node_facts.specs.declared.fact.NodeFact.{NodeFact}
@@ -41,6 +42,7 @@ use Rattle.type_judge.specs.Parts.{kept_at}
 use Rattle.type_judge.specs.Rows.{SaysOnly, fact_of_part, known_row}
 use Rattle.decl_judge.specs.Units.{nodes_of}
 use Rattle.type_judge.proofs.NodeLemmas.{node-is}
+use Rattle.type_judge.proofs.OffsetLemmas.{offset_kept, offset_said}
 use Rattle.type_judge.proofs.PartLemmas.{kept-is, known_at}
 use Rattle.type_judge.proofs.TellingLemmas.{fact_known}
 
@@ -112,13 +114,17 @@ module _ (unit : NodeList NameId) (whole : unit.first ≡ 0) (table : TypeTable)
       }
 
   pub constant_told : (handle : ℕ) (node : TreeNode NameId) → HasNode unit handle node → kind_at (nodes_of unit) handle ≢ kinds.Name
-      → sized_constant_at unit table (map node_kept facts) None handle ≡ whole_constant (nodes_of unit) (nodes_seen table facts) handle
+      → sized_constant_at unit table (map node_kept facts) handle ≡ whole_constant (nodes_of unit) (nodes_seen table facts) handle
   constant_told handle node has other =
       let is = node-is unit whole handle node has in
-      ap (sized_constant unit table (map node_kept facts) None) has.1
-      ∙ ap (λ told. node_constant (sizes_by told) (node_facts unit table (map node_kept facts) None node)) layouts
+      let kept = map node_kept facts in
+      let meant = facts_for_constant (nodes_of unit) (nodes_seen table facts) handle in
+      ap (sized_constant unit table kept) has.1
+      ∙ ap (λ told. node_constant (sizes_by told) (node_facts unit table kept (offset_of_node unit table kept node) node)) layouts
+      ∙ ap (λ offset. node_constant known_sizes (node_facts unit table kept offset node)) (offset_kept unit table kept layouts node)
       ∙ ap (node_constant known_sizes) (facts-are node (λ same. other (ap (λ n. n.kind) is ∙ same)))
       ∙ ap (λ n. node_constant known_sizes (record { kind = n.kind; number = n.number; parts = map (λ child. part_seen (fact_at (nodes_seen table facts) child)) (map (λ child. child.0) n.children); enumerator = None; offset = None })) (sym is)
+      ∙ sym (ap (λ offset. node_constant known_sizes (record meant { offset = offset })) (offset_said (nodes_of unit) (nodes_seen table facts) handle))
 
 answered : (constant : Option Constant) → bits_folded (folded_answer constant) ≡ bits_of constant
 answered None = refl
@@ -127,10 +133,10 @@ answered (Some constant) = refl
 pub bits_told :
     (unit : NodeList NameId) (table : TypeTable) (facts : List NodeFact) (kept : List (Option NodeType)) (handle : ℕ) → unit.first ≡ 0
     → handle < end_of unit → kind_at (nodes_of unit) handle ≢ kinds.Name → told_in table ≡ nothing_told → kept ≡ map node_kept facts
-    → bits_folded (folded_answer (sized_constant_at unit table kept None handle)) ≡ bits_of (whole_constant (nodes_of unit) (nodes_seen table facts) handle)
+    → bits_folded (folded_answer (sized_constant_at unit table kept handle)) ≡ bits_of (whole_constant (nodes_of unit) (nodes_seen table facts) handle)
 bits_told unit table facts kept handle whole within other layouts same =
-    answered (sized_constant_at unit table kept None handle)
-    ∙ ap (λ l. bits_of (sized_constant_at unit table l None handle)) same
+    answered (sized_constant_at unit table kept handle)
+    ∙ ap (λ l. bits_of (sized_constant_at unit table l handle)) same
     ∙ ap bits_of (elim ((slice_get_cases unit.nodes (handle - unit.first)).1) [
       | inl found ↦ constant_told unit whole table facts layouts handle found.0 (omega (arith, whole), found.2) other
       | inr past ↦ absurd (omega (arith, within, past.0))

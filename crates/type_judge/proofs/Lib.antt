@@ -2,6 +2,7 @@ pub mod LeastLemmas
 pub mod NodeLemmas
 pub mod FactLemmas
 pub mod GrowthLemmas
+pub mod OffsetLemmas
 pub mod ConstantLemmas
 pub mod PartLemmas
 pub mod KnownLemmas

@@ -42,7 +42,7 @@ fn constant_bits(unit: &Unit, known: &Known, handle: Handle) -> Option<u64>
     requires known { IsWhole known.now }
     ensures { result ≡ bits_of (whole_constant (nodes_of unit.now) (facts_seen known.now) handle) }
 {
-    bits_folded(fold(unit, &known.types, known.facts.types(), None, handle))
+    bits_folded(fold(unit, &known.types, known.facts.types(), handle))
 }
 
 // An expression with a constant of these bits.

@@ -5,6 +5,9 @@ pub mod GrowthLemmas
 pub mod OffsetLemmas
 pub mod ConstantLemmas
 pub mod PartLemmas
+pub mod OperandLemmas
+pub mod OperatorConstants
+pub mod OperatorLemmas
 pub mod KnownLemmas
 pub mod LinkedLemmas
 pub mod DeclaredLemmas

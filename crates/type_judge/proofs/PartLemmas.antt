@@ -137,7 +137,7 @@ assignment_only token second (Expression left) (Expression right) = refl
 assignment_only token second (Expression left) right = refl
 assignment_only token second left right = refl
 
-passed_only : (part token : ℕ) (fact : Fact) (to : TypeTree) → passed_as part token (only_expression fact) to ≡ passed_as part token fact to
+pub passed_only : (part token : ℕ) (fact : Fact) (to : TypeTree) → passed_as part token (only_expression fact) to ≡ passed_as part token fact to
 passed_only part token (Expression expression) to = refl
 passed_only part token fact to = refl
 

@@ -9,15 +9,16 @@ use Rattle.meaning_types.specs.Types.{TypeTree, Typed, IntegerTree, RestrictedTr
 use Rattle.meaning_operands.specs.Failures.{Broken}
 use Rattle.meaning_constants.specs.Nodes.{Fold, fold_of, folded}
 use Rattle.meaning_typing.specs.Building.{first_facts}
-use Rattle.meaning_typing.specs.Declarators.{declarator_fact, named_if, parameter_fact, parameter_type, specifiers_of, type_declared}
+use Rattle.meaning_typing.specs.Declarators.{declarator_fact, named_if, named_type, parameter_fact, parameter_type, specifiers_of, type_declared, type_designated}
 use Rattle.meaning_typing.specs.Expressions.{Argument, address_row, address_taken, arguments_passed, assigned, assignment_row, call_of, call_row, has_address, indirection_of, indirection_row, literal_row, number_broken, row_or, store_broken, string_row, subscript_of, subscript_row}
 use Rattle.meaning_typing.specs.Facts.{Fact, Unknown, Expression, Specified, Declared, NamedType, DeclaredFact, ExpressionFact, fact_at, type_of_value, value}
 use Rattle.meaning_typing.specs.Names.{name_row, named_place, typedefs_again}
+use Rattle.meaning_typing.specs.Operations.{operation_of}
 use Rattle.meaning_typing.specs.Rows.{Row, breaks, breaks_at, converted, gives, known, nothing, unless_broken, void_used}
 use Rattle.meaning_typing.specs.Specifiers.{Words, plain_type, specified, specified_as, type_said, words_of}
 use Rattle.meaning_typing.specs.Statements.{result_around, return_row}
 use Rattle.meaning_typing.specs.Surroundings.{Surrounding, surrounding_at}
-use Rattle.meaning_typing.specs.Typing.{argument_at, constant_at, declaration_row, declarator_row, facts_for_constant, first_fact, known_sizes, row_of, row_with_constant, token_at, with_constant}
+use Rattle.meaning_typing.specs.Typing.{argument_at, constant_at, declaration_row, declarator_row, facts_for_constant, first_fact, known_sizes, operation_row, row_of, row_with_constant, token_at, with_constant}
 use Rattle.meaning_typing.specs.Units.{UnitNodes, child_at, children_at, children_from, kind_at, node_at}
 use Rattle.type_judge.specs.Rows.{first_row, is_of_declaration, is_operation, is_primary}
 
@@ -237,28 +238,43 @@ module _ (nodes : UnitNodes) (surroundings : List Surrounding) (handle : ℕ) (f
       plain_row_by nodes surroundings handle facts kinds.ReturnStatement is same refl
       (return_none token (token_at nodes (part 0)) (first_fact facts (children_at nodes handle)) (result_around nodes facts function))
 
-  -- and of all other kinds
-  silent : (kind : NodeKind) → is_of_declaration kind ≡ false → is_primary kind ≡ false → is_operation kind ≡ false → (kind ≡ kinds.ReturnStatement → ⊥)
-      → row_of nodes surroundings facts handle kind ≡ nothing
-  silent kinds.Specifiers declares primary operates returns = absurd (true≢false declares)
-  silent kinds.TypedefName declares primary operates returns = absurd (true≢false declares)
-  silent kinds.Declarator declares primary operates returns = absurd (true≢false declares)
-  silent kinds.Parameter declares primary operates returns = absurd (true≢false declares)
-  silent kinds.Name declares primary operates returns = absurd (true≢false primary)
-  silent (kinds.IntegerConstant kind) declares primary operates returns = absurd (true≢false primary)
-  silent (kinds.CharacterConstant kind) declares primary operates returns = absurd (true≢false primary)
-  silent kinds.StringLiteral declares primary operates returns = absurd (true≢false primary)
-  silent kinds.Parenthesized declares primary operates returns = absurd (true≢false primary)
-  silent kinds.Subscript declares primary operates returns = absurd (true≢false operates)
-  silent kinds.Call declares primary operates returns = absurd (true≢false operates)
-  silent kinds.Address declares primary operates returns = absurd (true≢false operates)
-  silent kinds.Indirection declares primary operates returns = absurd (true≢false operates)
-  silent kinds.Assignment declares primary operates returns = absurd (true≢false operates)
-  silent kinds.ReturnStatement declares primary operates returns = absurd (returns refl)
-  silent kind declares primary operates returns = refl
+  pub type_name_told : kind_at nodes handle ≡ kinds.TypeName → known (named_if (named_type nodes facts handle)) ≡ first_row nodes surroundings handle
+  type_name_told is = plain_row_by nodes surroundings handle facts kinds.TypeName is same refl (named_none (named_type nodes facts handle))
 
-  pub other_told : (kind : NodeKind) → kind_at nodes handle ≡ kind → is_of_declaration kind ≡ false → is_primary kind ≡ false → is_operation kind ≡ false
-      → (kind ≡ kinds.ReturnStatement → ⊥) → nothing ≡ first_row nodes surroundings handle
-  other_told kind is declares primary operates returns =
-      ap (row_with_constant (constant_at nodes facts handle)) (sym (silent kind declares primary operates returns))
+  pub typeof_name_told : kind_at nodes handle ≡ kinds.TypeofType → row_with_constant None (known (part_fact 0)) ≡ first_row nodes surroundings handle
+  typeof_name_told is =
+      ap (λ constant. row_with_constant constant (known (part_fact 0))) (sym (no_constant nodes surroundings handle facts kinds.TypeofType is refl))
+      ∙ row_by nodes surroundings handle facts kinds.TypeofType is same
+
+  pub typeof_told : kind_at nodes handle ≡ kinds.TypeofExpression → known (named_if (type_designated (part_fact 0))) ≡ first_row nodes surroundings handle
+  typeof_told is = plain_row_by nodes surroundings handle facts kinds.TypeofExpression is same refl (named_none (type_designated (part_fact 0)))
+
+  -- and of all other kinds, by what their operators do
+  by_operation : (kind : NodeKind) → is_of_declaration kind ≡ false → is_primary kind ≡ false → is_operation kind ≡ false → (kind ≡ kinds.ReturnStatement → ⊥)
+      → row_of nodes surroundings facts handle kind ≡ operation_row nodes facts handle (operation_of kind)
+  by_operation kinds.Specifiers declares primary operates returns = absurd (true≢false declares)
+  by_operation kinds.TypedefName declares primary operates returns = absurd (true≢false declares)
+  by_operation kinds.Declarator declares primary operates returns = absurd (true≢false declares)
+  by_operation kinds.Parameter declares primary operates returns = absurd (true≢false declares)
+  by_operation kinds.TypeName declares primary operates returns = absurd (true≢false declares)
+  by_operation kinds.TypeofType declares primary operates returns = absurd (true≢false declares)
+  by_operation kinds.TypeofExpression declares primary operates returns = absurd (true≢false declares)
+  by_operation kinds.Name declares primary operates returns = absurd (true≢false primary)
+  by_operation (kinds.IntegerConstant kind) declares primary operates returns = absurd (true≢false primary)
+  by_operation (kinds.CharacterConstant kind) declares primary operates returns = absurd (true≢false primary)
+  by_operation kinds.StringLiteral declares primary operates returns = absurd (true≢false primary)
+  by_operation kinds.Parenthesized declares primary operates returns = absurd (true≢false primary)
+  by_operation kinds.Subscript declares primary operates returns = absurd (true≢false operates)
+  by_operation kinds.Call declares primary operates returns = absurd (true≢false operates)
+  by_operation kinds.Address declares primary operates returns = absurd (true≢false operates)
+  by_operation kinds.Indirection declares primary operates returns = absurd (true≢false operates)
+  by_operation kinds.Assignment declares primary operates returns = absurd (true≢false operates)
+  by_operation kinds.ReturnStatement declares primary operates returns = absurd (returns refl)
+  by_operation kind declares primary operates returns = refl
+
+  pub operator_told : (kind : NodeKind) → kind_at nodes handle ≡ kind → is_of_declaration kind ≡ false → is_primary kind ≡ false → is_operation kind ≡ false
+      → (kind ≡ kinds.ReturnStatement → ⊥)
+      → row_with_constant (constant_at nodes facts handle) (operation_row nodes facts handle (operation_of kind)) ≡ first_row nodes surroundings handle
+  operator_told kind is declares primary operates returns =
+      ap (row_with_constant (constant_at nodes facts handle)) (sym (by_operation kind declares primary operates returns))
       ∙ row_by nodes surroundings handle facts kind is same

@@ -6,5 +6,6 @@ pub mod Rows
 pub mod Parts
 pub mod Constants
 pub mod Large
+pub mod Operators
 pub mod Identities
 pub mod Judging

@@ -80,14 +80,17 @@ redeclaration_row surroundings facts token surrounding declaration =
       passed = [];
     }
 
--- Kinds of nodes whose rows say something, besides `return`
+-- Kinds of nodes whose rows say something, besides `return` and other operators
 
--- of declarations (C11 6.7)
+-- of declarations and names of types (C11 6.7)
 abbrev pub is_of_declaration : NodeKind → Bool
 is_of_declaration kinds.Specifiers = true
 is_of_declaration kinds.TypedefName = true
 is_of_declaration kinds.Declarator = true
 is_of_declaration kinds.Parameter = true
+is_of_declaration kinds.TypeName = true
+is_of_declaration kinds.TypeofType = true
+is_of_declaration kinds.TypeofExpression = true
 is_of_declaration kind = false
 
 -- primary expressions (6.5.1)
@@ -99,7 +102,7 @@ is_primary kinds.StringLiteral = true
 is_primary kinds.Parenthesized = true
 is_primary kind = false
 
--- operators and what they are applied to (6.5.2 to 6.5.16)
+-- operators that look at places, and calls (6.5.2, 6.5.3.2, 6.5.16.1)
 abbrev pub is_operation : NodeKind → Bool
 is_operation kinds.Subscript = true
 is_operation kinds.Call = true

@@ -34,8 +34,8 @@ fn bits_folded(constant: Folded) -> Option<u64>
     }
 }
 
-// The bits of the constant of a node, if it has one; a name is asked elsewhere.
-fn constant_bits(unit: &Unit, known: &Known, handle: Handle) -> Option<u64>
+/// The bits of the constant of a node, if it has one; a name is asked elsewhere.
+pub fn constant_bits(unit: &Unit, known: &Known, handle: Handle) -> Option<u64>
     requires whole { unit.now.first ≡ 0 }
     requires node { handle < end_of unit.now }
     requires other { kind_at (nodes_of unit.now) handle ≢ kinds.Name }
@@ -45,8 +45,8 @@ fn constant_bits(unit: &Unit, known: &Known, handle: Handle) -> Option<u64>
     bits_folded(fold(unit, &known.types, known.facts.types(), handle))
 }
 
-// An expression with a constant of these bits.
-fn with_bits(fact: NodeFact, bits: Option<u64>) -> NodeFact
+/// An expression with a constant of these bits.
+pub fn with_bits(fact: NodeFact, bits: Option<u64>) -> NodeFact
     ensures { result ≡ with_bits bits fact }
 {
     match fact {

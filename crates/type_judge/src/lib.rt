@@ -7,6 +7,7 @@
 
 mod access;
 mod calls;
+mod casts;
 mod constants;
 mod declarations;
 mod declared;
@@ -16,9 +17,14 @@ mod identities;
 mod judging;
 mod known;
 mod large;
+mod names;
+mod operands;
+mod operation;
+mod operators;
 mod pass;
 mod row;
 mod rows;
+mod selections;
 mod statements;
 
 pub use expr_judge::Broken;

@@ -12,15 +12,16 @@ use crate::constants::{literal, parenthesized};
 use crate::declarations::{declarator, parameter, specifiers, typedef_name};
 use crate::expressions::{address, assignment, indirection, name, string, subscript};
 use crate::known::Known;
+use crate::names::{type_name, typeof_expression, typeof_name};
+use crate::operation::judge_operator;
 use crate::row::NodeRow;
 use crate::statements::return_statement;
 use c_tree::{Handle, Unit};
-use node_facts::NodeFact;
-use node_surroundings::Surroundings;
+use node_surroundings::{Surroundings, operation_of};
 use sparse_model::{FailureList, NodeKind};
 use std::alloc::{AllocError, Global};
 
-// The row of an operator or a statement; all other nodes say nothing.
+// The row of an operator or of `return`; all other nodes say nothing.
 fn judge_operation(
     alloc: Global,
     unit: &Unit,
@@ -49,7 +50,7 @@ fn judge_operation(
             let stands = surroundings.get(handle);
             return_statement(unit, known, found, handle, stands.around.function)
         }
-        _ => Ok(NodeRow::known(NodeFact::Unknown)),
+        _ => judge_operator(unit, known, found, handle, operation_of(kind)),
     }
 }
 
@@ -106,6 +107,9 @@ pub fn judge_node(
             declarator(alloc, unit, known, found, handle, stands)
         }
         NodeKind::Parameter => parameter(unit, known, handle),
+        NodeKind::TypeName => Ok(type_name(unit, known, handle)),
+        NodeKind::TypeofType => Ok(typeof_name(unit, known, handle)),
+        NodeKind::TypeofExpression => Ok(typeof_expression(unit, known, handle)),
         _ => judge_expression(alloc, unit, surroundings, known, found, handle, kind),
     }
 }

@@ -20,8 +20,8 @@ use sparse_model::{FailureList, TypeId};
 use std::alloc::AllocError;
 use tag_list::TagList;
 
-// What stands behind `return`, by the children of the statement.
-fn returned_among(known: &mut Known, children: &TagList) -> Result<Returned, AllocError>
+/// What stands behind `return`, or is an expression statement, by the children of the statement.
+pub fn returned_among(known: &mut Known, children: &TagList) -> Result<Returned, AllocError>
     requires { IsWhole known.old }
     ensures seen { IfOk result (λ returned. returned_seen known.new.types returned ≡ option_map only_expression (first_fact (facts_seen known.old) (handles_of children.now))) }
     ensures known { IfOk result (IsKnownReturn known.new.types) }

@@ -8,7 +8,7 @@ use Rattle.type_judge.specs.Rows.{Tells}
 use Rattle.type_judge.proofs.KnownLemmas.{known_count, only_none}
 use Rattle.type_judge.proofs.LinkedLemmas.{typedefs_of_unit}
 use Rattle.type_judge.proofs.NodeLemmas.{kind-is}
-use Rattle.type_judge.proofs.RowLemmas.{declarator_told, parameter_told, specifiers_told, typedef_told}
+use Rattle.type_judge.proofs.RowLemmas.{declarator_told, parameter_told, specifiers_told, type_name_told, typedef_told, typeof_name_told, typeof_told}
 use Rattle.type_judge.proofs.TellingLemmas.{tells_only, told_as, told_only}
 use Rattle.type_judge.proofs.rows.judge_node.Goals as goal
 
@@ -39,6 +39,39 @@ returns-in-TypedefName c =
     subst (Tells known known found found row)
     (typedef_told (nodes_of unit) (surroundings_seen c.args.surroundings.now) c.args.handle (facts_seen known) c.requires.known.facts (kind ∙ c.in-TypedefName.is))
     (tells_only known known found row _ c.typedef_name.ensures (only_none known))
+
+pub returns-in-TypeName : goal.returns-in-TypeName
+returns-in-TypeName c =
+    let unit = c.args.unit.now in
+    let known = c.args.known.now in
+    let found = c.args.found.now in
+    let row = c.type_name.result in
+    let kind = kind-is unit c.requires.whole c.args.handle c.kind-kind.ensures.0 c.kind-kind.result c.kind-kind.ensures.1 c.kind-kind.ensures.2 in
+    subst (Tells known known found found row)
+    (type_name_told (nodes_of unit) (surroundings_seen c.args.surroundings.now) c.args.handle (facts_seen known) c.requires.known.facts (kind ∙ c.in-TypeName.is))
+    (tells_only known known found row _ c.type_name.ensures (only_none known))
+
+pub returns-in-TypeofType : goal.returns-in-TypeofType
+returns-in-TypeofType c =
+    let unit = c.args.unit.now in
+    let known = c.args.known.now in
+    let found = c.args.found.now in
+    let row = c.typeof_name.result in
+    let kind = kind-is unit c.requires.whole c.args.handle c.kind-kind.ensures.0 c.kind-kind.result c.kind-kind.ensures.1 c.kind-kind.ensures.2 in
+    subst (Tells known known found found row)
+    (typeof_name_told (nodes_of unit) (surroundings_seen c.args.surroundings.now) c.args.handle (facts_seen known) c.requires.known.facts (kind ∙ c.in-TypeofType.is))
+    (tells_only known known found row _ c.typeof_name.ensures (only_none known))
+
+pub returns-in-TypeofExpression : goal.returns-in-TypeofExpression
+returns-in-TypeofExpression c =
+    let unit = c.args.unit.now in
+    let known = c.args.known.now in
+    let found = c.args.found.now in
+    let row = c.typeof_expression.result in
+    let kind = kind-is unit c.requires.whole c.args.handle c.kind-kind.ensures.0 c.kind-kind.result c.kind-kind.ensures.1 c.kind-kind.ensures.2 in
+    subst (Tells known known found found row)
+    (typeof_told (nodes_of unit) (surroundings_seen c.args.surroundings.now) c.args.handle (facts_seen known) c.requires.known.facts (kind ∙ c.in-TypeofExpression.is))
+    (tells_only known known found row _ c.typeof_expression.ensures (only_none known))
 
 pub declarator-requires-clause-typedefs : goal.declarator-requires-clause-typedefs
 declarator-requires-clause-typedefs c =

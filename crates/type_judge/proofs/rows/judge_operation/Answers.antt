@@ -1,20 +1,17 @@
 -- The rows of operators and of `return`.
-use Rattle.std.proofs.Common.{◌≡◌, false, refl, sym, ap, subst, ◌∙◌}
+use Rattle.std.proofs.Common.{◌≡◌, false, true≢false, refl, sym, ap, ◌∙◌}
 use Rattle.vocabulary.specs.declared.node_kind.NodeKind.{NodeKind}
 use Rattle.vocabulary.specs.declared.node_kind.NodeKind.TheVariants as kinds
-use Rattle.meaning_typing.specs.Rows.{nothing}
+use Rattle.meaning_typing.specs.Operations.{operation_of}
 use Rattle.meaning_typing.specs.Statements.{result_around, return_row}
-use Rattle.meaning_typing.specs.Typing.{first_fact, token_at}
+use Rattle.meaning_typing.specs.Typing.{constant_at, first_fact, operation_row, row_with_constant, token_at}
 use Rattle.meaning_typing.specs.Units.{child_at, children_at}
 use Rattle.decl_judge.specs.Units.{nodes_of}
 use Rattle.node_surroundings.specs.Seen.{surroundings_seen}
 use Rattle.type_judge.specs.Known.{facts_seen}
-use Rattle.node_facts.specs.declared.fact.NodeFact.TheVariants as facts
-use Rattle.type_judge.specs.declared.row.NodeRow.{NodeRow}
-use Rattle.type_judge.specs.Rows.{Tells, first_row, is_operation, known_row}
-use Rattle.type_judge.proofs.KnownLemmas.{only_none}
-use Rattle.type_judge.proofs.RowLemmas.{address_told, assignment_told, call_told, indirection_told, other_told, return_told, subscript_told}
-use Rattle.type_judge.proofs.TellingLemmas.{tells_only, told_as}
+use Rattle.type_judge.specs.Rows.{is_operation, is_primary}
+use Rattle.type_judge.proofs.RowLemmas.{address_told, assignment_told, call_told, indirection_told, operator_told, return_told, subscript_told}
+use Rattle.type_judge.proofs.TellingLemmas.{told_as}
 use Rattle.type_judge.proofs.rows.judge_operation.Goals as goal
 
 no_operation :
@@ -26,6 +23,9 @@ no_operation kinds.Address subscript call address indirection assignment = absur
 no_operation kinds.Indirection subscript call address indirection assignment = absurd (indirection refl)
 no_operation kinds.Assignment subscript call address indirection assignment = absurd (assignment refl)
 no_operation kind subscript call address indirection assignment = refl
+
+not_name : (kind : NodeKind) → is_primary kind ≡ false → kind ≡ kinds.Name → ⊥
+not_name kind primary is = true≢false (sym (ap is_primary is) ∙ primary)
 
 pub returns-in-Subscript : goal.returns-in-Subscript
 returns-in-Subscript c =
@@ -77,15 +77,21 @@ returns-in-ReturnStatement c =
     ∙ return_told nodes (surroundings_seen c.args.surroundings.now) handle facts c.requires.known.facts (c.requires.kind ∙ c.in-ReturnStatement.is))
     c.args.found.now c.return_statement.new.found c.return_statement.ensures
 
+pub judge_operator-requires-clause-other : goal.judge_operator-requires-clause-other
+judge_operator-requires-clause-other c = λ is. not_name c.args.kind c.requires.primary (sym c.requires.kind ∙ is)
+
+pub judge_operator-requires-clause-operation : goal.judge_operator-requires-clause-operation
+judge_operator-requires-clause-operation c = c.operation_of.ensures ∙ ap operation_of (sym c.requires.kind)
+
 pub returns-in_default : goal.returns-in_default
 returns-in_default c =
+    let nodes = nodes_of c.args.unit.now in
     let known = c.args.known.now in
-    let found = c.args.found.now in
-    subst (λ (row : NodeRow). Tells known known found found row (first_row (nodes_of c.args.unit.now) (surroundings_seen c.args.surroundings.now) c.args.handle))
-    (sym c.known.ensures)
-    (subst (Tells known known found found (known_row facts.Unknown))
-    (other_told (nodes_of c.args.unit.now) (surroundings_seen c.args.surroundings.now) c.args.handle (facts_seen known) c.requires.known.facts c.args.kind
-    c.requires.kind c.requires.declares c.requires.primary
+    let facts = facts_seen known in
+    let handle = c.args.handle in
+    told_as known c.judge_operator.new.known c.judge_operator.result _ _
+    (ap (λ operation. row_with_constant (constant_at nodes facts handle) (operation_row nodes facts handle operation)) c.operation_of.ensures
+    ∙ operator_told nodes (surroundings_seen c.args.surroundings.now) handle facts c.requires.known.facts c.args.kind c.requires.kind c.requires.declares c.requires.primary
     (no_operation c.args.kind c.in_default.not-Subscript c.in_default.not-Call c.in_default.not-Address c.in_default.not-Indirection c.in_default.not-Assignment)
     c.in_default.not-ReturnStatement)
-    (tells_only known known found (known_row facts.Unknown) nothing (record { row = refl; ids = tt; silent = refl }) (only_none known)))
+    c.args.found.now c.judge_operator.new.found c.judge_operator.ensures

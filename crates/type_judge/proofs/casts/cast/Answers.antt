@@ -1,0 +1,49 @@
+use Rattle.std.proofs.Common.{◌≡◌, Option, IfSome, option_map, sym, ap, subst, ◌∙◌}
+use Rattle.sparse_model.specs.declared.ids.TypeId.{TypeId}
+use Rattle.meaning_typing.specs.Casts.{cast_row, is_forced}
+use Rattle.meaning_typing.specs.Declarators.{named_if}
+use Rattle.meaning_typing.specs.Facts.{fact_at}
+use Rattle.meaning_typing.specs.Specifiers.{type_named}
+use Rattle.meaning_typing.specs.Typing.{part_fact, token_at}
+use Rattle.meaning_typing.specs.Units.{child_at}
+use Rattle.c_types.specs.Table.{IsTypeId, type_at}
+use Rattle.decl_judge.specs.Asked.{kept_at, named_in}
+use Rattle.decl_judge.specs.Units.{nodes_of}
+use Rattle.decl_judge.proofs.AskedLemmas.{named_at_known, named_at_told}
+use Rattle.expr_judge.specs.Casts.{named_part}
+use Rattle.expr_judge.specs.Facts.{valued_part}
+use Rattle.type_judge.specs.Known.{facts_seen}
+use Rattle.type_judge.specs.Parts.{only_expression}
+use Rattle.type_judge.proofs.KnownLemmas.{facts_later, whole_later}
+use Rattle.type_judge.proofs.OperandLemmas.{cast_only, named_part-is}
+use Rattle.type_judge.proofs.OperatorLemmas.{operator_taken}
+use Rattle.type_judge.proofs.casts.cast.Goals as goal
+
+pub judge_cast-requires-clause-named : goal.judge_cast-requires-clause-named
+judge_cast-requires-clause-named c =
+    let between = c.operand_at.new.self in
+    subst (λ (named : Option TypeId). IfSome named (IsTypeId between.types)) (sym (c.named_by-named.ensures ∙ ap named_in c.at.ensures))
+    (named_at_known between.types between.facts c.child_at-name.result (whole_later c.args.known.now between c.in_ok-operand.ensures.keeps c.requires.known).ids)
+
+pub returns : goal.returns
+returns c =
+    let nodes = nodes_of c.args.unit.now in
+    let old = c.args.known.now in
+    let between = c.operand_at.new.self in
+    let facts = facts_seen old in
+    let handle = c.args.handle in
+    let token = token_at nodes handle in
+    let name = child_at nodes handle 0 in
+    let forced = c.is_forced-forced.ensures ∙ ap (is_forced nodes) c.child_at-name.ensures in
+    let named : named_part between.types c.named_by-named.result ≡ named_if (type_named (part_fact nodes facts handle 0)) =
+    named_part-is between.types c.named_by-named.result
+    ∙ ap (λ found. named_if (option_map (type_at between.types) found)) (c.named_by-named.ensures ∙ ap named_in c.at.ensures)
+    ∙ ap named_if (named_at_told between.types between.facts c.child_at-name.result)
+    ∙ (λ i. named_if (type_named (fact_at (facts_later old between c.in_ok-operand.ensures.keeps c.requires.known i) (c.child_at-name.ensures i)))) in
+    let operand : valued_part between.types c.in_ok-operand.operand ≡ only_expression (part_fact nodes facts handle 1) =
+    c.in_ok-operand.ensures.seen ∙ ap (λ handle. only_expression (fact_at facts handle)) c.child_at.ensures in
+    operator_taken old between c.judge_cast.new.types c.in_ok-operand.ensures.keeps c.in_ok-row.ensures.keeps c.args.found.now c.take_row.new.found c.in_ok-row.row
+    c.in_ok-row.ensures.known c.take_row.result c.take_row.ensures.row c.take_row.ensures.failures _
+    (cast_row token (is_forced nodes name) (part_fact nodes facts handle 0) (part_fact nodes facts handle 1)) c.in_ok-row.ensures.row
+    ((λ i. cast_row (c.token_at-token.ensures i) (forced i) (named i) (operand i))
+    ∙ cast_only token (is_forced nodes name) (part_fact nodes facts handle 0) (part_fact nodes facts handle 1))

@@ -19,7 +19,7 @@ use Rattle.meaning_constants.specs.Numbers.{converted, truth_of}
 use Rattle.meaning_constants.specs.Operations.{operated_alone}
 use Rattle.meaning_constants.specs.Nodes.{fold_of, folded, loaded_type, of_arms, of_one, of_two, with_part}
 use Rattle.meaning_typing.specs.Casts.{cast_of, cast_row, cast_unknown, is_forced, measured_broken, scalar_cast, sizeof_row}
-use Rattle.meaning_typing.specs.Conditionals.{arms_of, arms_row, conditional_row, conditional_without_middle}
+use Rattle.meaning_typing.specs.Conditionals.{arms_of, conditional_row, conditional_without_middle}
 use Rattle.meaning_typing.specs.Declarators.{nothing_told}
 use Rattle.meaning_typing.specs.Facts.{Fact, Unknown, Expression, NamedType, ExpressionFact, decays, fact_at, type_of_value, value}
 use Rattle.meaning_typing.specs.Operations.{operation_of}

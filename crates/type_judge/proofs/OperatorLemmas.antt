@@ -1,11 +1,10 @@
 -- Rows of operators that were taken over, and with their constants.
-use Rattle.std.proofs.Common.{◌≡◌, ℕ, zero, suc, Bool, false, List, [], ◌∷◌, ◌++◌, All, ℤ, pos, map, Option, Some, None, option_map, Result, IfOk, OnOk, refl, sym, ap, subst, ◌∙◌}
+use Rattle.std.proofs.Common.{◌≡◌, ℕ, zero, suc, Bool, false, List, [], ◌∷◌, ◌++◌, ℤ, pos, map, Option, Some, None, option_map, Result, IfOk, OnOk, refl, sym, ap, subst, ◌∙◌}
 use Rattle.std.proofs.lemmas.Option.{none-some, same_Some}
-use Rattle.std.proofs.lemmas.Result.{IfOk-weaker}
 use Rattle.sparse_model.specs.declared.failure.Failure.{Failure}
 use Rattle.meaning_types.specs.Conversions.{promoted}
 use Rattle.meaning_types.specs.Types.{TypeTree, Typed, IntegerTree, RestrictedTree}
-use Rattle.meaning_constants.specs.Bits.{bits_of_number, number_of_bits}
+use Rattle.meaning_constants.specs.Bits.{bits_of_number}
 use Rattle.meaning_constants.specs.Constants.{Constant, kind_of}
 use Rattle.meaning_constants.specs.Nodes.{loaded_type}
 use Rattle.meaning_constants.specs.Numbers.{IsInRange}
@@ -17,7 +16,7 @@ use Rattle.meaning_typing.specs.Facts as meaning
 use Rattle.meaning_typing.specs.Facts.{fact_at}
 use Rattle.meaning_typing.specs.Rows.{Row}
 use Rattle.meaning_typing.specs.Rows as rows_of
-use Rattle.meaning_typing.specs.Typing.{constant_at, facts_for_constant, known_sizes, part_seen, row_with_constant, with_constant}
+use Rattle.meaning_typing.specs.Typing.{facts_for_constant, known_sizes, part_seen, row_with_constant, with_constant}
 use Rattle.meaning_typing.specs.Units.{UnitNodes, children_at}
 use Rattle.c_types.specs.Table.{TypeTable, type_at}
 use Rattle.const_fold.specs.Known.{number_with}
@@ -31,7 +30,7 @@ use Rattle.expr_judge.specs.Rows as rows
 use Rattle.type_judge.specs.declared.known.Known.{Known}
 use Rattle.type_judge.specs.declared.row.NodeRow.{NodeRow}
 use Rattle.type_judge.specs.Constants.{bits_of, whole_constant, with_bits}
-use Rattle.type_judge.specs.Known.{OnlyTypesJoin, facts_seen}
+use Rattle.type_judge.specs.Known.{OnlyTypesJoin}
 use Rattle.type_judge.specs.Operators.{HasKindOf, IsOfKind}
 use Rattle.type_judge.specs.Rows.{SaysOnly, Tells, known_row, listed_failures, node_row}
 use Rattle.type_judge.proofs.KnownLemmas.{only_on}

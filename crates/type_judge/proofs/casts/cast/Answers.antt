@@ -7,7 +7,7 @@ use Rattle.meaning_typing.specs.Specifiers.{type_named}
 use Rattle.meaning_typing.specs.Typing.{part_fact, token_at}
 use Rattle.meaning_typing.specs.Units.{child_at}
 use Rattle.c_types.specs.Table.{IsTypeId, type_at}
-use Rattle.decl_judge.specs.Asked.{kept_at, named_in}
+use Rattle.decl_judge.specs.Asked.{named_in}
 use Rattle.decl_judge.specs.Units.{nodes_of}
 use Rattle.decl_judge.proofs.AskedLemmas.{named_at_known, named_at_told}
 use Rattle.expr_judge.specs.Casts.{named_part}

@@ -4,7 +4,6 @@ use Rattle.meaning_typing.specs.Rows.{known}
 use Rattle.meaning_typing.specs.Typing.{row_with_constant}
 use Rattle.meaning_typing.specs.Units.{child_at}
 use Rattle.decl_judge.specs.Units.{nodes_of}
-use Rattle.node_facts.specs.Facts.{node_seen}
 use Rattle.type_judge.specs.declared.row.NodeRow.{NodeRow}
 use Rattle.type_judge.specs.Constants.{with_bits}
 use Rattle.type_judge.specs.Known.{facts_seen}

@@ -1,5 +1,5 @@
 -- The rows of declarations.
-use Rattle.std.proofs.Common.{ap, subst, sym, ◌∙◌, arith}
+use Rattle.std.proofs.Common.{ap, subst, ◌∙◌, arith}
 use Rattle.meaning_typing.specs.Typing.{declarator_row}
 use Rattle.decl_judge.specs.Units.{nodes_of}
 use Rattle.node_surroundings.specs.Seen.{surroundings_seen}

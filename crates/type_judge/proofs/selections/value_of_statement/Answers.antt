@@ -1,4 +1,4 @@
-use Rattle.std.proofs.Common.{◌≡◌, ℕ, List, Option, None, IfOk, option_map, refl, sym, ap, subst}
+use Rattle.std.proofs.Common.{◌≡◌, Option, None, IfOk, option_map, refl, sym, subst}
 use Rattle.vocabulary.specs.declared.node_kind.NodeKind.{NodeKind}
 use Rattle.vocabulary.specs.declared.node_kind.NodeKind.TheVariants as kinds
 use Rattle.meaning_typing.specs.Facts.{Fact}

@@ -3,6 +3,7 @@ pub mod Drawn
 pub mod Typing
 pub mod Rows
 pub mod Enumerations
+pub mod Operations
 pub mod Values
 pub mod Operators
 pub mod Offsets

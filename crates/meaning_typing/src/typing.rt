@@ -2,6 +2,7 @@
 ghost use Rattle.meaning_typing.specs.examples.Enumerations.{EnumerationExamples};
 ghost use Rattle.meaning_typing.specs.examples.Offsets.{OffsetExamples};
 ghost use Rattle.meaning_typing.specs.examples.Operators.{AddressExamples, CastFailures, ForceExamples, MeetingFailures, OperandConstraints, RestrictedFailures, TypeExamples};
+ghost use Rattle.meaning_typing.specs.examples.Operations.{OperationExamples};
 ghost use Rattle.meaning_typing.specs.examples.Rows.{ConstraintExamples, FailureExamples};
 ghost use Rattle.meaning_typing.specs.examples.Typing.{FactExamples, SurroundingExamples};
 ghost use Rattle.meaning_typing.specs.laws.Equality.{EqualTypesPass};
@@ -59,4 +60,9 @@ pub fn worked_operators()
     ensures casts { CastFailures }
     ensures forces { ForceExamples }
     ensures constraints { OperandConstraints }
+{}
+
+/// Statements with operators over a place of another space, of which one can tell by eye what is loaded and what it gives.
+pub fn worked_operations()
+    ensures { OperationExamples }
 {}

@@ -123,6 +123,10 @@ class Maker:
     def often(self, percent):
         return self.chance.randrange(100) < percent
 
+    def slips(self, percent):
+        """The same, where a slip may be made."""
+        return bool(self.slip) and self.often(percent)
+
     # Expressions
 
     def expression(self, shape, depth):
@@ -187,20 +191,23 @@ class Maker:
 
     def called(self, shape, depth):
         """A call that gives this shape."""
-        fit = [name for name, (gives, _) in FUNCTIONS.items() if gives == shape]
-        name = self.chance.choice(fit)
-        parts = []
-        wanted = FUNCTIONS[name][1]
+        name = self.chance.choice([name for name, (gives, _) in FUNCTIONS.items() if gives == shape])
+        wanted, parts = FUNCTIONS[name][1], []
         wanted = [*wanted[:-1], *[None] * self.chance.randrange(3)] if None in wanted else wanted
-        if self.slip and self.chance.randrange(self.slip) == 0:
+        if self.slips(10):
             wanted = [*wanted, "int"] if self.often(50) else wanted[:-1]
         for number, each in enumerate(wanted):
             parts += [","] * (number > 0) + [(self.argument(each, depth), ASSIGNMENT)]
+        return postfix((self.callee(name), POSTFIX), "(", *parts, ")")
+
+    def callee(self, name):
+        """A function by its name, now and then behind stars, or by its address."""
         callee = primary(name)
-        for _ in range(self.chance.choice([0, 0, 0, 1, 2])):
-            callee = unary(self.chance.choice(["*", "*", "&"]) if callee.level == PRIMARY and name not in "fg" else "*", (callee, CAST))
-            callee = callee if self.often(70) else primary("(", (callee, COMMA), ")")
-        return postfix((callee, POSTFIX), "(", *parts, ")")
+        if name not in "fg" and self.often(10):
+            callee = unary("&", (callee, CAST))
+        while self.often(20):
+            callee = unary("*", (callee, CAST)) if self.often(70) else primary("(", (callee, COMMA), ")")
+        return callee
 
     def argument(self, shape, depth):
         """An argument for a parameter of this shape, or of another one that C converts."""
@@ -213,7 +220,7 @@ class Maker:
         operators = ASSIGNED if self.has_operators else ["="]
         operator = self.chance.choice(operators if shape == "int" else ["=", "=", "+=", "-="] if self.has_operators else ["="])
         if operator != "=":
-            source = self.expression("int", depth - 1)
+            source = self.expression(self.scalar() if self.slips(10) else "int", depth - 1)
         else:
             source = self.argument(shape, depth)
         return Expression(ASSIGNMENT, [(target, CONDITIONAL), operator, (source, ASSIGNMENT)])
@@ -231,6 +238,8 @@ class Maker:
             arms[self.chance.randrange(2)] = self.expression("void *", depth - 1) if self.often(40) else self.zero()
         elif shape == "int" and self.often(20):
             arms[self.chance.randrange(2)] = self.zero()
+        if self.slips(10):
+            arms[self.chance.randrange(2)] = self.expression(self.chance.choice(["function", "void", "void *"]), depth - 1)
         if shape != "void" and self.often(25):
             return Expression(CONDITIONAL, [(arms[0], FIRST_OF_TWO), "? :", (arms[1], CONDITIONAL)])
         return Expression(CONDITIONAL, [(condition, FIRST_OF_TWO), "?", (arms[0], COMMA), ":", (arms[1], CONDITIONAL)])
@@ -272,6 +281,8 @@ class Maker:
         pair = [self.expression(self.chance.choice(["p", "p", "pp", "void *"]), depth - 1)]
         other = self.zero() if self.often(25) else self.expression("function" if self.often(8) else self.scalar(), depth - 1)
         pair.insert(self.chance.randrange(2), other)
+        if self.slips(8):
+            pair = [self.expression("function", depth - 1), self.expression("void *", depth - 1)]
         return Expression(level, [(pair[0], level), operator, (pair[1], level + 1)])
 
     def sized(self, depth):

@@ -104,7 +104,7 @@ headers: $(PROGRAM)
 
 smoke: $(PROGRAM) $(FLOWS) $(WORKBENCH) build/judged
 	$(PYTHON) scripts/smoke.py $(PROGRAM)
-	$(PYTHON) scripts/smoke_large.py $(FLOWS) $(WORKBENCH) build/judged
+	$(PYTHON) scripts/smoke_large.py $(FLOWS) $(WORKBENCH) $(PROGRAM) build/judged
 
 install: $(PROGRAM)
 	install -D -m 755 $(PROGRAM) $(DESTDIR)$(PREFIX)/bin/ksparse

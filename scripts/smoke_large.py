@@ -1,7 +1,7 @@
 #!/usr/bin/env python3
-"""Runs `flows`, `workbench` and `judged` over large and deep texts, with ample memory, and compares their answers with those by hand.
+"""Runs `flows`, `workbench`, `ksparse` and `judged` over large and deep texts, with ample memory, and compares their answers with those by hand.
 
-usage: smoke_large.py FLOWS WORKBENCH JUDGED
+usage: smoke_large.py FLOWS WORKBENCH KSPARSE JUDGED
 """
 import os
 import subprocess
@@ -41,6 +41,38 @@ EXPANSIONS = (
     ("calls within calls", "#define f(a) a\n" + "f(" * CALLS + "1" + ")" * CALLS, "1", (CALLS, CALLS)),
     ("a long argument", "#define f(a) a\nf(" + "x " * ARGUMENT + ")", " ".join("x" * ARGUMENT), (1, ARGUMENT)),
     ("a chain", "".join(f"#define a{number} a{number + 1}\n" for number in range(CHAIN)) + "a0", f"a{CHAIN}", (CHAIN, CHAIN)),
+)
+
+# Chains and lists, which wait for nothing that is inside them: what stands before the parts, a part, how often it stands, and what
+# stands behind. They are read and not judged.
+READ_CHAINS = (
+    ("int a; int x = ", "- ", 500_000, "a;"),
+    ("int a; int x = ", "a + ", 500_000, "a;"),
+    ("int a; void f(void) { ", "a = ", 500_000, "a; }"),
+    ("typedef int t; int a; int x = ", "(t)", 500_000, "a;"),
+    ("int a; int x = a", "[1]", 500_000, ";"),
+    ("int *p; int x = ", "*", 500_000, "p;"),
+    ("void f(void) { ", "x: ", 500_000, ";}"),
+    ("int a; int x = ", "a ? a : ", 400_000, "a;"),
+    ("void f(void) { ", "if (1) ; else ", 300_000, ";}"),
+    ("void f(void) { ", ";", 500_000, "}"),
+    ("int a", ", a", 500_000, ";"),
+    ("struct { int a", ", b", 500_000, "; } x;"),
+    ("int x[] = { ", "1, ", 500_000, "};"),
+    ("char x[] = ", '"" ', 500_000, '"";'),
+)
+ENUMERATORS = "enum {" + "".join(f" e{number}," for number in range(500_000)) + " };"
+NOT_BUILT = ("t.c:1:1: error[29]: form not built\n", 2)
+
+# A unit of 499,996 statements of four tokens each: what stands between its first object and its function, which have four and seven
+# more, what stands behind the statements, and the answer. The limit goes before a rule that fails and before a syntax error.
+STATEMENTS = 499_996
+TOO_MANY = ("ksparse: limit: unit tokens\n", 7)
+UNITS = (
+    ("2,000,000 tokens", "extern int *p;", "}", ("", 0)),
+    ("2,000,001 tokens", "extern int **p;", "}", TOO_MANY),
+    ("2,000,009 tokens and a rule that fails", "extern int __attribute__((noderef))b;", "b=a;}", TOO_MANY),
+    ("2,000,001 tokens and no unit", "extern int *p;", "}}", TOO_MANY),
 )
 
 # How long a chain of operators is, and one of conditionals: nearly as long as the limit on tokens lets them be. How deep parentheses
@@ -171,14 +203,28 @@ def workbench_differs(workbench):
     return failures
 
 
+def checks_differ(ksparse):
+    """How many chains and units are checked otherwise."""
+
+    def check_differs(name, text, answer):
+        return differs(name, [ksparse, "t.c"], "t.c", text, ("", *answer))
+
+    failures = check_differs("enumerators", ENUMERATORS, NOT_BUILT)
+    for before, part, count, behind in READ_CHAINS:
+        failures += check_differs(f"{count} of {part}", before + part * count + behind, NOT_BUILT)
+    for name, objects, end, answer in UNITS:
+        failures += check_differs(name, f"extern int a;{objects}void f(void){{" + "a=a;" * STATEMENTS + end, answer)
+    return failures
+
+
 def judged_differs(judged):
     """How many chains are judged otherwise."""
     return sum(differs(it.name, [judged, *it.words, "t.c"], "t.c", it.text(), ("", it.told(), it.status())) for it in CHAINS)
 
 
 def main():
-    flows, workbench, judged = map(os.path.abspath, sys.argv[1:])
-    failures = flows_differ(flows) + workbench_differs(workbench) + judged_differs(judged)
+    flows, workbench, ksparse, judged = map(os.path.abspath, sys.argv[1:])
+    failures = flows_differ(flows) + workbench_differs(workbench) + checks_differ(ksparse) + judged_differs(judged)
     print(f"smoke: {failures} differences in large texts")
     return 1 if failures else 0
 

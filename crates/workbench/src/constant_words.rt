@@ -20,7 +20,8 @@ pub enum Verb {
     OfNumber,
     Fouled,
     Width,
-    Offset,
+    /// Its own word is the name that the next node holds.
+    Member,
     /// It makes a node of so many of the last ones.
     Leaf(NodeKind),
     Object,
@@ -35,7 +36,7 @@ pub enum Verb {
 }
 
 /// The words, each as far as a number stands behind it.
-const VERBS: [(&[u8], Verb); 65] = [
+const VERBS: [(&[u8], Verb); 69] = [
     (b"bool", Verb::Of(IntKind::Bool)),
     (b"char", Verb::Of(IntKind::Char)),
     (b"signed_char", Verb::Of(IntKind::SChar)),
@@ -51,7 +52,7 @@ const VERBS: [(&[u8], Verb); 65] = [
     (b"of", Verb::OfNumber),
     (b"fouled", Verb::Fouled),
     (b"width", Verb::Width),
-    (b"offset", Verb::Offset),
+    (b"member", Verb::Member),
     (b"literal", Verb::Literal),
     (b"character", Verb::Character),
     (b"object", Verb::Object),
@@ -66,7 +67,11 @@ const VERBS: [(&[u8], Verb); 65] = [
     (b"sizeof", Verb::One(NodeKind::SizeofExpression)),
     (b"sizeof_type", Verb::One(NodeKind::SizeofType)),
     (b"alignof", Verb::One(NodeKind::AlignofType)),
+    (b"dot", Verb::Leaf(NodeKind::MemberDesignator)),
+    (b"index", Verb::One(NodeKind::IndexDesignator)),
     (b"offsetof", Verb::One(NodeKind::BuiltinOffsetof)),
+    (b"offsetof_behind", Verb::Two(NodeKind::BuiltinOffsetof)),
+    (b"offsetof_further", Verb::Three(NodeKind::BuiltinOffsetof)),
     (b"call", Verb::One(NodeKind::Call)),
     (b"statement", Verb::One(NodeKind::StatementExpression)),
     (b"address", Verb::One(NodeKind::Address)),

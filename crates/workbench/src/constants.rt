@@ -24,8 +24,8 @@ struct Next {
     of: TypeId,
     fouled: bool,
     width: Option<u32>,
-    /// How far its member lies.
-    offset: Option<u64>,
+    /// The name that it holds.
+    name: NameId,
     /// Its constant, where it isn't folded.
     given: Option<u64>,
 }
@@ -49,8 +49,8 @@ struct Folding {
 /// the last ones, and fold each.
 ///
 /// The word of a kind, or `of_N` for the type that was made with number N, tells the type of the next nodes; `fouled`, `width_N` for
-/// a bit-field and `offset_N` for how far a member lies tell of the next one alone. `literal_N`, `character_N`, `object`, `string`,
-/// `type_name` and `named_N`, which names the node with handle N, are nodes without parts; other words are told in
+/// a bit-field and `member_N`, which is the name of a member, tell of the next one alone. `literal_N`, `character_N`, `object`, `string`,
+/// `type_name`, `dot` and `named_N`, which names the node with handle N, are nodes without parts; other words are told in
 /// `constant_words.rt`. `enumerator` has the constant of its value. `show` tells the constant of the last node. `sums_N`, `ands_N`,
 /// `arms_N`, `parentheses_N` and `enumerators_N` go on so many times with `.. + 1`, `.. && 1`, `0 ? 2 : ..`, `( .. )` and an
 /// enumerator that is one more than the last.
@@ -95,7 +95,7 @@ impl Folding {
                 of: TypeId(0),
                 fouled: false,
                 width: None,
-                offset: None,
+                name: NameId(0),
                 given: None,
             },
             last: Folded::NotConstant,
@@ -111,7 +111,7 @@ impl Folding {
         'tokens: for token in tokens {
             let word = word_of(names, token.name);
             if begun {
-                self.command(word)?;
+                self.command(word, token.name)?;
             }
             begun = begun || word == b"nodes".as_slice();
         }
@@ -119,7 +119,7 @@ impl Folding {
     }
 
     // Does what a word says.
-    fn command(&mut self, word: &[u8]) -> Result<(), AllocError>
+    fn command(&mut self, word: &[u8], name: NameId) -> Result<(), AllocError>
         requires { IsFolding self.old.types self.old.unit self.old.kept }
         ensures { IsFolding self.new.types self.new.unit self.new.kept }
     {
@@ -134,10 +134,7 @@ impl Folding {
                 width: u32::try_from(number).ok(),
                 ..self.next
             }),
-            Some((Verb::Offset, number)) => self.tell(Next {
-                offset: Some(number),
-                ..self.next
-            }),
+            Some((Verb::Member, _)) => self.tell(Next { name, ..self.next }),
             Some((Verb::Show, _)) => self.show(),
             Some((Verb::Go(chain), number)) => self.go_on(chain, number),
             Some((verb, number)) => self.make(verb, number),
@@ -226,20 +223,14 @@ impl Folding {
         let node = Node {
             kind,
             token: 0,
-            name: NameId(0),
+            name: self.next.name,
             number,
             children,
         };
         let Ok(handle) = self.unit.add(node) else {
             return Err(AllocError);
         };
-        self.last = fold(
-            &self.unit,
-            &self.types,
-            &self.kept,
-            self.next.offset,
-            handle,
-        );
+        self.last = fold(&self.unit, &self.types, &self.kept, handle);
         self.keep(handle)
     }
 
@@ -271,7 +262,7 @@ impl Folding {
             of,
             fouled: false,
             width: None,
-            offset: None,
+            name: NameId(0),
             given: None,
         };
         self.made.push(handle)?;

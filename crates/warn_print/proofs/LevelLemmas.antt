@@ -1,6 +1,5 @@
 -- What the outermost level of a type tells of its text and of its weight.
-use Rattle.std.proofs.Common.{◌≡◌, ℕ, ◌+◌, ◌<◌, List, [], ◌++◌, codes, Bool, Some, None, refl, sym, ap, ◌∙◌, subst, arith, append_assoc}
-use Rattle.std.specs.Prelude.{if◌then◌else◌}
+use Rattle.std.proofs.Common.{◌≡◌, ℕ, ◌+◌, ◌<◌, List, ◌++◌, codes, Bool, Some, None, refl, sym, ap, ◌∙◌, subst, arith, append_assoc}
 use Rattle.std.proofs.lemmas.Option.{none-some, same_Some}
 use Rattle.sparse_model.specs.declared.ids.TypeId.{TypeId}
 use Rattle.meaning_types.specs.Types.{TypeTree, Typed, TypeTrees, Qualifiers, Flags}

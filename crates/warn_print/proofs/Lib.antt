@@ -2,4 +2,3 @@ pub mod UnitLemmas
 pub mod TextLemmas
 pub mod PieceLemmas
 pub mod LevelLemmas
-pub mod OrderLemmas

@@ -5,9 +5,11 @@ use Rattle.sparse_model.specs.declared.failure.Failure.{Failure}
 use Rattle.meaning_warnings.specs.Listing.{lines_on, undefined_lines}
 use Rattle.c_tokens.specs.declared.token.Token.{Token}
 use Rattle.c_tokens.specs.Seen.{tok_of, toks_of}
+use Rattle.c_types.specs.Table.{TypeTable}
+use Rattle.failure_listing.specs.Ranks.{KeepsRank}
 use Rattle.warn_print.specs.declared.show.Show.{Show}
 use Rattle.warn_print.specs.Seen.{failure_seen, failures_seen, unit_shown}
-use Rattle.warn_print.specs.Sorted.{behind_first, front_token}
+use Rattle.warn_print.specs.Undefined.{behind_first, front_token}
 
 module _ (show : Show) (classes : List Class) where
   abbrev lines : List Failure → List Token → List ℕ
@@ -32,3 +34,7 @@ module _ (show : Show) (classes : List Class) where
       ∙ append_assoc text (lines_at (front_token tokens) failure) (lines others (behind_first tokens))
       ∙ ap (λ (t : List ℕ). text ++ t) (sym (step failure others tokens) ∙ ap (λ (fs : List Failure). lines fs tokens) (sym is))
       ∙ so
+
+-- a failure is shown with what orders it
+pub shown-rank : (names : List (List ℕ)) (types : TypeTable) → KeepsRank (failure_seen names types)
+shown-rank names types = record { token = λ f. refl; rule = λ f. refl; part = λ f. refl }

@@ -1,3 +1,3 @@
 pub mod Seen
 pub mod Pieces
-pub mod Sorted
+pub mod Undefined

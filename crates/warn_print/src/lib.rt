@@ -5,7 +5,6 @@
 #![tactic(auto)]
 
 mod errors;
-mod listing;
 mod numbers;
 mod pieces;
 mod places;

@@ -4,12 +4,12 @@ ghost use Rattle.vocabulary.specs.Rules.{rule_class};
 ghost use Rattle.c_tokens.specs.Seen.{tok_of, toks_of};
 ghost use Rattle.meaning_warnings.specs.Listing.{IsUnitText, class_index, is_on, lines_on, listing_lines, undefined_lines};
 ghost use Rattle.warn_print.specs.Seen.{failure_seen, failures_seen, unit_shown};
-ghost use Rattle.warn_print.specs.Sorted.{behind_first, front_token};
+ghost use Rattle.warn_print.specs.Undefined.{behind_first, front_token};
 
-use crate::listing::in_order;
 use crate::show::{Show, token_in};
 use crate::warnings::write_failure;
 use c_tokens::Token;
+use failure_listing::in_order;
 use sparse_model::{Class, ClassSet, Failure, FailureList};
 use std::alloc::{AllocError, Global};
 

@@ -1,54 +1,77 @@
 -- What a stable sort leaves, without repeats, is the listing.
-use Rattle.std.proofs.Common.{◌≡◌, ℕ, ◌⊎◌, List, [], ◌∷◌, map, filter, Bool, true, false, cond, not, ◌&&◌, Option, Some, None, option_map, inl, inr, suc, refl, sym, ap, ◌∙◌, arith, true≢false, is_eq, is_gt, is_lt, Ordering, Less, Equal, Greater, IsSorted}
+use Rattle.std.proofs.Common.{◌≡◌, ◌⊎◌, All, List, [], ◌∷◌, map, filter, Bool, true, false, cond, not, ◌&&◌, Option, Some, None, option_map, inl, inr, suc, refl, sym, ap, ◌∙◌, arith, true≢false, is_eq, is_gt, is_lt, Ordering, Less, Equal, Greater, IsSorted}
 use Rattle.std.specs.List.{AllByRecursion}
 use Rattle.std.specs.List.Sorted.{IsStableBy, ties}
 use Rattle.std.specs.Ordering.{ordering_reverse}
-use Rattle.std.proofs.lemmas.Cmp.{alike_right, upto}
+use Rattle.std.specs.Cmp.{IsTotalOrder}
+use Rattle.std.proofs.lemmas.Cmp.{alike_right, nat_cmp_total, on_total, then_total, upto}
+use Rattle.std.proofs.lemmas.List.Elements.{All-cons, All-head, All-tail}
 use Rattle.sparse_model.specs.declared.failure.Failure.{Failure}
 use Rattle.meaning_operands.specs.Failures as meaning
 use Rattle.meaning_warnings.specs.Listing.{order_of, first_like, AreOrdered, IsListing}
 use Rattle.meaning_warnings.proofs.Listings.{AreBehind, behind-earlier, like-one, total}
-use Rattle.c_types.specs.Table.{TypeTable}
-use Rattle.warn_print.specs.Seen.{failure_seen}
-use Rattle.warn_print.specs.Sorted.{kept_behind, rank_order}
+use Rattle.failure_listing.specs.Ranks.{KeepsRank, kept_behind, rank_of, rank_order}
 
-module _ (names : List (List ℕ)) (types : TypeTable) where
-  abbrev seen : Failure → meaning.Failure
-  seen f = failure_seen names types f
+-- the order of ranks is total
+rank_total : IsTotalOrder rank_order
+rank_total =
+    then_total (then_total (on_total (λ (f : Failure). (rank_of f).0) nat_cmp_total) (on_total (λ (f : Failure). (rank_of f).1) nat_cmp_total))
+    (on_total (λ (f : Failure). (rank_of f).2) nat_cmp_total)
 
+-- Sorted lists rise
+
+abbrev AtMost : Failure → Failure → Type 0
+AtMost f g = is_gt (rank_order f g) ≡ false
+
+abbrev IsUp : List Failure → Type 0
+IsUp [] = Unit {0}
+IsUp (f ∷ fs) = AllByRecursion (AtMost f) fs × IsUp fs
+
+turned : (o : Ordering) → is_lt o ≡ false → is_gt (ordering_reverse o) ≡ false
+turned Less h = absurd (true≢false h)
+turned Equal h = refl
+turned Greater h = refl
+
+at_most_all : (f g : Failure) (fs : List Failure) → AtMost f g → AllByRecursion (AtMost g) fs → AllByRecursion (AtMost f) fs
+at_most_all f g [] first all = tt
+at_most_all f g (h ∷ fs) first all = (upto rank_total f g h first all.0, at_most_all f g fs first all.1)
+
+below_all : (f : Failure) (fs : List Failure) → IsSorted rank_order (f ∷ fs) → IsUp fs → AllByRecursion (AtMost f) fs
+below_all f [] sorted up = tt
+below_all f (g ∷ fs) sorted up =
+    let first : AtMost f g = ap is_gt (rank_total.antisymm f g) ∙ turned _ (sorted 0 f (omega arith) (omega arith)) in
+    (first, at_most_all f g fs first up.0)
+
+up_from_sorted : (fs : List Failure) → IsSorted rank_order fs → IsUp fs
+up_from_sorted [] sorted = tt
+up_from_sorted (f ∷ fs) sorted =
+    let tail : IsSorted rank_order fs = λ k d p q. rw Rattle.std.proofs.Common.add-one (rw Rattle.std.proofs.Common.add-one at (sorted (suc k) d (omega arith) (omega arith))) in
+    let up = up_from_sorted fs tail in
+    (below_all f fs sorted up, up)
+
+-- What is kept was there
+
+module _ (P : Failure → Type 0) where
+  all-behind : (last : Failure) (fs : List Failure) → All P fs → All P (kept_behind (Some last) fs)
+  all-behind last [] all = all
+  all-behind last (f ∷ fs) all = behind_by (is_eq (rank_order last f)) (all-behind last fs (All-tail P f fs all)) (all-behind f fs (All-tail P f fs all))
+    where
+      behind_by : (b : Bool) → All P (kept_behind (Some last) fs) → All P (kept_behind (Some f) fs)
+          → All P (cond b (kept_behind (Some last) fs) (f ∷ kept_behind (Some f) fs))
+      behind_by true of_last of_f = of_last
+      behind_by false of_last of_f = All-cons P f (kept_behind (Some f) fs) (All-head P f fs all) of_f
+
+  pub all-kept : (fs : List Failure) → All P fs → All P (kept_behind None fs)
+  all-kept [] all = all
+  all-kept (f ∷ fs) all = All-cons P f (kept_behind (Some f) fs) (All-head P f fs all) (all-behind f fs (All-tail P f fs all))
+
+module _ (seen : Failure → meaning.Failure) (rank : KeepsRank seen) where
   abbrev all_seen : List Failure → List meaning.Failure
   all_seen fs = map seen fs
 
-  -- Sorted lists rise
-
-  abbrev AtMost : Failure → Failure → Type 0
-  AtMost f g = is_gt (order_of (seen f) (seen g)) ≡ false
-
-  abbrev IsUp : List Failure → Type 0
-  IsUp [] = Unit {0}
-  IsUp (f ∷ fs) = AllByRecursion (AtMost f) fs × IsUp fs
-
-  turned : (o : Ordering) → is_lt o ≡ false → is_gt (ordering_reverse o) ≡ false
-  turned Less h = absurd (true≢false h)
-  turned Equal h = refl
-  turned Greater h = refl
-
-  at_most_all : (f g : Failure) (fs : List Failure) → AtMost f g → AllByRecursion (AtMost g) fs → AllByRecursion (AtMost f) fs
-  at_most_all f g [] first all = tt
-  at_most_all f g (h ∷ fs) first all = (upto total (seen f) (seen g) (seen h) first all.0, at_most_all f g fs first all.1)
-
-  below_all : (f : Failure) (fs : List Failure) → IsSorted rank_order (f ∷ fs) → IsUp fs → AllByRecursion (AtMost f) fs
-  below_all f [] sorted up = tt
-  below_all f (g ∷ fs) sorted up =
-      let first : AtMost f g = ap is_gt (total.antisymm (seen f) (seen g)) ∙ turned _ (sorted 0 f (omega arith) (omega arith)) in
-      (first, at_most_all f g fs first up.0)
-
-  up_from_sorted : (fs : List Failure) → IsSorted rank_order fs → IsUp fs
-  up_from_sorted [] sorted = tt
-  up_from_sorted (f ∷ fs) sorted =
-      let tail : IsSorted rank_order fs = λ k d p q. rw Rattle.std.proofs.Common.add-one (rw Rattle.std.proofs.Common.add-one at (sorted (suc k) d (omega arith) (omega arith))) in
-      let up = up_from_sorted fs tail in
-      (below_all f fs sorted up, up)
+  -- failures are ordered as they are seen
+  pub order-seen : (f g : Failure) → order_of (seen f) (seen g) ≡ rank_order f g
+  order-seen f g = rw (rank.token f, rank.token g, rank.rule f, rank.rule g, rank.part f, rank.part g) refl
 
   -- Without repeats they are in order, and the first of each kind stays
 
@@ -95,7 +118,7 @@ module _ (names : List (List ℕ)) (types : TypeTable) where
   keeps : (last : Failure) (fs : List Failure) → AllByRecursion (AtMost last) fs → IsUp fs → Keeps last fs
   keeps last [] all up = record { behind = tt; ordered = tt; same = λ h. refl }
   keeps last (f ∷ fs) all up =
-      let by = keeps_by (order_of (seen last) (seen f)) last f fs refl all.0 (keeps last fs all.1 up.1) (keeps f fs up.0 up.1) in
+      let by = keeps_by (rank_order last f) last f fs (order-seen last f) all.0 (keeps last fs all.1 up.1) (keeps f fs up.0 up.1) in
       record { behind = by.behind; ordered = by.ordered; same = by.same }
 
   -- A stable sort leaves the first of each kind
@@ -108,7 +131,8 @@ module _ (names : List (List ℕ)) (types : TypeTable) where
   is_less f g = is_lt (rank_order f g)
 
   ties-is : (f g : Failure) → ties is_less f g ≡ is_eq (order_of (seen f) (seen g))
-  ties-is f g = ap (λ o. not (is_lt (order_of (seen f) (seen g))) && not (is_lt o)) (total.antisymm (seen g) (seen f)) ∙ own (order_of (seen f) (seen g))
+  ties-is f g =
+      ap (λ o. not (is_lt (rank_order f g)) && not (is_lt o)) (rank_total.antisymm g f) ∙ own (rank_order f g) ∙ ap is_eq (sym (order-seen f g))
     where
       own : (o : Ordering) → not (is_lt o) && not (is_lt (ordering_reverse o)) ≡ is_eq o
       own Less = refl

@@ -1,10 +1,10 @@
 -- Failures that are sorted, each once.
-use Rattle.std.specs.Prelude.{ℕ, Bool, false, List, [], ◌∷◌, Option, Some, None, if◌then◌else◌}
-use Rattle.sparse_model.specs.declared.failure.Failure.{Failure}
+use Rattle.std.specs.Prelude.{◌≡◌, ℕ, Bool, false, List, [], ◌∷◌, Option, Some, None, if◌then◌else◌}
 use Rattle.std.specs.declared.cmp.Ordering.{Ordering}
 use Rattle.std.specs.Ordering.{ordering_then, nat_cmp, is_eq}
 use Rattle.vocabulary.specs.Rules.{rule_number}
-use Rattle.c_tokens.specs.declared.token.Token.{Token}
+use Rattle.sparse_model.specs.declared.failure.Failure.{Failure}
+use Rattle.meaning_operands.specs.Failures as meaning
 
 -- by what failures are ordered, and the order
 abbrev pub rank_of : Failure → ℕ × ℕ × ℕ
@@ -14,6 +14,12 @@ abbrev pub rank_order : Failure → Failure → Ordering
 rank_order failure other =
     ordering_then (ordering_then (nat_cmp (rank_of failure).0 (rank_of other).0) (nat_cmp (rank_of failure).1 (rank_of other).1))
     (nat_cmp (rank_of failure).2 (rank_of other).2)
+
+-- however types and names are seen, a failure is seen with what orders it
+pub record KeepsRank (seen : Failure → meaning.Failure) : Type 0 where
+  pub token : (failure : Failure) → (seen failure).token ≡ failure.token
+  pub rule : (failure : Failure) → (seen failure).rule ≡ failure.rule
+  pub part : (failure : Failure) → (seen failure).part ≡ failure.part
 
 -- they agree in all three
 abbrev pub are_one : Failure → Failure → Bool
@@ -30,13 +36,3 @@ kept_behind (Some last) (failure ∷ failures) =
 abbrev pub is_repeated : Option Failure → Failure → Bool
 is_repeated None failure = false
 is_repeated (Some last) failure = are_one last failure
-
--- Tokens in turn
-
-abbrev pub front_token : List Token → Option Token
-front_token [] = None
-front_token (token ∷ tokens) = Some token
-
-abbrev pub behind_first : List Token → List Token
-behind_first [] = []
-behind_first (token ∷ tokens) = tokens

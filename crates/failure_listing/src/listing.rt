@@ -1,22 +1,22 @@
 // Failures in their order, each once.
-ghost use Rattle.std.specs.Prelude.{◌≡◌, ◌++◌, List, ℕ, map, IfOk, None};
+ghost use Rattle.std.specs.Prelude.{◌≡◌, All, Contains, IfOk, None, map};
+ghost use Rattle.meaning_operands.specs.Failures as meaning;
 ghost use Rattle.meaning_warnings.specs.Listing.{IsListing};
-ghost use Rattle.c_types.specs.Table.{TypeTable};
-ghost use Rattle.warn_print.specs.Seen.{failure_seen};
-ghost use Rattle.warn_print.specs.Sorted.{are_one, is_repeated, kept_behind, rank_of};
+ghost use Rattle.failure_listing.specs.Ranks.{KeepsRank, are_one, is_repeated, kept_behind, rank_of};
 
 use sparse_model::{Failure, FailureList};
 use std::alloc::{AllocError, Global};
 
 /// The failures by token, rule and part; of those that agree in all three the first.
-pub(crate) fn in_order(alloc: Global, failures: &FailureList) -> Result<Vec<Failure>, AllocError>
-    ensures { IfOk result (λ listing. (names : List (List ℕ)) (types : TypeTable)
-        → IsListing (map (failure_seen names types) failures.now) (map (failure_seen names types) listing.items)) }
+pub fn in_order(alloc: Global, failures: &FailureList) -> Result<FailureList, AllocError>
+    ensures lists { IfOk result (λ listing. (seen : Failure → meaning.Failure) → KeepsRank seen
+        → IsListing (map seen failures.now) (map seen listing)) }
+    ensures found { IfOk result (λ listing. All (Contains failures.now) listing) }
 {
     let mut sorted = Vec::from_slice(alloc, failures.as_slice())?;
     sorted.sort_by_key(|failure| rank(failure))?;
     let kept = without_repeats(alloc, sorted.as_slice())?;
-    Ok(kept)
+    Ok(FailureList::from_vec(kept))
 }
 
 // By what failures are ordered.

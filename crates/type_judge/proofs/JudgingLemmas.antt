@@ -1,8 +1,13 @@
 -- What is answered of a unit, once all its nodes are judged.
-use Rattle.std.proofs.Common.{◌≡◌, ℕ, List, Option, None, Result, IfErr, IsErrAnd, length, option_map, sym, ap, ap₂, subst, ◌∙◌}
+use Rattle.std.proofs.Common.{◌≡◌, ℕ, All, Contains, List, Option, None, Result, IfErr, IsErrAnd, length, map, option_map, refl, sym, ap, ap₂, subst, ◌∙◌}
+use Rattle.std.proofs.lemmas.List.Elements.{All-contains, All-weaker}
 use Rattle.std.proofs.lemmas.Result.{err_from_is_err_and}
 use Rattle.vocabulary.specs.declared.limit.LimitKind.TheVariants as limits
+use Rattle.sparse_model.specs.declared.failure.Failure.{Failure}
 use Rattle.sparse_model.specs.declared.ids.NameId.{NameId}
+use Rattle.failure_listing.specs.Ranks.{KeepsRank}
+use Rattle.meaning_operands.specs.Failures as meaning
+use Rattle.meaning_warnings.specs.Listing.{IsListing}
 use Rattle.meaning_tree.specs.Nodes.{NodeList}
 use Rattle.meaning_typing.proofs.Facts.{facts_are_found}
 use Rattle.meaning_typing.specs.Building.{facts_of}
@@ -10,16 +15,17 @@ use Rattle.meaning_typing.specs.Facts.{Fact}
 use Rattle.meaning_typing.specs.Surroundings.{Surrounding, AreSurroundings}
 use Rattle.meaning_typing.specs.Typing.{AreFacts}
 use Rattle.meaning_typing.specs.Units.{UnitNodes}
-use Rattle.meaning_rules.specs.Rules.{Judgement, broken_in, first_refusal, least_broken, least_token, passed_in, refused}
+use Rattle.meaning_rules.specs.Rules.{Judgement, broken_in, failures_in, first_refusal, holds, least_broken, least_token, passed_in, refused}
 use Rattle.c_types.specs.Table.{TypeTable}
 use Rattle.type_judge.specs.declared.fault.JudgeFault.{JudgeFault}
 use Rattle.type_judge.specs.declared.fault.JudgeFault.TheVariants as faults
 use Rattle.type_judge.specs.declared.judging.Judged.{Judged}
 use Rattle.type_judge.specs.declared.pass.Pass.{Pass}
+use Rattle.type_judge.specs.Found.{found_seen}
 use Rattle.type_judge.specs.Identities.{names_told, renamed}
 use Rattle.type_judge.specs.Judging.{HasTypeIds, IsJudgedSo, IsPassOver, IsRefusal, IsRefusedFor}
 use Rattle.decl_judge.specs.Units.{nodes_of}
-use Rattle.expr_judge.specs.Rows.{broken_seen}
+use Rattle.expr_judge.specs.Rows.{IsKnownFailure, broken_seen, failure_seen}
 use Rattle.type_judge.proofs.IdentityLemmas.{all_renamed, failures_renamed, found_renamed, nodes_renamed}
 use Rattle.type_judge.proofs.NodeLemmas.{length-nodes}
 
@@ -40,6 +46,10 @@ memory_refused nodes result is =
     let found = err_from_is_err_and result is in
     subst (λ one. IfErr one (IsRefusedFor nodes)) (sym found.1) (subst (IsRefusedFor nodes) (sym found.2) tt)
 
+-- a failure is seen with what orders it
+pub found-rank : (table : TypeTable) → KeepsRank (failure_seen table)
+found-rank table = record { token = λ f. refl; rule = λ f. refl; part = λ f. refl }
+
 module _ (unit : NodeList NameId) (whole : unit.first ≡ 0) (surroundings : List Surrounding) (are : AreSurroundings (nodes_of unit) surroundings) (pass : Pass)
     (judged : IsPassOver (nodes_of unit) surroundings (length unit.nodes) pass) where
   over : IsPassOver (nodes_of unit) surroundings (length (nodes_of unit)) pass
@@ -54,31 +64,41 @@ module _ (unit : NodeList NameId) (whole : unit.first ≡ 0) (surroundings : Lis
   refused_for fault is =
       refused_as (nodes_of unit) surroundings (facts_of (nodes_of unit) surroundings) are (facts_are_found (nodes_of unit) surroundings) fault _ refusal-is is
 
-  -- once the names of restricted types are told
-  module _ (types : TypeTable) (is : types ≡ renamed pass.known.types (names_told (nodes_of unit) surroundings (length unit.nodes))) where
+  -- once the names of restricted types are told, and failures are in order
+  module _ (types : TypeTable) (is : types ≡ renamed pass.known.types (names_told (nodes_of unit) surroundings (length unit.nodes))) (failures : List Failure) where
     abbrev answer : TypeTable → Judged
-    answer table = record { types = table; facts = pass.known.facts; failures = pass.found }
+    answer table = record { types = table; facts = pass.known.facts; failures = failures }
 
-    pub judged_so : first_refusal (option_map broken_seen pass.broken) pass.passed ≡ None → IsJudgedSo (nodes_of unit) (answer types)
-    judged_so none =
+    pub judged_so :
+        first_refusal (option_map broken_seen pass.broken) pass.passed ≡ None
+        → ((seen : Failure → meaning.Failure) → KeepsRank seen → IsListing (map seen pass.found) (map seen failures))
+        → IsJudgedSo (nodes_of unit) (answer types)
+    judged_so none lists =
         let names = names_told (nodes_of unit) surroundings (length unit.nodes) in
-        subst (λ (table : TypeTable). IsJudgedSo (nodes_of unit) (answer table)) (sym is)
+        let table = renamed pass.known.types names in
+        let are_found : found_seen table pass.found ≡ failures_in (nodes_of unit) surroundings (facts_of (nodes_of unit) surroundings) =
+        found_renamed pass.known.types names pass.found ∙ over.failures in
+        subst (λ (other : TypeTable). IsJudgedSo (nodes_of unit) (answer other)) (sym is)
         (record {
           surroundings = surroundings;
           facts = facts_of (nodes_of unit) surroundings;
           are_surroundings = are;
           are_facts = facts_are_found (nodes_of unit) surroundings;
-          none_refused = sym refusal-is ∙ none;
+          judgement =
+              holds (found_seen table failures) (sym refusal-is ∙ none)
+              (subst (λ (all : List meaning.Failure). IsListing all (found_seen table failures)) are_found (lists (failure_seen table) (found-rank table)));
           known = nodes_renamed pass.known.types names pass.known.facts ∙ over.known.facts;
-          failures = found_renamed pass.known.types names pass.found ∙ over.failures;
           names = ap (names_told (nodes_of unit) surroundings) (sym (length-nodes unit whole));
         })
 
-    pub judged_ids : HasTypeIds (answer types)
-    judged_ids =
+    pub judged_ids : All (Contains pass.found) failures → HasTypeIds (answer types)
+    judged_ids among =
         let names = names_told (nodes_of unit) surroundings (length unit.nodes) in
         subst (λ (table : TypeTable). HasTypeIds (answer table)) (sym is)
         (record {
           facts = all_renamed pass.known.types names pass.known.facts over.known.whole.ids;
-          failures = failures_renamed pass.known.types names pass.found over.ids;
+          failures =
+              failures_renamed pass.known.types names failures
+              (All-weaker (Contains pass.found) (IsKnownFailure pass.known.types)
+              (λ failure is. All-contains (IsKnownFailure pass.known.types) pass.found failure over.ids is) failures among);
         })

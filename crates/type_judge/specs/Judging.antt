@@ -6,7 +6,7 @@ use Rattle.meaning_typing.specs.Facts.{Fact}
 use Rattle.meaning_typing.specs.Surroundings.{Surrounding, AreSurroundings}
 use Rattle.meaning_typing.specs.Typing.{AreFacts, broken_at, failures_at, passed_at}
 use Rattle.meaning_typing.specs.Units.{UnitNodes}
-use Rattle.meaning_rules.specs.Rules.{Judgement, BreaksConstraint, PassesObjectSize, IsJudgement, broken_in, failures_in, first_refusal, gathered, least_broken, least_token, passed_in}
+use Rattle.meaning_rules.specs.Rules.{Judgement, Holds, BreaksConstraint, PassesObjectSize, IsJudged, IsJudgement, gathered, least_broken, least_token}
 use Rattle.node_facts.specs.Facts.{IsKnownNodeFact, nodes_seen}
 use Rattle.expr_judge.specs.Rows.{broken_seen}
 use Rattle.type_judge.specs.declared.fault.JudgeFault.{JudgeFault}
@@ -31,15 +31,14 @@ pub record IsPassOver (nodes : UnitNodes) (surroundings : List Surrounding) (cou
 
 -- In the end
 
--- Nothing is refused, and this is what is known of each node, all that fails, node by node, and what restricted types are named.
+-- Nothing is refused, and this is what is known of each node, the listing of all that fails, and what restricted types are named.
 pub record IsJudgedSo (nodes : UnitNodes) (judged : Judged) : Type 0 where
   pub surroundings : List Surrounding
   pub facts : List Fact
   pub are_surroundings : AreSurroundings nodes surroundings
   pub are_facts : AreFacts nodes surroundings facts
-  pub none_refused : first_refusal (least_broken (broken_in nodes surroundings facts)) (least_token (passed_in nodes surroundings facts)) ≡ None
+  pub judgement : IsJudged nodes surroundings facts (Holds (found_seen judged.types judged.failures))
   pub known : nodes_seen judged.types judged.facts ≡ facts
-  pub failures : found_seen judged.types judged.failures ≡ failures_in nodes surroundings facts
   pub names : judged.types.names ≡ names_told nodes surroundings (length nodes)
 
 -- all types that are told are of its table

@@ -12,6 +12,7 @@ use crate::pass::{Pass, judge_nodes};
 use c_tree::Unit;
 use c_types::Types;
 use expr_judge::Broken;
+use failure_listing::in_order;
 use node_facts::NodeFacts;
 use node_surroundings::surroundings_of;
 use sparse_model::{FailureList, LimitKind};
@@ -23,7 +24,7 @@ pub struct Judged {
     pub types: Types,
     /// What is known of each node, by its handle.
     pub facts: NodeFacts,
-    /// All failures, in the order of the nodes.
+    /// All failures by token, rule and part, each once: of those that agree in all three the first, by the order of the nodes.
     pub failures: FailureList,
 }
 
@@ -44,9 +45,10 @@ fn first_refusal(broken: Option<Broken>, passed: Option<u32>) -> Option<JudgeFau
     }
 }
 
-/// Judges a unit: the type of each node, what else is known of it, all failures of rules, and the names of restricted types.
+/// Judges a unit: the type of each node, what else is known of it, the listing of all failures of rules, and the names of
+/// restricted types.
 ///
-/// A node costs a few steps, and one more for each of its parts.
+/// A node costs a few steps, and one more for each of its parts. The failures are sorted.
 ///
 /// # Errors
 /// `Constraint` where the unit breaks one: the least, by its token and then by its number. `Limit` where an object is larger
@@ -70,10 +72,11 @@ pub fn judge(alloc: Global, unit: &Unit) -> Result<Judged, JudgeFault>
         None => {
             let mut types = known.types;
             name_identities(unit, &surroundings, &mut types)?;
+            let failures = in_order(alloc, &found)?;
             Ok(Judged {
                 types,
                 facts: known.facts,
-                failures: found,
+                failures,
             })
         }
     }

@@ -9,6 +9,7 @@ use space_rules::{
     ConvertAnswer, Position, access_rule, convert_rule, have_other_targets, mix_spaces,
 };
 use sparse_model::{Restrict, RuleCode, Space, TypeId};
+use std::alloc::AllocError;
 use std::process::Abort;
 use std::test::Fail;
 use vocabulary::Operator;
@@ -42,17 +43,22 @@ fn assert_flagged(rt: &impl Abort, types: &Types, place: TypeId) {
     assert!(rt; access_rule(types, place) == Some(RuleCode::A4));
 }
 
+fn assert_conversions(rt: &impl Abort, types: &mut Types) -> Result<(), AllocError> {
+    let int = int_in(types, Space::None)?;
+    let far = int_in(types, Space::Number(1))?;
+    let to_int = pointer_to(rt, types, int)?;
+    let to_far = pointer_to(rt, types, far)?;
+    let to_pointer = pointer_to(rt, types, to_int)?;
+    assert_mixed(rt, types, to_far, to_int);
+    assert_other_targets(rt, types, to_pointer, to_int);
+    assert_flagged(rt, types, far);
+    Ok(())
+}
+
 #[test]
 fn a_pointer_loses_its_space(rt: HostRuntime) -> Result<(), Fail> {
     let mut types = Types::new(rt.alloc())?;
-    let int = int_in(&mut types, Space::None)?;
-    let far = int_in(&mut types, Space::Number(1))?;
-    let to_int = pointer_to(&rt, &mut types, int)?;
-    let to_far = pointer_to(&rt, &mut types, far)?;
-    let to_pointer = pointer_to(&rt, &mut types, to_int)?;
-    assert_mixed(&rt, &types, to_far, to_int);
-    assert_other_targets(&rt, &types, to_pointer, to_int);
-    assert_flagged(&rt, &types, far);
+    assert_conversions(&rt, &mut types)?;
     Ok(())
 }
 
@@ -70,11 +76,16 @@ fn assert_answers(rt: &impl Abort, types: &Types, of: TypeId, other: TypeId) {
     assert!(rt; joined.restrict == Some(Restrict(4)) && joined.fouled);
 }
 
+fn assert_operators(rt: &impl Abort, types: &mut Types) -> Result<(), AllocError> {
+    let int = int_in(types, Space::None)?;
+    let le16 = restricted(types, Restrict(4))?;
+    assert_answers(rt, types, le16, int);
+    Ok(())
+}
+
 #[test]
 fn a_fouled_operand_meets_an_int(rt: HostRuntime) -> Result<(), Fail> {
     let mut types = Types::new(rt.alloc())?;
-    let int = int_in(&mut types, Space::None)?;
-    let le16 = restricted(&mut types, Restrict(4))?;
-    assert_answers(&rt, &types, le16, int);
+    assert_operators(&rt, &mut types)?;
     Ok(())
 }

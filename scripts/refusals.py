@@ -7,6 +7,7 @@
 - one arm of `?:` alone may be void there, and the whole is void then (6.5.15 p3 forbids it);
 - arms of `?:` to other targets give `void *` there, and an integer beside a pointer gives the pointer's type, not the second
   operand's;
+- a `_Bool` that becomes a pointer is an error there, and as any integer a warning here (A2);
 - `i += p` and `p -= q` become integers and pointers there (6.5.16.2 p1 forbids both);
 - no element of a function is selected there, as `none[1]`, while a sum of it and a number is accepted;
 - a `return` with a value in a function of type void, and one without a value elsewhere, are warnings there (6.8.6.4 p1 forbids both);
@@ -32,6 +33,11 @@ RETURNS = (23, 24)
 
 class Differing(Expressions):
     """The rows of expressions, as gcc refuses them."""
+
+    def converts(self, value, to, token, word, part=0):
+        if to.form == "pointer" and value.type.is_plain("Bool"):
+            self.found.breaks(4, token)
+        super().converts(value, to, token, word, part)
 
     def difference(self, node, left, right):
         if not left.is_pointer() or not pairs.can_be_subtracted(left, right):

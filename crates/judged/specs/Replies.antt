@@ -4,7 +4,8 @@ use Rattle.vocabulary.specs.declared.class.Class.{Class}
 use Rattle.vocabulary.specs.declared.limit.LimitKind.TheVariants.{ObjectSize}
 use Rattle.meaning_tree.specs.Nodes.{NodeList}
 use Rattle.meaning_typing.specs.Units.{UnitNodes}
-use Rattle.meaning_warnings.specs.Listing.{IsUnitText}
+use Rattle.meaning_operands.specs.Failures.{Failure}
+use Rattle.meaning_warnings.specs.Listing.{unit_lines}
 use Rattle.meaning_warnings.specs.Places.{ShownUnit, begins_at}
 use Rattle.meaning_answer.specs.Answers.{TellsRefusal}
 use Rattle.meaning_answer.specs.Lines.{error_reply, limit_reply}
@@ -61,9 +62,13 @@ abbrev pub ending_behind : (err : List ℕ) → Ending
 ending_behind [] = Clean
 ending_behind (b ∷ bs) = Warned
 
--- the warnings of the failures that were found, whose classes are on
-pub record WarnsOfFailures (names : List (List ℕ)) (toks : UnitTokens) (classes : List Class) (judged : Judged) (reply : Reply) : Type 0 where
-  pub warnings : IsUnitText (shown_over names toks judged.types) classes (map (failure_seen names judged.types) judged.failures) reply.err
+-- the failures of its listing, as they are shown
+abbrev pub listing_shown : List (List ℕ) → Judged → List Failure
+listing_shown names judged = map (failure_seen names judged.types) judged.failures
+
+-- the warnings of its listing, of those whose classes are on
+pub record WarnsOfListing (names : List (List ℕ)) (toks : UnitTokens) (classes : List Class) (judged : Judged) (reply : Reply) : Type 0 where
+  pub warnings : reply.err ≡ unit_lines (shown_over names toks judged.types) classes (listing_shown names judged)
   pub alone : reply.out ≡ []
   pub ending : reply.ending ≡ ending_behind reply.err
 
@@ -72,7 +77,7 @@ pub record WarnsOfFailures (names : List (List ℕ)) (toks : UnitTokens) (classe
 -- what the judge answers of these nodes is told
 abbrev pub TellsJudgement : List (List ℕ) → UnitTokens → List Class → UnitNodes → Reply → Type 0
 TellsJudgement names toks classes nodes reply =
-    ((judged : Judged) × IsJudgedSo nodes judged × WarnsOfFailures names toks classes judged reply)
+    ((judged : Judged) × IsJudgedSo nodes judged × WarnsOfListing names toks classes judged reply)
     ⊎ ((fault : JudgeFault) × IsRefusedFor nodes fault × TellsJudgeFault names toks fault reply)
 
 -- of the nodes of the tree that the tokens derive

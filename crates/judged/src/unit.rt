@@ -5,7 +5,8 @@ ghost use Rattle.decl_judge.specs.Units.{nodes_of};
 ghost use Rattle.meaning_tree.specs.Laid.{IsLaid};
 ghost use Rattle.ksparse.specs.Ending.{ending_seen};
 ghost use Rattle.ksparse.specs.Written.{reply_seen};
-ghost use Rattle.judged.specs.Replies.{IsJudgedReply, WarnsOfFailures, TellsJudgeFault, TellsJudgement, constraint_reply, ending_behind};
+ghost use Rattle.meaning_warnings.specs.Listing.{AreOrdered};
+ghost use Rattle.judged.specs.Replies.{IsJudgedReply, WarnsOfListing, TellsJudgeFault, TellsJudgement, constraint_reply, ending_behind, listing_shown};
 
 use crate::places::{path_id, place_of};
 use c_parse::parse;
@@ -61,7 +62,8 @@ fn warn(
     classes: &ClassSet,
     judged: &Judged,
 ) -> Result<Written, AllocError>
-    ensures { IfOk result (λ written. WarnsOfFailures names.now toks.now classes.now judged.now (reply_seen written)) }
+    requires listing { AreOrdered (listing_shown names.now judged.now) }
+    ensures { IfOk result (λ written. WarnsOfListing names.now toks.now classes.now judged.now (reply_seen written)) }
 {
     let show = Show {
         names,

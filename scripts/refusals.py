@@ -12,7 +12,8 @@
 - no element of a function is selected there, as `none[1]`, while a sum of it and a number is accepted;
 - a `return` with a value in a function of type void, and one without a value elsewhere, are warnings there (6.8.6.4 p1 forbids both);
 - a const parameter isn't stored to there, since only calls leave its const out;
-- a name that is declared again with other qualifiers, or another type, is an error there, and a warning here (A7).
+- a name that is declared again with other qualifiers, or another type, is an error there, and a warning here (A7);
+- a statement expression outside every function is an error there.
 
 The decay of a register's array, which gcc refuses unless it is selected from, isn't made; nor are `()` as `(void)` and marks, which
 gcc doesn't know.

@@ -372,10 +372,8 @@ class Expressions:
         return Fact(INT)
 
     def comma(self, node, is_evaluated):
-        left, right = (self.value(part, is_evaluated) for _, part in node.parts)
-        if left is None or right is None:
-            return None
-        return Fact(right.type, fouled=right.fouled)
+        _, right = [self.value(part, is_evaluated) for _, part in node.parts]
+        return None if right is None else Fact(right.type, fouled=right.fouled)
 
     def conditional(self, node, is_evaluated):
         condition, *parts = [part for _, part in node.parts]

@@ -35,6 +35,11 @@ RETURNS = (23, 24)
 class Differing(Expressions):
     """The rows of expressions, as gcc refuses them."""
 
+    def statement_expression(self, node, is_evaluated):
+        if not self.judge.is_in_function:
+            self.found.breaks(4, node.at)
+        return super().statement_expression(node, is_evaluated)
+
     def converts(self, value, to, token, word, part=0):
         if to.form == "pointer" and value.type.is_plain("Bool"):
             self.found.breaks(4, token)

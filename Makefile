@@ -10,7 +10,7 @@ FLOWS := build/flows
 # Names with spaces, which a program's own run reads, are none for make.
 SOURCES := $(shell find crates crates.txt HANDLES -name out -prune -o -type f ! -name '* *' -print)
 
-.PHONY: all run test edits believe names docs costs bench fuzz rows forms compare headers smoke install clean kit
+.PHONY: all run test edits believe names docs costs bench bench-parsing fuzz rows forms compare headers smoke install clean kit
 
 all: $(PROGRAM)
 
@@ -82,6 +82,10 @@ costs: | kit
 # All, or the calls of some families: make bench FAMILIES=macros
 bench: $(PROGRAM) $(WORKBENCH) $(FLOWS) build/judged
 	$(PYTHON) scripts/bench.py $(PROGRAM) $(WORKBENCH) $(FLOWS) build/judged $(FAMILIES)
+
+# The families of parsing at four sizes, as rows of a table.
+bench-parsing: $(PROGRAM)
+	$(PYTHON) scripts/bench_parsing.py $(PROGRAM)
 
 fuzz: $(PROGRAM) $(WORKBENCH) $(FLOWS) build/trees build/judged
 	$(PYTHON) scripts/fuzz.py $(PROGRAM) $(WORKBENCH) $(FLOWS) build/trees build/judged

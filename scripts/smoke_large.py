@@ -1,5 +1,6 @@
 #!/usr/bin/env python3
-"""Runs `flows`, `workbench`, `ksparse` and `judged` over large and deep texts, with ample memory, and compares their answers with those by hand.
+"""Runs `flows`, `workbench`, `ksparse` and `judged` over large and deep texts, with ample memory, and `flows` over lines that are none,
+and compares their answers with those by hand.
 
 usage: smoke_large.py FLOWS WORKBENCH KSPARSE JUDGED
 """
@@ -21,6 +22,24 @@ FLOWS = (
     ("a row of blocks that each may go back to the first", back_to_first(LONG), "Balanced"),
     ("a block whose successors each acquire and meet at one end", cases(WIDE, 0), f"WrongExit({WIDE + 1}, 1)"),
     ("the same, left with one held", cases(WIDE, 1), "Balanced"),
+)
+
+# Lines that aren't in the notation, or whose flow isn't what a walk asks for: the column, and what is told of it.
+NOT_A_FLOW = (
+    ("", 1, "a step or `-` is expected"),
+    ("X ; 0, 0", 1, "a step or `-` is expected"),
+    ("Px E9 ; 0, 0", 2, "a number is expected"),
+    ("P99999999999 E9 ; 0, 0", 2, "the number is too large"),
+    ("P9 E9 ; 0, 9223372036854775808", 12, "the number is too large"),
+    ("P3 C4E ; 0, 0", 6, "`(` is expected"),
+    ("P3 C4(0;1) ; 0, 0", 8, "`,` is expected"),
+    ("P9 E9 ; 0 0", 11, "`,` is expected"),
+    ("P3 C4(0,1; ; 0, 0", 10, "`)` is expected"),
+    ("P9 E9 ; 0, 0 x", 14, "the end of the line is expected"),
+    ("P9 E9", 6, "`>`, `|` or `;` is expected"),
+    ("E9 ; 0, 0", 1, "the block has steps and doesn't begin with a point"),
+    ("P9 > 7 ; 0, 0", 1, "the block has a successor that is no block"),
+    ("P3 A3+9223372036854775807 P4 A4+1 ; 0, 0", 1, "the numbers sum up to 2^63 or more"),
 )
 
 # Lists of tokens behind `#if`.
@@ -188,8 +207,13 @@ def differs(name, command, path, text, expected):
 
 
 def flows_differ(flows):
-    """How many flows are answered otherwise."""
-    return sum(differs(name, [flows, "t.txt"], "t.txt", flow.decode(), (answer + "\n", "", 0)) for name, flow, answer in FLOWS)
+    """How many flows are answered otherwise, and how many lines that are none."""
+    command = [flows, "t.txt"]
+    failures = sum(differs(name, command, "t.txt", flow.decode(), (answer + "\n", "", 0)) for name, flow, answer in FLOWS)
+    for line, column, told in NOT_A_FLOW:
+        # the lines before are answered
+        failures += differs(line, command, "t.txt", f"P9 E9 ; 0, 0\n{line}\n", ("Balanced\n", f"t.txt:2:{column}: {told}\n", 2))
+    return failures
 
 
 def workbench_differs(workbench):

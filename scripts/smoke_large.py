@@ -85,7 +85,7 @@ NOT_BUILT = ("t.c:1:1: error[29]: form not built\n", 2)
 
 # A unit of 499,996 statements of four tokens each: what stands between its first object and its function, which have four and seven
 # more, what stands behind the statements, and the answer. The limit goes before a rule that fails and before a syntax error.
-STATEMENTS = 499_996
+UNIT_STATEMENTS = 499_996
 TOO_MANY = ("ksparse: limit: unit tokens\n", 7)
 UNITS = (
     ("2,000,000 tokens", "extern int *p;", "}", ("", 0)),
@@ -237,7 +237,7 @@ def checks_differ(ksparse):
     for before, part, count, behind in READ_CHAINS:
         failures += check_differs(f"{count} of {part}", before + part * count + behind, NOT_BUILT)
     for name, objects, end, answer in UNITS:
-        failures += check_differs(name, f"extern int a;{objects}void f(void){{" + "a=a;" * STATEMENTS + end, answer)
+        failures += check_differs(name, f"extern int a;{objects}void f(void){{" + "a=a;" * UNIT_STATEMENTS + end, answer)
     return failures
 
 

@@ -20,7 +20,7 @@ use crate::functions::{
     append_declarator, await_body, begin_declarators, close_parameters, note_function_declarator,
     open_body,
 };
-use crate::names::{put_no_tag, use_typedef_name};
+use crate::names::{use_typedef_name, without_tag};
 use crate::nodes::make_node;
 use crate::specifiers::{
     make_block_specifiers, make_file_specifiers, make_member_specifiers, make_parameter_specifiers,
@@ -41,6 +41,9 @@ pub fn act(state: &mut ParseState<'_>, action: Action) -> Result<(), ActionFault
     match action {
         Action::BeginDeclarators => begin_declarators(state),
         Action::AppendDeclarator => append_declarator(state),
+        Action::AppendLeadingAttributes => append_leading_attributes(state),
+        Action::BindDeclarator => bind_declarator(state, 1),
+        Action::BindFurtherDeclarator => bind_declarator(state, 2),
         Action::NoteFunctionDeclarator => {
             note_function_declarator(state);
             Ok(())
@@ -49,17 +52,11 @@ pub fn act(state: &mut ParseState<'_>, action: Action) -> Result<(), ActionFault
             await_body(state);
             Ok(())
         }
-        Action::BindDeclarator => bind_declarator(state, 1),
-        Action::BindFurtherDeclarator => bind_declarator(state, 2),
-        Action::BindEnumerator => bind_enumerator(state),
-        Action::BindParameter => bind_parameter(state),
         Action::MakeFileSpecifiers => make_file_specifiers(state),
         Action::MakeBlockSpecifiers => make_block_specifiers(state),
         Action::MakeMemberSpecifiers => make_member_specifiers(state),
         Action::MakeParameterSpecifiers => make_parameter_specifiers(state),
         Action::MakeTypeNameSpecifiers => make_type_name_specifiers(state),
-        Action::CloseParameters => close_parameters(state),
-        Action::OpenBody => open_body(state),
         Action::RequireType => {
             require_type(state);
             Ok(())
@@ -70,18 +67,21 @@ pub fn act(state: &mut ParseState<'_>, action: Action) -> Result<(), ActionFault
         }
         Action::DeclareTag => declare_tag(state),
         Action::UseTypedefName => use_typedef_name(state),
-        Action::WithoutTag => put_no_tag(state),
         Action::DefineTag => define_tag(state),
         Action::UseTag => use_tag(state),
+        Action::WithoutTag => without_tag(state),
+        Action::BindEnumerator => bind_enumerator(state),
         Action::MakeAttributeList => make_attribute_list(state),
         Action::AppendAttribute => append_attribute(state),
-        Action::AppendLeadingAttributes => append_leading_attributes(state),
-        Action::MakeParenthesizedAttributes => make_parenthesized_attributes(state),
         Action::JoinParts => join_parts(state),
         Action::JoinAnyParts => join_any_parts(state),
         Action::JoinSuffixes => join_suffixes(state),
+        Action::MakeParenthesizedAttributes => make_parenthesized_attributes(state),
         Action::MakeOptionalDeclarator => make_optional_declarator(state),
         Action::MakeTypeName => make_type_name(state),
+        Action::BindParameter => bind_parameter(state),
+        Action::CloseParameters => close_parameters(state),
+        Action::OpenBody => open_body(state),
         _ => make_node(state, action),
     }
 }

@@ -34,7 +34,7 @@ pub fn use_typedef_name(state: &mut ParseState<'_>) -> Result<(), ActionFault>
 }
 
 /// No tag, and the keyword of the specifier itself.
-pub fn put_no_tag(state: &mut ParseState<'_>) -> Result<(), ActionFault>
+pub fn without_tag(state: &mut ParseState<'_>) -> Result<(), ActionFault>
     ensures goes { OnOk result (act WithoutTag (state_of state.old) ≡ Goes (state_of state.new)) }
     ensures told { IfErr result (IsToldBy (act WithoutTag (state_of state.old))) }
     ensures names { state.new.names ≡ state.old.names }

@@ -9,9 +9,9 @@ ghost use Rattle.parse_state.specs.Groups.{is_expression_action as is_of_express
 ghost use Rattle.parse_state.specs.Seen.{state_of};
 ghost use Rattle.parse_state.specs.Steps.{IsToldBy};
 
-use crate::contexts::make_context;
+use crate::contexts::make_context_statement;
 use crate::lists::{append, begin_at_next, begin_list, count_parameter, open_scope};
-use crate::literals::{make_character, make_integer, make_string};
+use crate::literals::{make_character_constant, make_integer_constant, make_string_literal};
 use crate::names::{make_for_part, use_name};
 use crate::nodes::make_node;
 use parse_state::{ActionFault, ParseState};
@@ -79,11 +79,11 @@ pub fn act(state: &mut ParseState<'_>, action: Action) -> Result<(), ActionFault
             Ok(())
         }
         Action::UseName => use_name(state),
-        Action::MakeIntegerConstant => make_integer(state),
-        Action::MakeCharacterConstant => make_character(state),
+        Action::MakeIntegerConstant => make_integer_constant(state),
+        Action::MakeCharacterConstant => make_character_constant(state),
         Action::MakeForPart => make_for_part(state),
-        Action::MakeContextStatement => make_context(state),
-        Action::MakeStringLiteral => make_string(state),
+        Action::MakeContextStatement => make_context_statement(state),
+        Action::MakeStringLiteral => make_string_literal(state),
         _ => make_node(state, action),
     }
 }

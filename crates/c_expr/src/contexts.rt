@@ -16,7 +16,7 @@ use vocabulary::{ErrorKind, LimitKind, NodeKind};
 
 /// A context statement, whose number is its change modulo 2^64. What is none is told at its word, and so is a change beyond
 /// the limit of a step.
-pub fn make_context(state: &mut ParseState<'_>) -> Result<(), ActionFault>
+pub fn make_context_statement(state: &mut ParseState<'_>) -> Result<(), ActionFault>
     requires finds { IsSome (effect (Do MakeContextStatement) (sorts_of (state_of state.old).values)) }
     ensures goes { OnOk result (act MakeContextStatement (state_of state.old) ≡ Goes (state_of state.new)) }
     ensures told { IfErr result (IsToldBy (act MakeContextStatement (state_of state.old))) }

@@ -20,7 +20,7 @@ use sparse_model::IntConst;
 use vocabulary::NodeKind;
 
 /// An integer constant.
-pub fn make_integer(state: &mut ParseState<'_>) -> Result<(), ActionFault>
+pub fn make_integer_constant(state: &mut ParseState<'_>) -> Result<(), ActionFault>
     requires finds { IsSome (effect (Do MakeIntegerConstant) (sorts_of (state_of state.old).values)) }
     ensures goes { OnOk result (act MakeIntegerConstant (state_of state.old) ≡ Goes (state_of state.new)) }
     ensures told { IfErr result (IsToldBy (act MakeIntegerConstant (state_of state.old))) }
@@ -39,7 +39,7 @@ pub fn make_integer(state: &mut ParseState<'_>) -> Result<(), ActionFault>
 }
 
 /// A character constant.
-pub fn make_character(state: &mut ParseState<'_>) -> Result<(), ActionFault>
+pub fn make_character_constant(state: &mut ParseState<'_>) -> Result<(), ActionFault>
     requires finds { IsSome (effect (Do MakeCharacterConstant) (sorts_of (state_of state.old).values)) }
     ensures goes { OnOk result (act MakeCharacterConstant (state_of state.old) ≡ Goes (state_of state.new)) }
     ensures told { IfErr result (IsToldBy (act MakeCharacterConstant (state_of state.old))) }
@@ -59,7 +59,7 @@ pub fn make_character(state: &mut ParseState<'_>) -> Result<(), ActionFault>
 
 /// A string literal of the pieces that stand beside each other, whose number is how many elements its array has: their bytes
 /// and the zero behind them (6.4.5 p6). The first piece without a value is told. An array of 2^64 elements is want of memory.
-pub fn make_string(state: &mut ParseState<'_>) -> Result<(), ActionFault>
+pub fn make_string_literal(state: &mut ParseState<'_>) -> Result<(), ActionFault>
     requires finds { IsSome (effect (Do MakeStringLiteral) (sorts_of (state_of state.old).values)) }
     ensures goes { OnOk result (act MakeStringLiteral (state_of state.old) ≡ Goes (state_of state.new)) }
     ensures told { IfErr result (IsToldBy (act MakeStringLiteral (state_of state.old))) }

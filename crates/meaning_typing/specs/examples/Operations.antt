@@ -13,7 +13,7 @@ use Rattle.meaning_typing.specs.Building.{surroundings_of, facts_of}
 use Rattle.meaning_typing.specs.Operators.{integer}
 use Rattle.vocabulary.specs.declared.int_kind.IntKind.TheVariants as integers
 use Rattle.meaning_typing.specs.Units.{UnitNodes}
-use Rattle.meaning_typing.specs.examples.Drawn.{declaration, declarator, in_body, int, leaf, number, over, parenthesized, star, statement, type_over, u, i, user_int}
+use Rattle.meaning_typing.specs.examples.Drawn.{declaration, declarator, in_body, int, leaf, number, over, p, parenthesized, star, statement, type_over, u, i, user_int}
 use Rattle.meaning_typing.specs.examples.Rows.{access, body_handles, breaking, failing}
 use Rattle.meaning_typing.specs.examples.Typing.{fact_in, types_at}
 
@@ -78,6 +78,8 @@ pub record OperationExamples : Type 0 where
   -- `typeof(*u) k;` loads nothing, and k is declared as the place is
   pub designated : failing_in typed_like ≡ []
   pub declared_so : types_at typed_like (47 ∷ []) ≡ Some user_int ∷ []
+  -- `p, i` gives an int, the value of its right operand
+  pub last : types_at (in_body (statement (over kinds.Comma 34 (p 33 ∷ i 35 ∷ [])) ∷ [])) (45 ∷ []) ≡ Some int ∷ []
   -- `1 + 2 == 3` and `(int) i` give an int, `sizeof i` an unsigned long
   pub given : types_at (in_body (statement (over kinds.Equal 36 (over kinds.Addition 34 (number 33 1 ∷ number 35 2 ∷ []) ∷ number 37 3 ∷ [])) ∷ [])) (47 ∷ []) ≡ Some int ∷ []
   pub cast_to : types_at (in_body (statement cast ∷ [])) (47 ∷ []) ≡ Some int ∷ []

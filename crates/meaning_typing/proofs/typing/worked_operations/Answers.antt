@@ -15,6 +15,7 @@ returns c = record {
   value_of_body = refl;
   designated = refl;
   declared_so = refl;
+  last = refl;
   given = refl;
   cast_to = refl;
   size_given = refl;

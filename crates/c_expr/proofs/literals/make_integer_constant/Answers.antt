@@ -7,7 +7,7 @@ use Rattle.parse_state.specs.Seen.{state_of}
 use Rattle.parse_state.specs.Steps.{IsToldBy}
 use Rattle.parse_state.proofs.HandedOn.{passed_on}
 use Rattle.c_expr.proofs.Told.{constant_told}
-use Rattle.c_expr.proofs.literals.make_integer.Goals as goal
+use Rattle.c_expr.proofs.literals.make_integer_constant.Goals as goal
 
 pub returns-in_err-constant-clause-told : goal.returns-in_err-constant-clause-told
 returns-in_err-constant-clause-told c =

@@ -62,7 +62,7 @@ pub enum Action {
     AwaitBody,
 
     // Specifiers
-    /// `Specifiers` of a declaration at file scope; a bad set of words is refused at the next token (word, list; tree).
+    /// `Specifiers` of a declaration at file scope; a bad set of words is held till the next token is taken (word, list; tree).
     MakeFileSpecifiers,
     /// Of a declaration in a body or a `for` (word, list; tree).
     MakeBlockSpecifiers,
@@ -72,9 +72,9 @@ pub enum Action {
     MakeParameterSpecifiers,
     /// Of a type name (word, list; tree).
     MakeTypeNameSpecifiers,
-    /// Specifiers that name no type are refused at the next token (tree; the same).
+    /// Specifiers that name no type are held till the next token is taken (tree; the same).
     RequireType,
-    /// Specifiers that name no type are refused at the next token, unless they are attributes alone (tree; the same).
+    /// Specifiers that name no type are held till the next token is taken, unless they are attributes alone (tree; the same).
     RequireTypeOrAttributes,
     /// Binds the tag of a declaration that is nothing but `struct` or `union` and a tag in the innermost scope (tree; the same).
     DeclareTag,
@@ -135,8 +135,8 @@ pub enum Action {
     OpenScope,
     /// Closes the innermost scope.
     CloseScope,
-    /// Opens the scope of a body: that of the parameters again where a function's declarator awaits it, or refuses a declarator
-    /// that is no function's (word; the same).
+    /// Opens the scope of a body: that of the parameters again where a function's declarator awaits it, or else one without
+    /// names (word; the same).
     OpenBody,
 
     // Initializers and statements

@@ -355,7 +355,7 @@ JUDGING = (
     *(of_judging(f"operands of {it.decode()}", b"void f(int a) { ", b"a %b " % it, b"a", b"", b"; }", CHAINS) for it in BINARY + COMPOUND),
     *(of_judging(f"operands behind {it.decode()}", b"void f(int a) { ", it + b" ", b"a", b"", b"; }", CHAINS) for it in (b"+", b"-", b"~", b"!", b"sizeof")),
     *(of_judging(f"operands before {it.decode()}", b"void f(int a) { ", b"a%b, " % it, b"a", b"", b"; }", CHAINS) for it in (b"++", b"--")),
-    of_judging("a sum of constants", b"void f(void) { ", b"1 + ", b"1", b"", b"; }", CHAINS, MOST_NAMES_RATIO),
+    of_judging("a sum of constants", b"void f(void) { ", b"1 + ", b"1", b"", b"; }", CHAINS),
     of_judging("commas", b"void f(int a) { ", b"a, ", b"a", b"", b"; }", CHAINS),
     of_judging("casts", b"void f(int a) { ", b"(long)", b"a", b"", b"; }", CHAINS),
     of_judging("casts of constants", b"void f(void) { ", b"(int)", b"1", b"", b"; }", CHAINS),

@@ -60,6 +60,7 @@ WIDE_UNITS = [
 ]
 
 MOST_BYTES = 8388608
+MOST_TOKENS = 2000000
 
 FILES = {
     "t.c": WARNED,
@@ -87,6 +88,11 @@ FILES = {
     "self.c": '#include "self.c"\n',
     "no_header.c": '#include "no.h"\n',
     "folder_as_header.c": "#include <folder>\n",
+    "xy.c": "X Y\n",
+    "line.c": "__LINE__\n",
+    "angles.c": "extern int *p;\n#include <k.h>\nvoid f(void) { SET(p, u); }\n",
+    "most_tokens.c": "; " * MOST_TOKENS,
+    "too_many_tokens.c": "; " * (MOST_TOKENS + 1),
 }
 
 # Names of other files, and what each leads to.
@@ -150,6 +156,8 @@ USES = [
     (["longest.c"], "", 0),
     (["too_long.c"], "ksparse: limit: file size\n", 7),
     (["/dev/zero"], "ksparse: limit: file size\n", 7),
+    (["most_tokens.c"], "most_tokens.c:1:1: error[29]: form not built\n", 2),
+    (["too_many_tokens.c"], "ksparse: limit: unit tokens\n", 7),
 ]
 
 K_WARNINGS = WARNINGS.format("k.c").replace("3:18", "3:16")
@@ -175,6 +183,11 @@ TYPED = [
     ("ksparse -E '-DX=(a) b' x.c", "( a ) b\n", "", 0),
     ("ksparse -E -DX='\"a  b\"' x.c", '"a  b"\n', "", 0),
     ("ksparse -E -DX= x.c", "", "", 0),
+    ("ksparse -E -DX=a\\\\ -DY=1 xy.c", "a # define Y 1 Y\n", "", 0),
+    ("ksparse -E -DX=Y -DY=X x.c", "X\n", "", 0),
+    ("ksparse -E -D__LINE__=7 line.c", "7\n", "", 0),
+    ("ksparse clean.c -E -E", "extern int x ;\n", "", 0),
+    ("ksparse -Iinclude angles.c", "", WARNINGS.format("angles.c").replace("3:18", "3:16"), 1),
     ("ksparse -E -DX -DX=2 x.c", "", "<command>:2:1: error[10]: macro 'X' redefined\n", 2),
     ("ksparse -E -DX -DY=\\' x.c", "", "<command>:2:11: error[4]: unterminated literal\n", 2),
     ("ksparse -E -Ddefined x.c", "", "<command>:1:1: error[11]: bad macro definition\n", 2),
@@ -191,6 +204,16 @@ TYPED = [
     ("ksparse -Wno-address-space -Waddress-space t.c", "", WARNINGS.format("t.c"), 1),
     ("ksparse -Wall t.c", "", "ksparse: bad word: -Wall\n", 3),
     ("ksparse -EE t.c", "", "ksparse: bad word: -EE\n", 3),
+    ("ksparse -D1 t.c", "", "ksparse: bad word: -D1\n", 3),
+    ("ksparse -D=1 t.c", "", "ksparse: bad word: -D=1\n", 3),
+    ("ksparse -U t.c", "", "ksparse: bad word: -U\n", 3),
+    ("ksparse -UX=1 t.c", "", "ksparse: bad word: -UX=1\n", 3),
+    ("ksparse -Wfoo t.c", "", "ksparse: bad word: -Wfoo\n", 3),
+    ("ksparse -Wno- t.c", "", "ksparse: bad word: -Wno-\n", 3),
+    ("ksparse -include a.h t.c", "", "ksparse: bad word: -include\n", 3),
+    ("ksparse t.c u.c -q", "", "ksparse: bad word: u.c\n", 3),
+    ("ksparse eval -DX t.c", "", "ksparse: bad word: eval\n", 3),
+    ("ksparse -DX -UY", "", "ksparse: missing file\n", 3),
     ("ksparse -D 1 t.c", "", "ksparse: bad word: -D\n", 3),
     ("ksparse -Df(x)=x t.c".replace("(x)", r"\(x\)"), "", "ksparse: bad word: -Df(x)=x\n", 3),
     ("ksparse $'-DX=a\\nb' t.c", "", "ksparse: bad word: -DX=a\nb\n", 3),

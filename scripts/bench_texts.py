@@ -293,7 +293,7 @@ def headers_of_spaces(count):
 
 def guarded_header(times):
     """A header with a guard and 1,000 declarations, included so many times."""
-    lines = b"".join(b"extern int n%04d;\n" % number for number in range(1000))
+    lines = b"".join(b"extern int n%03d;\n" % number for number in range(1000))
     return {b"t.c": including([b"g.h"] * times), b"g.h": b"#ifndef G\n#define G\n" + lines + b"#endif\n"}
 
 

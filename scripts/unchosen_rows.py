@@ -4,7 +4,7 @@
 usage: unchosen_rows.py
 
 Each file is preprocessed and read by `reference`, so a row counts that the grammar alone chooses, whatever the program does. Files
-with an error of preprocessing choose none, nor do those that take more than a second here. Exits 1 where a row is left.
+with an error of preprocessing choose none, nor do those that take more than a second of the processor here. Exits 1 where a row is left.
 """
 import glob
 import os
@@ -34,7 +34,7 @@ def commands():
 
 
 class TooLong(Exception):
-    """A command takes more than a second."""
+    """A command takes more than a second of the processor."""
 
 
 def stop(*_):
@@ -43,7 +43,7 @@ def stop(*_):
 
 def rows_of(words, files):
     """The rows that the unit of a command chooses."""
-    signal.setitimer(signal.ITIMER_REAL, 1)
+    signal.setitimer(signal.ITIMER_VIRTUAL, 1)
     try:
         command = Command(words)
         unit = Unit(files, command.directories, command.lines)
@@ -52,11 +52,11 @@ def rows_of(words, files):
     except (BadWord, Refusal, NoSuchFile, Passed, TooLong):
         return set()
     finally:
-        signal.setitimer(signal.ITIMER_REAL, 0)
+        signal.setitimer(signal.ITIMER_VIRTUAL, 0)
 
 
 def main():
-    signal.signal(signal.SIGALRM, stop)
+    signal.signal(signal.SIGVTALRM, stop)
     chosen = set()
     for words, files in commands():
         chosen |= rows_of(words, files)

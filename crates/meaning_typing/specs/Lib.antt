@@ -15,6 +15,10 @@ pub mod Casts
 pub mod Changes
 pub mod Statements
 pub mod Offsets
+pub mod Aggregates
+pub mod Members
+pub mod Wholes
+pub mod OffsetRows
 pub mod Typing
 pub mod Evaluation
 pub mod Building

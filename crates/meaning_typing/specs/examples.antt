@@ -7,3 +7,6 @@ pub mod Operations
 pub mod Values
 pub mod Operators
 pub mod Offsets
+pub mod Told
+pub mod Members
+pub mod OffsetRows

@@ -8,5 +8,6 @@ mod typing;
 
 pub use typing::{
     each_unit_has_one_list_of_facts, each_unit_has_one_list_of_surroundings, equality_is_decided,
-    words_stand_in_any_order, worked_enumerations, worked_examples, worked_operators, worked_rows,
+    words_stand_in_any_order, worked_enumerations, worked_examples, worked_members,
+    worked_operators, worked_rows,
 };

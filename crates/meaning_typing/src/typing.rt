@@ -1,5 +1,7 @@
 // What is proved of typing, and examples.
 ghost use Rattle.meaning_typing.specs.examples.Enumerations.{EnumerationExamples};
+ghost use Rattle.meaning_typing.specs.examples.Members.{MemberAccesses, MemberConstraints, MemberTypes, WholeConstraints};
+ghost use Rattle.meaning_typing.specs.examples.OffsetRows.{OffsetRowExamples};
 ghost use Rattle.meaning_typing.specs.examples.Offsets.{OffsetExamples};
 ghost use Rattle.meaning_typing.specs.examples.Operators.{AddressExamples, CastFailures, ForceExamples, MeetingFailures, OperandConstraints, RestrictedFailures, TypeExamples};
 ghost use Rattle.meaning_typing.specs.examples.Operations.{OperationExamples};
@@ -65,4 +67,13 @@ pub fn worked_operators()
 /// Statements with operators over a place of another space, of which one can tell by eye what is loaded and what it gives.
 pub fn worked_operations()
     ensures { OperationExamples }
+{}
+
+/// Members of places and values, and whole objects of aggregate type as operands, of which one can tell by eye what they give and break.
+pub fn worked_members()
+    ensures types { MemberTypes }
+    ensures accesses { MemberAccesses }
+    ensures constraints { MemberConstraints }
+    ensures wholes { WholeConstraints }
+    ensures offsets { OffsetRowExamples }
 {}

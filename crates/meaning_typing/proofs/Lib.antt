@@ -3,3 +3,4 @@ pub mod Equality
 pub mod Surroundings
 pub mod Facts
 pub mod Words
+pub mod Members

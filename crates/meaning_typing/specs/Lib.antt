@@ -19,6 +19,13 @@ pub mod Aggregates
 pub mod Members
 pub mod Wholes
 pub mod OffsetRows
+pub mod EnumRows
+pub mod Tags
+pub mod MemberDeclarations
+pub mod MemberRows
+pub mod DeclarationRows
+pub mod ContextSums
+pub mod WholeTyping
 pub mod Typing
 pub mod Evaluation
 pub mod Building

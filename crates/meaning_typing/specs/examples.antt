@@ -10,3 +10,6 @@ pub mod Offsets
 pub mod Told
 pub mod Members
 pub mod OffsetRows
+pub mod EnumRows
+pub mod Declared
+pub mod DeclarationRows

@@ -1,4 +1,7 @@
 // What is proved of typing, and examples.
+ghost use Rattle.meaning_typing.specs.examples.Declared.{BodyExamples, CompleteMemberExamples, MemberListExamples, TagExamples, UseExamples, WidthExamples};
+ghost use Rattle.meaning_typing.specs.examples.DeclarationRows.{CompletenessExamples, DeclarationFailures, PartExamples, SizeExamples};
+ghost use Rattle.meaning_typing.specs.examples.EnumRows.{EnumerationRowExamples, EnumeratorExamples};
 ghost use Rattle.meaning_typing.specs.examples.Enumerations.{EnumerationExamples};
 ghost use Rattle.meaning_typing.specs.examples.Members.{MemberAccesses, MemberConstraints, MemberTypes, WholeConstraints};
 ghost use Rattle.meaning_typing.specs.examples.OffsetRows.{OffsetRowExamples};
@@ -9,6 +12,7 @@ ghost use Rattle.meaning_typing.specs.examples.Rows.{ConstraintExamples, Failure
 ghost use Rattle.meaning_typing.specs.examples.Typing.{FactExamples, SurroundingExamples};
 ghost use Rattle.meaning_typing.specs.laws.Equality.{EqualTypesPass};
 ghost use Rattle.meaning_typing.specs.laws.Facts.{FactsAreFound, FactsAreUnique};
+ghost use Rattle.meaning_typing.specs.laws.Members.{AnonymousMembersAreSteps, ArrowIsDotOfStar};
 ghost use Rattle.meaning_typing.specs.laws.Surroundings.{SurroundingsAreFound, SurroundingsAreUnique};
 ghost use Rattle.meaning_typing.specs.laws.Words.{NeighboursMaySwap};
 
@@ -76,4 +80,34 @@ pub fn worked_members()
     ensures constraints { MemberConstraints }
     ensures wholes { WholeConstraints }
     ensures offsets { OffsetRowExamples }
+{}
+
+/// Enumerators and enumerations of which one can tell by eye their constants, their types and what they break.
+pub fn worked_enumeration_rows()
+    ensures enumerators { EnumeratorExamples }
+    ensures enumerations { EnumerationRowExamples }
+{}
+
+/// Bodies of structures and unions, and tags, of which one can tell by eye what they declare and break.
+pub fn worked_bodies()
+    ensures widths { WidthExamples }
+    ensures complete { CompleteMemberExamples }
+    ensures members { MemberListExamples }
+    ensures layouts { BodyExamples }
+    ensures tags { TagExamples }
+    ensures uses { UseExamples }
+{}
+
+/// Declarators and declarations of which one can tell by eye what they break, and which rules fail at their names.
+pub fn worked_declarations()
+    ensures sizes { SizeExamples }
+    ensures parts { PartExamples }
+    ensures completeness { CompletenessExamples }
+    ensures failures { DeclarationFailures }
+{}
+
+/// `x->a` says what `(*x).a` says, and a member of an anonymous member has the type that it has behind two steps.
+pub fn members_are_selected()
+    ensures arrow { ArrowIsDotOfStar }
+    ensures anonymous { AnonymousMembersAreSteps }
 {}

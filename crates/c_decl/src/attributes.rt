@@ -1,4 +1,5 @@
-// Lists of attributes, and the nodes of what their words mean.
+// Lists of attributes, and the nodes of what their words mean: tokens between parentheses arrive, and nodes leave, or the
+// error of a whole list. What a word means is asked of `c_attrs`; what the attributes are of isn't known here.
 ghost use Rattle.std.specs.Prelude.{◌≡◌, ◌+◌, [], IfErr, IsSome, None, OnOk, Some, drop};
 ghost use Rattle.vocabulary.specs.declared.action.Action.TheVariants.{AppendAttribute, AppendLeadingAttributes, MakeAttributeList, MakeParenthesizedAttributes};
 ghost use Rattle.vocabulary.specs.declared.error_kind.ErrorKind.TheVariants.{BadAttribute};

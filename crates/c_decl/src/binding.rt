@@ -1,4 +1,5 @@
 // Names that are bound where their declarators end (C11 6.2.1 p7), unless their scope has declared them otherwise (6.7 p3).
+// What was read arrives and leaves as it is, but that a scope has the name. Where the name is used isn't known here.
 ghost use Rattle.std.specs.Prelude.{◌≡◌, IfErr, OnOk};
 ghost use Rattle.vocabulary.specs.declared.action.Action.TheVariants.{BindEnumerator, BindParameter};
 ghost use Rattle.meaning_derivation.specs.Values.{value_at};

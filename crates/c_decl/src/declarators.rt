@@ -1,4 +1,5 @@
 // Declarators (C11 6.7.6): their parts stand from the specified type outwards, so lists of them are joined and turned round.
+// Lists of parts arrive, and one list or node leaves. Which type they come to isn't known here.
 ghost use Rattle.std.specs.Prelude.{◌≡◌, ◌||◌, if◌then◌else◌, nat_lt, IfErr, IsSome, OnOk};
 ghost use Rattle.vocabulary.specs.declared.action.Action.TheVariants.{JoinAnyParts, JoinParts, JoinSuffixes, MakeOptionalDeclarator, MakeTypeName};
 ghost use Rattle.vocabulary.specs.declared.production_item.ProductionItem.TheVariants.{Do};

@@ -1,4 +1,5 @@
-// Functions and their bodies (C11 6.9.1), and declarators in a row (6.7).
+// Functions and their bodies (C11 6.9.1), and declarators in a row (6.7). Specifiers and a declarator arrive; a list of
+// declarators leaves, and the scope of a body is open. What stands in the body isn't known here.
 ghost use Rattle.std.specs.Prelude.{◌≡◌, IfErr, IsSome, OnOk};
 ghost use Rattle.vocabulary.specs.declared.action.Action.TheVariants.{AppendDeclarator, AwaitBody, BeginDeclarators, CloseParameters, NoteFunctionDeclarator, OpenBody};
 ghost use Rattle.vocabulary.specs.declared.production_item.ProductionItem.TheVariants.{Do};

@@ -1,4 +1,5 @@
-// Names of types (C11 6.7.8), and specifiers without a tag (6.7.2.1).
+// Names of types (C11 6.7.8), and specifiers without a tag (6.7.2.1). A word arrives, and a node with what declares it leaves,
+// or a value without a name. Which type it is isn't known here.
 ghost use Rattle.std.specs.Prelude.{◌≡◌, IfErr, IsSome, OnOk};
 ghost use Rattle.vocabulary.specs.declared.action.Action.TheVariants.{UseTypedefName, WithoutTag};
 ghost use Rattle.vocabulary.specs.declared.production_item.ProductionItem.TheVariants.{Do};

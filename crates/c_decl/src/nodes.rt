@@ -1,4 +1,5 @@
-// Actions that make one node of what they take, and do nothing else: a row each.
+// Actions that make one node of what they take, and do nothing else: a row each. An action arrives, and the node of its row
+// leaves in the place of its parts. What the parts are isn't known here.
 ghost use Rattle.std.specs.Prelude.{◌≡◌, true, IfErr, IsSome, OnOk};
 ghost use Rattle.vocabulary.specs.declared.production_item.ProductionItem.TheVariants.{Do};
 ghost use Rattle.meaning_grammar.specs.Sorts.{effect};

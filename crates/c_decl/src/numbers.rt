@@ -1,4 +1,5 @@
-// The two numbers of a context.
+// The two numbers of a context: the tokens of its item arrive, and the nodes of two constants leave. What they count isn't
+// known here.
 ghost use Rattle.std.specs.Prelude.{◌≡◌, ◌+◌, IfErr, IfOk, IsSome, OnOk, reverse};
 ghost use Rattle.vocabulary.specs.declared.action.Action.TheVariants.{AppendAttribute};
 ghost use Rattle.vocabulary.specs.declared.production_item.ProductionItem.TheVariants.{Do};

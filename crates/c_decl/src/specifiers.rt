@@ -1,5 +1,5 @@
-// Specifiers in a row (C11 6.7 p1): their node has the number of their storage class. What is wrong with them is told when the
-// token behind them is taken.
+// Specifiers in a row (C11 6.7 p1): their list arrives, and their node leaves, with the number of their storage class. What is
+// wrong with them is told when the token behind them is taken. The declarators behind them aren't known here.
 ghost use Rattle.std.specs.Prelude.{◌≡◌, IfErr, IsSome, OnOk};
 ghost use Rattle.vocabulary.specs.declared.action.Action.TheVariants.{MakeBlockSpecifiers, MakeFileSpecifiers, MakeMemberSpecifiers, MakeParameterSpecifiers, MakeTypeNameSpecifiers, RequireType, RequireTypeOrAttributes};
 ghost use Rattle.vocabulary.specs.declared.production_item.ProductionItem.TheVariants.{Do};

@@ -1,4 +1,5 @@
-// Tags (C11 6.7.2.3), each with the keyword that first names it in its scope.
+// Tags (C11 6.7.2.3), each with the keyword that first names it in its scope: a keyword and a name arrive, and the token of
+// that first keyword leaves. What stands between the braces isn't known here.
 ghost use Rattle.std.specs.Prelude.{◌≡◌, IfErr, OnOk};
 ghost use Rattle.vocabulary.specs.declared.action.Action.TheVariants.{DeclareTag, DefineTag, UseTag};
 ghost use Rattle.vocabulary.specs.declared.scope.NameSpace.TheVariants.{Tags};

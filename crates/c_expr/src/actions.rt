@@ -1,4 +1,5 @@
-// What comes of each action.
+// What comes of each action, in the order of the grammar: an action arrives with what was read so far, which leaves as the
+// action makes it, or else why it is refused. Which row the action stands in isn't known here.
 ghost use Rattle.std.specs.Prelude.{◌≡◌, true, IfErr, IsSome, OnOk};
 ghost use Rattle.vocabulary.specs.declared.production_item.ProductionItem.TheVariants.{Do};
 ghost use Rattle.meaning_grammar.specs.Sorts.{effect};

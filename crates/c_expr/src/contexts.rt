@@ -1,4 +1,5 @@
-// Context statements, each with its change.
+// Context statements, each with its change: the tokens between their parentheses arrive, and a node leaves, or why there is no
+// change. Whose context it is isn't known here.
 ghost use Rattle.std.specs.Prelude.{◌≡◌, IfErr, IsSome, OnOk};
 ghost use Rattle.vocabulary.specs.declared.action.Action.TheVariants.{MakeContextStatement};
 ghost use Rattle.vocabulary.specs.declared.production_item.ProductionItem.TheVariants.{Do};

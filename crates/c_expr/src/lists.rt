@@ -1,4 +1,5 @@
-// Lists that begin and grow, and the scopes of blocks.
+// Lists that begin and grow, and the scopes of blocks. A value arrives, and a list that ends with it leaves. What stands in a
+// list isn't known here.
 ghost use Rattle.std.specs.Prelude.{◌≡◌, IfErr, IsSome, OnOk};
 ghost use Rattle.vocabulary.specs.declared.action.Action.TheVariants.{Append, BeginAtNext, BeginList, CloseScope, CountParameter, OpenScope};
 ghost use Rattle.vocabulary.specs.declared.production_item.ProductionItem.TheVariants.{Do};

@@ -1,4 +1,5 @@
-// The nodes of literals, with the kinds and numbers of their values, or what is told of one without a value (C11 6.4.4, 6.4.5).
+// The nodes of literals, with the kinds and numbers of their values, or what is told of one without a value (C11 6.4.4,
+// 6.4.5). A token arrives, or a row of them. How a value is spelled isn't known here.
 ghost use Rattle.std.specs.Prelude.{◌≡◌, IfErr, IfOk, IsSome, None, Ok, OnOk};
 ghost use Rattle.vocabulary.specs.declared.action.Action.TheVariants.{MakeCharacterConstant, MakeIntegerConstant, MakeStringLiteral};
 ghost use Rattle.vocabulary.specs.declared.production_item.ProductionItem.TheVariants.{Do};

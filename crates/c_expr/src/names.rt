@@ -1,4 +1,5 @@
-// Names in expressions (C11 6.5.1 p2), and the parts of a `for` (6.8.5.3).
+// Names in expressions (C11 6.5.1 p2), and the parts of a `for` (6.8.5.3). A name arrives, and a node with what declares it
+// leaves, or that nothing does. Its type isn't known here.
 ghost use Rattle.std.specs.Prelude.{◌≡◌, IfErr, IsSome, OnOk};
 ghost use Rattle.vocabulary.specs.declared.action.Action.TheVariants.{MakeForPart, UseName};
 ghost use Rattle.vocabulary.specs.declared.production_item.ProductionItem.TheVariants.{Do};

@@ -1,4 +1,5 @@
-// What a symbol of expressions opens to, down to an operand.
+// What a symbol of expressions opens to, down to an operand: a symbol and the classes of the next two tokens arrive, and the
+// items that come in its place leave, or none. What was read isn't known here.
 ghost use Rattle.std.specs.Prelude.{◌≡◌, ◌≤◌, IfNone, IfSome, None, length};
 ghost use Rattle.vocabulary.specs.declared.symbol.Symbol.TheVariants as symbols;
 ghost use Rattle.vocabulary.specs.declared.token_class.TokenClass.{TokenClass};

@@ -1,4 +1,4 @@
-// How tokens of a kind are read.
+// How tokens of a kind are read: a kind arrives, and what decides on the class leaves. No spelling is known here.
 ghost use Rattle.std.specs.Prelude.{◌≡◌, List, ℕ};
 ghost use Rattle.meaning_grammar.specs.Terminals.{reading_of};
 ghost use Rattle.c_terminals.specs.Kinds.{read_by};

@@ -1,4 +1,5 @@
-// Which literals aren't supported. What else is bad in one is asked of its value.
+// Which literals aren't supported: a spelling arrives, and a class leaves, or an error. What else is bad in a literal is asked
+// of its value, which isn't known here.
 ghost use Rattle.std.specs.Prelude.{◌≡◌, IfOk, Some};
 ghost use Rattle.vocabulary.specs.declared.token_class.TokenClass.TheVariants as classes;
 ghost use Rattle.meaning_literals.specs.Integers.{integer_of};

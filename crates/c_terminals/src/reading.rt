@@ -1,4 +1,4 @@
-// What a spelling is to the grammar.
+// What a spelling is to the grammar: a class, or an error. The spelling itself isn't known here.
 ghost use Rattle.std.specs.Prelude.{◌≡◌};
 ghost use Rattle.meaning_grammar.specs.Words.{read_as, refused_as};
 ghost use Rattle.c_terminals.specs.Seen.{reading_seen};

@@ -1,4 +1,5 @@
-// The words that are more than names (C11 6.4.1), with those of GNU C and of the kernel.
+// The words that are more than names (C11 6.4.1), with those of GNU C and of the kernel: data alone, which `spellings.rt`
+// looks through.
 use vocabulary::{ErrorKind, TokenClass};
 
 /// A word, its class, and the error that it is where it isn't supported.

@@ -1,4 +1,5 @@
-// How a spelling is read where it is that of a word.
+// How a spelling is read where it is that of a word: a spelling arrives, and what it is to the grammar leaves, or that it is
+// no word. Where it stands isn't known here.
 ghost use Rattle.std.specs.Prelude.{◌≡◌, ◌∷◌, List, ℕ, map, option_map};
 ghost use Rattle.meaning_grammar.specs.Words.{name_reading, word_reading};
 ghost use Rattle.c_terminals.specs.Groups.{found_in, group_of, words_in};

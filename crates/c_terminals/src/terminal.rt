@@ -1,4 +1,4 @@
-// What the grammar sees of a token.
+// What the grammar sees of a token. Its place and what its name is bound to aren't known here.
 use sparse_model::NameId;
 use vocabulary::{ErrorKind, TokenClass};
 

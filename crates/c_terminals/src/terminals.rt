@@ -1,4 +1,5 @@
-// The terminals of a unit, one behind the other.
+// The terminals of a unit, one behind the other: its tokens arrive, and leave one by one as the grammar sees them. Which row
+// takes them isn't known here.
 ghost use Rattle.std.specs.Prelude.{◌≡◌, ◌+◌, ◌∷◌, [], IfOk, List, None, map};
 ghost use Rattle.meaning_grammar.specs.Terminals.{reading_of, terminals_from};
 ghost use Rattle.meaning_grammar.specs.Words.{word_reading};

@@ -1,4 +1,4 @@
-// How each spelling of a table is read.
+// How each spelling of a table is read: the table arrives, and a list by its ids leaves. No token is known here.
 ghost use Rattle.std.specs.Prelude.{◌≡◌, IfOk, map};
 ghost use Rattle.c_terminals.specs.Seen.{entry_seen, word_entry};
 

@@ -1,4 +1,5 @@
-// The choice of a row by the next two tokens.
+// The choice of a row: a symbol and the classes of the next two tokens arrive, and the items of a row leave, or none. What was
+// read isn't known here.
 ghost use Rattle.std.specs.Prelude.{◌≡◌, ◌≤◌, IfSome, length, option_map};
 ghost use Rattle.meaning_grammar.specs.Choice.{choice};
 ghost use Rattle.meaning_grammar.specs.Sorts.{KeepsSorts};

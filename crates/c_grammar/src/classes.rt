@@ -1,4 +1,4 @@
-// What begins with tokens of these classes.
+// What begins with tokens of these classes: a class arrives, and whether it does leaves. No row is known here.
 ghost use Rattle.std.specs.Prelude.{◌≡◌, ◌∷◌, ◌++◌, []};
 ghost use Rattle.meaning_grammar.specs.Classes.{is_among};
 ghost use Rattle.meaning_grammar.specs.ClassLists.{any_declarator_start, attribute_words, declarator_start, expression_start, keyword_type_start, names, other_statement_start, type_start};

@@ -1,4 +1,4 @@
-// A row of the grammar.
+// A row of the grammar. Before which tokens it is taken isn't known here.
 use vocabulary::{ProductionItem, Symbol};
 
 /// A row of a symbol: what the symbol derives is what its items derive, one behind the other.

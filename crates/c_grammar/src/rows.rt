@@ -1,4 +1,4 @@
-// The rows of the grammar, one static for each symbol.
+// The rows of the grammar, one static for each symbol. Which row is taken isn't known here.
 pub(crate) mod binary;
 pub(crate) mod declarations;
 pub(crate) mod declarators;

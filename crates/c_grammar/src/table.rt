@@ -1,4 +1,4 @@
-// The rows of each symbol.
+// The rows of each symbol: a symbol arrives, and its rows leave. Which one is taken isn't known here.
 ghost use Rattle.std.specs.Prelude.{◌≡◌, map};
 ghost use Rattle.meaning_grammar.specs.Productions.{productions};
 

@@ -1,4 +1,5 @@
-// Which row of expressions and assignments is taken.
+// Which row of expressions and assignments is taken: the next classes arrive, and one row of `rows/expressions.rt` leaves, or
+// none. What the row says isn't known here.
 ghost use Rattle.std.specs.Prelude.{◌≡◌, option_map};
 ghost use Rattle.meaning_grammar.specs.Choice.{choice};
 ghost use Rattle.vocabulary.specs.declared.symbol.Symbol.TheVariants as symbols;

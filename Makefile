@@ -83,9 +83,9 @@ costs: | kit
 bench: $(PROGRAM) $(WORKBENCH) $(FLOWS) build/judged
 	$(PYTHON) scripts/bench.py $(PROGRAM) $(WORKBENCH) $(FLOWS) build/judged $(FAMILIES)
 
-# The families of parsing at four sizes, as rows of a table.
-bench-parsing: $(PROGRAM)
-	$(PYTHON) scripts/bench_parsing.py $(PROGRAM)
+# The families of parsing and of judging at four sizes, as rows of a table.
+bench-parsing: $(PROGRAM) build/judged
+	$(PYTHON) scripts/bench_parsing.py $(PROGRAM) build/judged
 
 fuzz: $(PROGRAM) $(WORKBENCH) $(FLOWS) build/trees build/judged
 	$(PYTHON) scripts/fuzz.py $(PROGRAM) $(WORKBENCH) $(FLOWS) build/trees build/judged

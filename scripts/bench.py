@@ -15,7 +15,8 @@ makes, and control flow graphs, which FLOWS walks.
 
 Exits 1 where a file of the first form takes more than a tenth longer by the token than a smaller one does,
 once the smaller one takes long enough to be measured, or where a largest file takes more than five seconds; where a
-call or `-E` takes more than eleven times as long with ten times as many tokens, or macros in chains more than sixteen times;
+call, `-E` or a family takes more than eleven times as long with ten times as many tokens, or macros in chains more than sixteen
+times, once the smaller one takes long enough to be measured, or else where there is none larger;
 where a guarded header that is read again and again takes too long, 2,097,151 replacements more than 0.3 seconds, or a
 flow of 100,000 more than 0.1 seconds; and
 where one of the deepest and longest texts has another answer than it must.
@@ -39,7 +40,6 @@ MOST_SECONDS = 5
 STOP_SECONDS = 20
 # Smaller peaks are mostly what a program, or what starts it here, takes at its start.
 LEAST_KIBIBYTES = 32768
-MOST_BYTES = 8388608
 # The size of a file whose instructions are counted.
 COUNTED_BYTES = 262144
 # So many tokens, names in scopes or words on types, have the texts of a call. Up to so many its instructions are counted.
@@ -94,8 +94,6 @@ LARGEST = (
 )
 
 
-# How long a chain or a list is.
-LONG = (50000, 500000)
 # An operator of each level between two operands; `+` and `-` have chains of their own.
 LEVELS = (b"*", b"<<", b"<", b"==", b"&", b"^", b"|", b"&&", b"||")
 
@@ -103,24 +101,33 @@ LEVELS = (b"*", b"<<", b"<", b"==", b"&", b"^", b"|", b"&&", b"||")
 class Family(NamedTuple):
     """Files that the program is measured on: their name, the text of a size, or texts by their paths, the sizes, the most seconds
     of the largest, how many times as long one of ten times the size may take, and the words before the file with the status.
+
+    Where no sizes are given, nothing but the tokens of a unit and the bytes of a file bounds them.
     """
 
     name: str
     make: Callable
-    sizes: tuple
+    sizes: tuple | None = None
     most_seconds: float = MOST_SECONDS
     most_ratio: int = MOST_CALL_RATIO
     words: tuple = ("-E",)
     status: int = 0
 
+    def measured_sizes(self):
+        """The sizes that are given, or the largest that may be and a tenth of it."""
+        if self.sizes is not None:
+            return self.sizes
+        largest = texts.largest_size(self.make)
+        return (largest // 10, largest)
 
-def of_parsing(name, before, front, middle, back, after, sizes):
+
+def of_parsing(name, before, front, middle, back, after, sizes=None):
     """A text that the grammar reads and no rule judges: something again and again, and its end as often."""
     make = lambda count: before + front * count + middle + back * count + after
     return Family("parsing: " + name, make, sizes, words=(), status=2)
 
 
-def of_judging(name, before, front, middle, back, after, sizes, most_ratio=MOST_CALL_RATIO, status=0):
+def of_judging(name, before, front, middle, back, after, sizes=None, most_ratio=MOST_CALL_RATIO, status=0):
     """The same for a text that the judge judges; the status is 1 where it warns."""
     make = lambda count: before + front * count + middle + back * count + after
     return Family("judging: " + name, make, sizes, most_ratio=most_ratio, words=(), status=status)
@@ -263,37 +270,37 @@ FAMILIES = (
     Family("-E: nested calls", texts.nested_calls, (1000, 10000, 100000)),
     Family("-E: a chain", texts.chain, (1000, 10000, 100000), most_ratio=MOST_CHAIN_RATIO),
     Family("-E: tokens that vanish", texts.tokens_that_vanish, (75,)),
-    Family("parsing: functions of a kernel", texts.functions_of_a_kernel, (1000, 10000), words=(), status=2),
-    of_parsing("a chain of -", b"int a; int x = ", b"- ", b"a", b"", b";", LONG),
-    of_parsing("a sum", b"int a; int x = ", b"a + ", b"a", b"", b";", LONG),
-    *(of_parsing(f"operands of {it.decode()}", b"int a; int x = ", b"a %b " % it, b"a", b"", b";", LONG) for it in LEVELS),
-    of_parsing("commas", b"int a; void f(void) { ", b"a, ", b"a", b"", b"; }", LONG),
-    *(of_parsing(f"operands before {it.decode()}", b"int a; int x = a", it, b"", b"", b";", LONG) for it in (b"++", b".m", b"->m", b"()")),
-    *(of_parsing(f"operands behind {it.decode()}", b"int a; int x = ", it + b" ", b"a", b"", b";", LONG) for it in (b"!", b"--", b"sizeof")),
-    of_parsing("calls of 255 arguments", b"int g(); void f(void) { ", b"g(" + b"1," * 254 + b"1); ", b"", b"", b" }", (200, 2000)),
-    of_parsing("cases", b"void f(void) { switch (1) { ", b"case 1: ", b";", b"", b" } }", LONG),
-    of_parsing("context statements", b"void f(void) { ", b"__context__(1); ", b"", b"", b" }", (30000, 300000)),
-    of_parsing("numbers", b"void f(void) { ", b"0x7fffffffu; ", b"", b"", b" }", LONG),
-    of_parsing("assignments", b"int a; void f(void) { ", b"a = ", b"a", b"", b"; }", LONG),
-    of_parsing("casts", b"typedef int t; int a; int x = ", b"(t)", b"a", b"", b";", LONG),
-    of_parsing("subscripts", b"int a; int x = a", b"[1]", b"", b"", b";", LONG),
-    of_parsing("indirections", b"int *p; int x = ", b"*", b"p", b"", b";", LONG),
-    of_parsing("labels", b"void f(void) { ", b"x: ", b";", b"", b" }", LONG),
-    of_parsing("?: to the right", b"int a; int x = ", b"a ? a : ", b"a", b"", b";", (40000, 400000)),
-    of_parsing("else if", b"void f(void) { ", b"if (1) ; else ", b";", b"", b" }", (30000, 300000)),
-    of_parsing("statements", b"void f(void) { ", b";", b"", b"", b" }", LONG),
-    of_parsing("declarators", b"int a", b", a", b"", b"", b";", LONG),
-    of_parsing("array sizes", b"int a", b"[1]", b"", b"", b";", LONG),
-    of_parsing("parameter lists", b"int a", b"(void)", b"", b"", b";", LONG),
-    of_parsing("qualifiers", b"", b"const ", b"int a;", b"", b"", LONG),
-    of_parsing("attribute words", b"int __attribute__((a", b", a", b"", b"", b")) x;", LONG),
-    of_parsing("attributes that mean something", b"int __attribute__((packed", b", context(a, 0, 1), address_space(u)", b"", b"", b")) x;", (10000, 100000)),
-    of_parsing("words of one context", b"int __attribute__((context(1", b" 1", b"", b"", b", 0, 1))) x;", LONG),
-    of_parsing("tags declared alone", b"struct s *p; void f(void) { ", b"{ struct s; } ", b"", b"", b" }", (20000, 200000)),
-    of_parsing("attribute lists", b"int ", b"__attribute__((a)) ", b"x;", b"", b"", (20000, 200000)),
-    of_parsing("members", b"struct { int a", b", b", b"", b"", b"; } x;", LONG),
-    of_parsing("initializers", b"int x[] = { ", b"1, ", b"", b"", b"};", LONG),
-    of_parsing("string literals", b"char x[] = ", b'"" ', b'""', b"", b";", LONG),
+    Family("parsing: functions of a kernel", texts.functions_of_a_kernel, words=(), status=2),
+    of_parsing("a chain of -", b"int a; int x = ", b"- ", b"a", b"", b";"),
+    of_parsing("a sum", b"int a; int x = ", b"a + ", b"a", b"", b";"),
+    *(of_parsing(f"operands of {it.decode()}", b"int a; int x = ", b"a %b " % it, b"a", b"", b";") for it in LEVELS),
+    of_parsing("commas", b"int a; void f(void) { ", b"a, ", b"a", b"", b"; }"),
+    *(of_parsing(f"operands before {it.decode()}", b"int a; int x = a", it, b"", b"", b";") for it in (b"++", b".m", b"->m", b"()")),
+    *(of_parsing(f"operands behind {it.decode()}", b"int a; int x = ", it + b" ", b"a", b"", b";") for it in (b"!", b"--", b"sizeof")),
+    of_parsing("calls of 255 arguments", b"int g(); void f(void) { ", b"g(" + b"1," * 254 + b"1); ", b"", b"", b" }"),
+    of_parsing("cases", b"void f(void) { switch (1) { ", b"case 1: ", b";", b"", b" } }"),
+    of_parsing("context statements", b"void f(void) { ", b"__context__(1); ", b"", b"", b" }"),
+    of_parsing("numbers", b"void f(void) { ", b"0x7fffffffu; ", b"", b"", b" }"),
+    of_parsing("assignments", b"int a; void f(void) { ", b"a = ", b"a", b"", b"; }"),
+    of_parsing("casts", b"typedef int t; int a; int x = ", b"(t)", b"a", b"", b";"),
+    of_parsing("subscripts", b"int a; int x = a", b"[1]", b"", b"", b";"),
+    of_parsing("indirections", b"int *p; int x = ", b"*", b"p", b"", b";"),
+    of_parsing("labels", b"void f(void) { ", b"x: ", b";", b"", b" }"),
+    of_parsing("?: to the right", b"int a; int x = ", b"a ? a : ", b"a", b"", b";"),
+    of_parsing("else if", b"void f(void) { ", b"if (1) ; else ", b";", b"", b" }"),
+    of_parsing("statements", b"void f(void) { ", b";", b"", b"", b" }"),
+    of_parsing("declarators", b"int a", b", a", b"", b"", b";"),
+    of_parsing("array sizes", b"int a", b"[1]", b"", b"", b";"),
+    of_parsing("parameter lists", b"int a", b"(void)", b"", b"", b";"),
+    of_parsing("qualifiers", b"", b"const ", b"int a;", b"", b""),
+    of_parsing("attribute words", b"int __attribute__((a", b", a", b"", b"", b")) x;"),
+    of_parsing("attributes that mean something", b"int __attribute__((packed", b", context(a, 0, 1), address_space(u)", b"", b"", b")) x;"),
+    of_parsing("words of one context", b"int __attribute__((context(1", b" 1", b"", b"", b", 0, 1))) x;"),
+    of_parsing("tags declared alone", b"struct s *p; void f(void) { ", b"{ struct s; } ", b"", b"", b" }"),
+    of_parsing("attribute lists", b"int ", b"__attribute__((a)) ", b"x;", b"", b""),
+    of_parsing("members", b"struct { int a", b", b", b"", b"", b"; } x;"),
+    of_parsing("initializers", b"int x[] = { ", b"1, ", b"", b"", b"};"),
+    of_parsing("string literals", b"char x[] = ", b'"" ', b'""', b"", b";"),
     of_parsing("parentheses", b"int x = ", b"(", b"1", b")", b";", (400, 4000)),
     of_parsing("bodies", b"void f(void) ", b"{", b"", b"}", b"", (3000, 30000)),
     of_parsing("statement expressions", b"int x = ", b"({ ", b"1", b"; })", b";", (360, 3600)),
@@ -301,26 +308,23 @@ FAMILIES = (
     of_parsing("lists in one another", b"int x = ", b"{", b"1", b"}", b";", (3000, 30000)),
     of_parsing("structures in one another", b"", b"struct { ", b"int y;", b" } x;", b"", (1300, 13000)),
     of_parsing("if in if", b"void f(void) { ", b"if (1) ", b";", b"", b" }", (6000, 60000)),
-    Family("parsing: enumerators", texts.enumerators, (50000, 500000), most_ratio=MOST_NAMES_RATIO, words=(), status=2),
-    Family("parsing: names of one scope", texts.names_of_one_scope, (50000, 500000), most_ratio=MOST_NAMES_RATIO, words=(), status=2),
-    Family("parsing: words before declarators", texts.words_before_declarators, (20000, 200000), words=(), status=2),
+    Family("parsing: enumerators", texts.enumerators, most_ratio=MOST_NAMES_RATIO, words=(), status=2),
+    Family("parsing: names of one scope", texts.names_of_one_body, most_ratio=MOST_NAMES_RATIO, words=(), status=2),
+    Family("parsing: words before declarators", texts.words_before_declarators, words=(), status=2),
 )
 
 # What flags a pointer of these texts has.
 FLAGGED = b"int __attribute__((noderef)) *"
 # A type that is restricted, and shorter than an int.
 RESTRICTED = b"typedef unsigned short __attribute__((bitwise)) t; "
-# How long chains are that are judged, and how long those of conditionals.
-CHAINS = (60000, 600000)
-CONDITIONALS = (40000, 400000)
 # Operators between two operands that make a value, and those that change the first one; `=` has a chain of its own.
 BINARY = (b"*", b"/", b"%", b"+", b"-", b"<<", b">>", b"<", b">", b"<=", b">=", b"==", b"!=", b"&", b"^", b"|", b"&&", b"||")
 COMPOUND = (b"*=", b"/=", b"%=", b"+=", b"-=", b"<<=", b">>=", b"&=", b"^=", b"|=")
 
 # What the judge judges as long as no command asks it. Conversions and accesses that fail are warned of.
 JUDGING = (
-    of_judging("calls", b"int g(int); void f(void) { ", b"g(1); ", b"", b"", b" }", (30000, 300000)),
-    of_judging("calls of 255 arguments", b"int g(int, ...); void f(void) { ", b"g(" + b"1," * 254 + b"1); ", b"", b"", b" }", (200, 2000)),
+    of_judging("calls", b"int g(int); void f(void) { ", b"g(1); ", b"", b"", b" }"),
+    of_judging("calls of 255 arguments", b"int g(int, ...); void f(void) { ", b"g(" + b"1," * 254 + b"1); ", b"", b"", b" }"),
     of_judging(
         "calls of 255 parameters",
         b"int g(" + b"int," * 254 + b"int); void f(void) { ",
@@ -328,51 +332,50 @@ JUDGING = (
         b"",
         b"",
         b" }",
-        (200, 2000),
     ),
     of_judging("nested calls", b"int g(int); void f(void) { ", b"g(", b"1", b")", b"; }", (300, 3000)),
-    of_judging("statements", b"extern int *p; void f(void) { ", b"*p; ", b"", b"", b" }", LONG),
-    of_judging("stores", b"extern int *p, *q; void f(void) { ", b"p = q; ", b"", b"", b" }", (40000, 400000)),
-    of_judging("stores of stores", b"extern int *p; void f(void) { ", b"p = ", b"p", b"", b"; }", LONG),
-    of_judging("returns", b"int f(int a) { ", b"return a; ", b"", b"", b" }", LONG),
-    of_judging("strings", b"extern char *s; void f(void) { ", b's = "a"; ', b"", b"", b" }", (40000, 400000)),
-    Family("judging: functions", texts.functions_of_parameters, (10000, 100000), most_ratio=MOST_NAMES_RATIO, words=()),
-    Family("judging: declarations", texts.declarations, (40000, 400000), most_ratio=MOST_NAMES_RATIO, words=()),
-    of_judging("redeclarations of one name", b"", b"extern int *p; ", b"", b"", b"", (30000, 300000)),
-    of_judging("redeclarations in blocks", b"extern int *p; void f(void) { ", b"{ extern int *p; p; } ", b"", b"", b" }", (20000, 200000)),
-    of_judging("redeclarations of another type", b"extern int *p; ", b"extern char *p; ", b"", b"", b"", (30000, 300000), status=1),
-    of_judging("redeclarations with a length", b"extern int a[]; ", b"extern int a[4]; ", b"", b"", b"", (20000, 200000)),
-    of_judging("typedefs of one name", b"", b"typedef int *t; ", b"", b"", b"", (30000, 300000)),
-    Family("judging: typedefs that double", texts.doubling_typedefs, (10000, 100000), most_ratio=MOST_NAMES_RATIO, words=()),
-    of_judging("stars of a type", b"extern int ", b"*", b"p; void f(void) { p = p; }", b"", b"", LONG),
-    of_judging("uses of a deep type", b"extern int " + b"*" * 1000 + b"p; void f(void) { ", b"p = p; ", b"", b"", b" }", (40000, 400000)),
-    of_judging("levels of an array", b"extern int a", b"[1]", b"; void f(void) { a", b"[0]", b"; }", (30000, 300000)),
+    of_judging("statements", b"extern int *p; void f(void) { ", b"*p; ", b"", b"", b" }"),
+    of_judging("stores", b"extern int *p, *q; void f(void) { ", b"p = q; ", b"", b"", b" }"),
+    of_judging("stores of stores", b"extern int *p; void f(void) { ", b"p = ", b"p", b"", b"; }"),
+    of_judging("returns", b"int f(int a) { ", b"return a; ", b"", b"", b" }"),
+    of_judging("strings", b"extern char *s; void f(void) { ", b's = "a"; ', b"", b"", b" }"),
+    Family("judging: functions", texts.functions_of_parameters, most_ratio=MOST_NAMES_RATIO, words=()),
+    Family("judging: declarations", texts.declarations, most_ratio=MOST_NAMES_RATIO, words=()),
+    of_judging("redeclarations of one name", b"", b"extern int *p; ", b"", b"", b""),
+    of_judging("redeclarations in blocks", b"extern int *p; void f(void) { ", b"{ extern int *p; p; } ", b"", b"", b" }"),
+    of_judging("redeclarations of another type", b"extern int *p; ", b"extern char *p; ", b"", b"", b"", status=1),
+    of_judging("redeclarations with a length", b"extern int a[]; ", b"extern int a[4]; ", b"", b"", b""),
+    of_judging("typedefs of one name", b"", b"typedef int *t; ", b"", b"", b""),
+    Family("judging: typedefs that double", texts.doubling_typedefs, most_ratio=MOST_NAMES_RATIO, words=()),
+    of_judging("stars of a type", b"extern int ", b"*", b"p; void f(void) { p = p; }", b"", b""),
+    of_judging("uses of a deep type", b"extern int " + b"*" * 1000 + b"p; void f(void) { ", b"p = p; ", b"", b"", b" }"),
+    of_judging("levels of an array", b"extern int a", b"[1]", b"; void f(void) { a", b"[0]", b"; }"),
     of_judging("parentheses", b"extern int *p; void f(void) { ", b"(", b"p", b")", b"; }", (400, 4000)),
-    of_judging("*& chains", b"extern int *p; void f(void) { ", b"*&", b"*p", b"", b"; }", LONG),
-    of_judging("stars of a function", b"void f(void) { ", b"*", b"f", b"", b"; }", LONG),
-    of_judging("accesses that warn", FLAGGED + b"u; void f(void) { ", b"*u; ", b"", b"", b" }", LONG, status=1),
-    of_judging("conversions that warn", FLAGGED + b"u; int *p; void f(void) { ", b"p = u; ", b"", b"", b" }", (40000, 400000), status=1),
-    *(of_judging(f"operands of {it.decode()}", b"void f(int a) { ", b"a %b " % it, b"a", b"", b"; }", CHAINS) for it in BINARY + COMPOUND),
-    *(of_judging(f"operands behind {it.decode()}", b"void f(int a) { ", it + b" ", b"a", b"", b"; }", CHAINS) for it in (b"+", b"-", b"~", b"!", b"sizeof")),
-    *(of_judging(f"operands before {it.decode()}", b"void f(int a) { ", b"a%b, " % it, b"a", b"", b"; }", CHAINS) for it in (b"++", b"--")),
-    of_judging("a sum of constants", b"void f(void) { ", b"1 + ", b"1", b"", b"; }", CHAINS),
-    of_judging("commas", b"void f(int a) { ", b"a, ", b"a", b"", b"; }", CHAINS),
-    of_judging("casts", b"void f(int a) { ", b"(long)", b"a", b"", b"; }", CHAINS),
-    of_judging("casts of constants", b"void f(void) { ", b"(int)", b"1", b"", b"; }", CHAINS),
-    of_judging("casts of pointers", b"void f(int *p) { ", b"(int *)p; ", b"", b"", b" }", (30000, 300000)),
-    of_judging("?: to the right", b"void f(int a) { ", b"a ? a : ", b"a", b"", b"; }", CONDITIONALS),
-    of_judging("?: without a middle", b"void f(int a) { ", b"a ?: ", b"a", b"", b"; }", CONDITIONALS),
-    of_judging("?: of pointers", b"void f(int *p, void *v) { ", b"p ? v : ", b"p", b"", b"; }", CONDITIONALS),
-    of_judging("differences of pointers", b"void f(int *p) { ", b"p - p; ", b"", b"", b" }", CONDITIONALS),
-    of_judging("comparisons of pointers", b"void f(int *p, void *v) { ", b"p == v; ", b"", b"", b" }", CONDITIONALS),
-    of_judging("restricted operands", RESTRICTED + b"void f(t h) { ", b"h & ", b"~h", b"", b"; }", CHAINS),
-    of_judging("sizes of types", b"void f(void) { ", b"sizeof(int *) + ", b"1", b"", b"; }", (25000, 250000)),
+    of_judging("*& chains", b"extern int *p; void f(void) { ", b"*&", b"*p", b"", b"; }"),
+    of_judging("stars of a function", b"void f(void) { ", b"*", b"f", b"", b"; }"),
+    of_judging("accesses that warn", FLAGGED + b"u; void f(void) { ", b"*u; ", b"", b"", b" }", status=1),
+    of_judging("conversions that warn", FLAGGED + b"u; int *p; void f(void) { ", b"p = u; ", b"", b"", b" }", status=1),
+    *(of_judging(f"operands of {it.decode()}", b"void f(int a) { ", b"a %b " % it, b"a", b"", b"; }") for it in BINARY + COMPOUND),
+    *(of_judging(f"operands behind {it.decode()}", b"void f(int a) { ", it + b" ", b"a", b"", b"; }") for it in (b"+", b"-", b"~", b"!", b"sizeof")),
+    *(of_judging(f"operands before {it.decode()}", b"void f(int a) { ", b"a%b, " % it, b"a", b"", b"; }") for it in (b"++", b"--")),
+    of_judging("a sum of constants", b"void f(void) { ", b"1 + ", b"1", b"", b"; }"),
+    of_judging("commas", b"void f(int a) { ", b"a, ", b"a", b"", b"; }"),
+    of_judging("casts", b"void f(int a) { ", b"(long)", b"a", b"", b"; }"),
+    of_judging("casts of constants", b"void f(void) { ", b"(int)", b"1", b"", b"; }"),
+    of_judging("casts of pointers", b"void f(int *p) { ", b"(int *)p; ", b"", b"", b" }"),
+    of_judging("?: to the right", b"void f(int a) { ", b"a ? a : ", b"a", b"", b"; }"),
+    of_judging("?: without a middle", b"void f(int a) { ", b"a ?: ", b"a", b"", b"; }"),
+    of_judging("?: of pointers", b"void f(int *p, void *v) { ", b"p ? v : ", b"p", b"", b"; }"),
+    of_judging("differences of pointers", b"void f(int *p) { ", b"p - p; ", b"", b"", b" }"),
+    of_judging("comparisons of pointers", b"void f(int *p, void *v) { ", b"p == v; ", b"", b"", b" }"),
+    of_judging("restricted operands", RESTRICTED + b"void f(t h) { ", b"h & ", b"~h", b"", b"; }"),
+    of_judging("sizes of types", b"void f(void) { ", b"sizeof(int *) + ", b"1", b"", b"; }"),
     of_judging("statement expressions", b"void f(int a) { ", b"({ ", b"a", b"; })", b"; }", (360, 3600)),
     of_judging("nested __builtin_expect", b"void f(int a) { ", b"__builtin_expect(", b"a", b", 1)", b"; }", (300, 3000)),
-    of_judging("operands that warn", RESTRICTED + b"void f(t h) { ", b"h + 1; ", b"", b"", b" }", CONDITIONALS, status=1),
-    of_judging("comparisons that warn", b"void f(int *p, char *s) { ", b"p == s; ", b"", b"", b" }", CONDITIONALS, status=1),
-    of_judging("casts that warn", RESTRICTED + b"void f(t h) { ", b"(int)h; ", b"", b"", b" }", (30000, 300000), status=1),
-    of_judging("arguments that warn", FLAGGED + b"u; int g(int *); void f(void) { ", b"g(u); ", b"", b"", b" }", (30000, 300000), status=1),
+    of_judging("operands that warn", RESTRICTED + b"void f(t h) { ", b"h + 1; ", b"", b"", b" }", status=1),
+    of_judging("comparisons that warn", b"void f(int *p, char *s) { ", b"p == s; ", b"", b"", b" }", status=1),
+    of_judging("casts that warn", RESTRICTED + b"void f(t h) { ", b"(int)h; ", b"", b"", b" }", status=1),
+    of_judging("arguments that warn", FLAGGED + b"u; int g(int *); void f(void) { ", b"g(u); ", b"", b"", b" }", status=1),
 )
 
 
@@ -524,17 +527,24 @@ def print_stages(checker):
         before = behind
 
 
+def takes_in_step(seconds, most_ratio):
+    """Whether each size takes only so many times as long as a tenth of it.
+
+    These are compared where the tenth takes long enough, and else the largest that has a tenth.
+    """
+    pairs = [(seconds[size // 10], seconds[size]) for size in sorted(seconds) if size // 10 in seconds]
+    compared = [pair for pair in pairs if pair[0] >= LEAST_SECONDS] or pairs[-1:]
+    return all(larger <= most_ratio * max(smaller, LEAST_CALL_SECONDS) for smaller, larger in compared)
+
+
 def call_grows_in_step(workbench, call):
     """Whether a call takes only so many times as long where its size is ten times as large. Prints its lines."""
     checker = Checker(call.name, [workbench] + call.words, (0,), call.behind)
-    seconds, passed = {}, True
+    seconds = {}
     for size in call.sizes:
         text = call.make(size)
         seconds[size] = print_rows([checker], call.name, text, call.make(min(size, COUNTED_TOKENS)))
-        before = seconds.get(size // 10)
-        if before is not None and seconds[size] > call.most_ratio * max(before, LEAST_CALL_SECONDS):
-            passed = False
-    return has_the_answer(workbench, call) and passed
+    return has_the_answer(workbench, call) and takes_in_step(seconds, call.most_ratio)
 
 
 def has_the_answer(workbench, call):
@@ -576,27 +586,21 @@ def family_grows_in_step(program, family):
     Prints its lines.
     """
     checker = Checker(family.name, [program, *family.words], (family.status,))
-    seconds, passed = {}, True
-    for size in family.sizes:
+    seconds = {}
+    for size in family.measured_sizes():
         text = family.make(size)
         counted = family.make(COUNTED_USES) if size > COUNTED_USES else text
         seconds[size] = print_rows([checker], family.name, text, None if isinstance(text, dict) else counted)
-        before = seconds.get(size // 10)
-        if before is not None and seconds[size] > family.most_ratio * max(before, LEAST_CALL_SECONDS):
-            passed = False
-    return passed and seconds[family.sizes[-1]] <= family.most_seconds
+    return takes_in_step(seconds, family.most_ratio) and seconds[max(seconds)] <= family.most_seconds
 
 
 def flows_grow_in_step(flows, name, make, sizes):
     """Whether flows of a kind take only so many times as long where they are ten times as large. Prints their lines."""
     checker = Checker(name, [flows], (0,))
-    seconds, passed = {}, True
+    seconds = {}
     for size in sizes:
         seconds[size] = print_rows([checker], name, make(size), None)
-        before = seconds.get(size // 10)
-        if before is not None and seconds[size] > MOST_CALL_RATIO * max(before, LEAST_CALL_SECONDS):
-            passed = False
-    return passed and seconds[TIMED_FLOW] <= MOST_FLOW_SECONDS
+    return takes_in_step(seconds, MOST_CALL_RATIO) and seconds[TIMED_FLOW] <= MOST_FLOW_SECONDS
 
 
 def calls_pass(program, workbench, flows, judged, families):
@@ -631,7 +635,7 @@ def program_passes(checkers):
     passed = grows_in_step(checkers)
     for name, make, has_tokens in LARGEST:
         counted = make(COUNTED_BYTES) if has_tokens else None
-        if print_rows(checkers, name, make(MOST_BYTES), counted) > MOST_SECONDS:
+        if print_rows(checkers, name, make(texts.MOST_BYTES), counted) > MOST_SECONDS:
             passed = False
     print_stages(checkers[0])
     return passed

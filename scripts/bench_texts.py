@@ -2,6 +2,7 @@
 import re
 
 MOST_TOKENS = 2000000
+MOST_BYTES = 8388608
 
 def texts_of(text):
     """Texts by their paths: a text alone is the file t.c."""
@@ -172,9 +173,24 @@ def repeated_types(types):
     return b"const int pointer array_3 int int function_1 pointer drop drop " * (types // 10)
 
 
+# A word or a number, a literal, a punctuator, another byte.
+TOKEN = re.compile(rb"""\w+|"[^"\n]*"|'[^'\n]*'|\.\.\.|<<=|>>=|->|\+\+|--|<<|>>|&&|\|\||\#\#|[-*/%+<>=!&^|]=|\S""")
+
+
 def tokens_in(text):
-    """How many tokens files of the first form without comments have."""
-    return sum(len(re.findall(rb"[A-Za-z0-9_]+|[^A-Za-z0-9_\s]", file)) for file in texts_of(text).values())
+    """How many tokens files without comments have."""
+    return sum(len(TOKEN.findall(file)) for file in texts_of(text).values())
+
+
+def largest_size(make):
+    """How often the part of a text may stand in it, by the tokens of a unit and the bytes of a file."""
+    few, many = (tokens_in(make(count)) for count in (100, 200))
+    size = 100 + (MOST_TOKENS - few) * 100 // (many - few)
+    length = len(make(size))
+    while length > MOST_BYTES:
+        size = size * MOST_BYTES // length
+        length = len(make(size))
+    return size
 
 
 def defined(lines, text):
@@ -334,7 +350,7 @@ def enumerators(count):
     return b"enum { " + b"".join(b"e%06d, " % number for number in range(count)) + b"};"
 
 
-def names_of_one_scope(count):
+def names_of_one_body(count):
     """A body that declares so many names."""
     return b"void f(void) { int n" + b"".join(b", n%06d" % number for number in range(count)) + b"; }"
 

@@ -1,4 +1,5 @@
-// What the actions do with what was read: each is done by one of two crates.
+// What the actions do with what was read: an action arrives with it, and it leaves as the action makes it, or else why it is
+// refused. What each does is known in one of two crates, and not here.
 ghost use Rattle.std.specs.Prelude.{◌≡◌, IfErr, IsSome, OnOk};
 ghost use Rattle.vocabulary.specs.declared.production_item.ProductionItem.TheVariants.{Do};
 ghost use Rattle.meaning_grammar.specs.Sorts.{effect};

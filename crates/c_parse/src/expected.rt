@@ -1,4 +1,5 @@
-// What is told where nothing goes on: a syntax error, or one of the forms that are told by what was expected.
+// What is told where nothing goes on: an item and the next class arrive, and a syntax error leaves, or one of the forms that
+// are told by what was expected. At which token it is told isn't known here.
 ghost use Rattle.std.specs.Prelude.{◌≡◌, ◌∷◌, if◌then◌else◌};
 ghost use Rattle.meaning_grammar.specs.Classes.{is_among, is_same};
 ghost use Rattle.meaning_grammar.specs.ClassLists.{type_qualifiers};

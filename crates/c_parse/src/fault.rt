@@ -1,4 +1,4 @@
-// Why a unit has no tree.
+// Why a unit has no tree, and at which token: what leaves in its place. How that is written isn't known here.
 ghost use Rattle.std.specs.Prelude.{◌≡◌};
 ghost use Rattle.c_parse.specs.Telling.{fault_seen};
 ghost use Rattle.c_parse.specs.declared.fault.ParseFault.TheVariants.{Memory};

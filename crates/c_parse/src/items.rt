@@ -1,4 +1,5 @@
-// What is asked of an item alone.
+// What is asked of an item alone: an item arrives, and leaves as a number or as an answer of yes or no. What was read isn't
+// known here.
 ghost use Rattle.std.specs.Prelude.{◌≡◌, ◌≤◌, ◌∷◌, [], length};
 ghost use Rattle.meaning_grammar.specs.Classes.{class_number, is_same};
 ghost use Rattle.meaning_grammar.specs.Items.{is_passed_over, takes};

@@ -1,4 +1,5 @@
-// The classes of the next two terminals: that of a name depends on what it is bound to.
+// The classes of the next two terminals: that of a name depends on what it is bound to. What was read and the terminals
+// arrive, and two classes leave. Which row they choose isn't known here.
 ghost use Rattle.std.specs.Prelude.{◌≡◌, if◌then◌else◌, IfSome, None, option_map};
 ghost use Rattle.c_tokens.specs.Seen.{IsKnown};
 ghost use Rattle.meaning_derivation.specs.Taking.{class_in};

@@ -1,4 +1,4 @@
-// What is read, and what waits.
+// What is read, and what waits: all that a step changes. How it does isn't known here.
 use crate::looks::Looks;
 use crate::pending::Pending;
 use c_terminals::Terminals;

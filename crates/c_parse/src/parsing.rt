@@ -1,4 +1,5 @@
-// A unit from its first token to its end.
+// A unit from its first token to its end: its tokens arrive, and its tree leaves, or the one thing that is told of it. What an
+// item does isn't known here.
 ghost use Rattle.std.specs.Prelude.{◌≡◌, ◌∷◌, [], IfErr, IfOk, OnOk};
 ghost use Rattle.meaning_derivation.specs.Actions.{act};
 ghost use Rattle.meaning_derivation.specs.Leading.{ComesTo, LeadsTo};

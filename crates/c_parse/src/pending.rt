@@ -1,4 +1,4 @@
-// The items that wait.
+// The items that wait: rows arrive, and their items leave one by one, the next one first. What an item does isn't known here.
 ghost use Rattle.std.specs.Prelude.{◌≡◌, ◌<◌, ◌≤◌, ◌^◌, ◌++◌, OnErr, OnOk, length, reverse, true};
 ghost use Rattle.std.specs.List.{list_all};
 ghost use Rattle.c_parse.specs.Rows.{is_short, items_in};

@@ -1,4 +1,5 @@
-// What is told where an item can't go on.
+// What is told where an item can't go on: the item arrives with what was read and what is left, and a fault leaves. Nothing is
+// changed here.
 ghost use Rattle.std.specs.Prelude.{◌≡◌, ◌∷◌, IfErr, IfNone, IfSome, List, OnOk};
 ghost use Rattle.c_tokens.specs.Seen.{IsKnown};
 ghost use Rattle.meaning_grammar.specs.Terminals as grammar;

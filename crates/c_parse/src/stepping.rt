@@ -1,4 +1,5 @@
-// One step: the next item is taken, done, or replaced by a row.
+// One step: the next item arrives, and is taken, done, or replaced by a row; what is read and what waits leave so. What an
+// action does isn't known here, nor the rows.
 ghost use Rattle.std.specs.Prelude.{◌≡◌, ◌≤◌, ◌∷◌, IfErr, OnOk, true, length};
 ghost use Rattle.vocabulary.specs.declared.production_item.ProductionItem.TheVariants.{Do, Nonterminal};
 ghost use Rattle.c_opening.specs.Opening.{Opens};

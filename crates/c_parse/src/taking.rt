@@ -1,4 +1,5 @@
-// How a terminal is taken.
+// How a terminal is taken: an item arrives, and the next terminal leaves as the value of the item. What is made of the value
+// isn't known here.
 ghost use Rattle.std.specs.Prelude.{◌≡◌, ◌∷◌, IfErr, OnOk, Some, drop, slice_get};
 ghost use Rattle.c_tokens.specs.Seen.{IsKnown};
 ghost use Rattle.meaning_derivation.specs.State.{Done, token_before, with_values};

@@ -1,4 +1,5 @@
-// What is asked of the last values: by how far each stands below the top.
+// What is asked of the last values: by how far each stands below the top. A depth arrives, and what the value there has
+// leaves. What the value is for isn't known here.
 ghost use Rattle.std.specs.Prelude.{◌≡◌, drop, reverse, slice_get, take};
 ghost use Rattle.parse_state.specs.Asking.{count_in, handle_in, name_in, name_in_at, token_in};
 

@@ -1,4 +1,5 @@
-// The values of a stack, by how far they stand below its top, and the children that they give.
+// The values of a stack, by how far they stand below its top, and the children that they give. Sources arrive, and a list of
+// children leaves. No node is made here.
 ghost use Rattle.std.specs.Prelude.{◌≡◌, ◌<◌, ◌≤◌, ◌^◌, ◌∷◌, ◌++◌, [], IfOk, OnOk, drop, length, option_map, reverse, slice_get, take, true, vec_len};
 ghost use Rattle.std.specs.List.{list_all};
 ghost use Rattle.vocabulary.specs.Roles.{role_tag};

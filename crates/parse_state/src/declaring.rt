@@ -1,4 +1,5 @@
-// What is asked of specifiers and declarators where a name is declared, and the name that is bound.
+// What is asked of specifiers and declarators where a name is declared, and the name that is bound. Depths arrive, and answers
+// leave, or a scope with one name more. What is declared next isn't known here.
 ghost use Rattle.std.specs.Prelude.{◌≡◌, ◌<◌, ◌≤◌, option_map, reverse, slice_get, true};
 ghost use Rattle.std.specs.List.{list_all};
 ghost use Rattle.meaning_tree.specs.Nodes.{end_of};

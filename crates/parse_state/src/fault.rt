@@ -1,4 +1,4 @@
-// Why an action doesn't go on.
+// Why an action doesn't go on. What leaves in the place of a value. Which action it is isn't known here.
 ghost use Rattle.std.specs.Prelude.{◌≡◌};
 ghost use Rattle.c_literals.specs.Seen.{fault_seen};
 ghost use Rattle.parse_state.specs.declared.fault.ActionFault.TheVariants.{Memory};

@@ -1,4 +1,4 @@
-// The unit that is left where all is read.
+// The unit that is left where all is read. The last value arrives, and the unit leaves. What its tree says isn't known here.
 use crate::state::ParseState;
 use c_tree::Unit;
 

@@ -1,4 +1,5 @@
-// Lists that become one in the place of the last values: behind a word that stays, or the last one turned round.
+// Lists that become one in the place of the last values: behind a word that stays, or the last one turned round. What stands
+// in them isn't known here.
 ghost use Rattle.std.specs.Prelude.{◌≡◌, ◌≤◌, ◌∷◌, ◌++◌, [], IfOk, OnOk, drop, reverse, slice_get, take, true, vec_len};
 ghost use Rattle.std.specs.List.{list_all};
 ghost use Rattle.parse_state.specs.Giving.{children_in, is_small};

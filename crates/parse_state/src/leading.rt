@@ -1,4 +1,5 @@
-// Where the first tree of a list stands.
+// Where the first tree of a list stands. A depth arrives, and a token leaves, if there is a tree. What the tree is isn't known
+// here.
 ghost use Rattle.std.specs.Prelude.{◌≡◌, reverse, slice_get};
 ghost use Rattle.parse_state.specs.Joining.{children_of, first_child};
 

@@ -1,4 +1,4 @@
-// What is asked of trees and lists, and of the names that stand for something.
+// What is asked of trees and lists, and of the names that stand for something. Nothing is changed here.
 use crate::asking::{count_at, name_at, tree_at};
 use crate::state::ParseState;
 use c_scope::{Bound, NameSpace};

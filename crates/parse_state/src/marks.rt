@@ -1,4 +1,4 @@
-// What was noted, and is told later.
+// What was noted, and is told later. When it is told isn't known here.
 use c_scope::Binding;
 use vocabulary::{ErrorKind, LimitKind};
 

@@ -1,4 +1,5 @@
-// Nodes and lists that are made of the last values.
+// Nodes and lists that are made of the last values. A shape arrives, and one value leaves in the place of those that it names.
+// What its kind means isn't known here.
 ghost use Rattle.std.specs.Prelude.{◌≡◌, ◌<◌, ◌≤◌, ◌∷◌, ◌++◌, [], OnOk, drop, take, true, vec_len};
 ghost use Rattle.std.specs.List.{list_all};
 ghost use Rattle.meaning_tree.specs.Nodes.{end_of, with_node};

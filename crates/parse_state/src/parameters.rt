@@ -1,4 +1,4 @@
-// Parameter lists that are closed, and bodies that open their scopes again.
+// Parameter lists that are closed, and bodies that open their scopes again. What the parameters are isn't known here.
 ghost use Rattle.std.specs.Prelude.{◌≡◌, ◌<◌, ◌≤◌, map, true};
 ghost use Rattle.std.specs.List.{list_all};
 ghost use Rattle.meaning_tree.specs.Nodes.{end_of};

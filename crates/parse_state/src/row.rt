@@ -1,4 +1,5 @@
-// Nodes that are made of the last values alone.
+// Nodes that are made of the last values alone. A row arrives, and one value leaves in the place of those that it takes. Which
+// action has it isn't known here.
 use crate::fault::ActionFault;
 use crate::shape::{Shape, Source};
 use crate::state::ParseState;

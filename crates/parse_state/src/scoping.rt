@@ -1,4 +1,5 @@
-// The names that are visible.
+// The names that are visible. Names arrive by their ids, and scopes leave with them or without. Which declarations these are
+// isn't known here.
 use crate::asking::name_at;
 use crate::marks::{HeldError, PassedLimit};
 use crate::state::ParseState;

@@ -1,4 +1,4 @@
-// How a node is made of values, by how far each stands below the top of the stack.
+// How a node is made of values, by how far each stands below the top of the stack. Which action makes it isn't known here.
 use vocabulary::{NodeKind, Role};
 
 /// What parts are made of.

@@ -1,4 +1,5 @@
-// What specifiers come to: which of them may stand together (C11 6.7.1, 6.7.2 p2, 6.7.4, 6.7.6.3 p2).
+// What specifiers come to: which of them may stand together (C11 6.7.1, 6.7.2 p2, 6.7.4, 6.7.6.3 p2). One word arrives behind
+// others, and what all come to leaves. Where they stand isn't known here.
 ghost use Rattle.std.specs.Prelude.{◌≡◌};
 ghost use Rattle.meaning_derivation.specs.Specifiers.{is_bad_file_storage, is_bad_in_block, is_bad_in_file, is_bad_member, is_bad_parameter_storage, is_bad_storage, is_bad_type, is_function_word, is_no_type, is_qualifier_word, is_refused_parameter, is_some_storage, lacks_type, lacks_type_or_attributes, nothing_specified, parameter_error, specified_with, storage_or_bad, storage_with, type_with, with_char, with_int, with_long, with_short, with_sign, with_whole, word_of};
 ghost use Rattle.parse_state.specs.Specifying.{specified_seen, storage_seen, type_seen, word_seen};

@@ -1,4 +1,5 @@
-// What the specifiers in a list, or of a tree, come to.
+// What the specifiers in a list, or of a tree, come to. Which of them may stand together is known in `specified.rt`, and not
+// here.
 ghost use Rattle.std.specs.Prelude.{◌≡◌, true};
 ghost use Rattle.std.specs.List.{list_all};
 ghost use Rattle.meaning_tree.specs.Nodes.{end_of};

@@ -1,4 +1,4 @@
-// Values that come, and what is noted besides them.
+// Values that come, and what is noted besides them. What is made of them isn't known here.
 use crate::fault::ActionFault;
 use crate::marks::PassedLimit;
 use crate::state::ParseState;

@@ -1,4 +1,5 @@
-// What was read so far, and what is asked of it.
+// What was read so far, and what is asked of it. Tokens and the table of spellings arrive, and the files beside this one
+// change it. What is still to be read isn't known here.
 use crate::marks::{ClosedParameters, HeldError, PassedLimit};
 use crate::value::Value;
 use c_scope::Scopes;

@@ -1,4 +1,5 @@
-// The storage class of specifiers (C11 6.7.1), as far as it says how the names behind them are bound.
+// The storage class of specifiers (C11 6.7.1), as far as it says how the names behind them are bound. A number arrives, and a
+// class leaves. Which words there were isn't known here.
 ghost use Rattle.std.specs.Prelude.{◌≡◌};
 ghost use Rattle.meaning_derivation.specs.Storage.{storage_number, storage_of_number, class_with};
 ghost use Rattle.parse_state.specs.Storage.{class_of};

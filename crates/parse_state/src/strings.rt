@@ -1,4 +1,5 @@
-// The string literals of a list, each the name of a tree.
+// The string literals of a list, each the name of a tree. A list arrives, and the length of the joined text leaves, or the
+// first bad one. The bytes aren't kept here.
 ghost use Rattle.std.specs.Prelude.{◌≡◌, ◌+◌, ◌<◌, IfErr, IfOk, None, OnOk, option_map, reverse, slice_get, true};
 ghost use Rattle.std.specs.List.{list_all};
 ghost use Rattle.meaning_literals.specs.Quoted.{string_of};

@@ -1,4 +1,5 @@
-// Tags that are declared alone (C11 6.7.2.3 p7).
+// Tags that are declared alone (C11 6.7.2.3 p7). A declaration's specifiers arrive, and leave with another number. What the
+// tag stands for isn't known here.
 ghost use Rattle.std.specs.Prelude.{◌≡◌, List, Option, is_some, not, option_map, true, ℕ};
 ghost use Rattle.std.specs.List.{list_all};
 ghost use Rattle.meaning_scopes.specs.Scopes.{Found};

@@ -1,4 +1,4 @@
-// A list that has one tree alone, as that tree.
+// A list that has one tree alone, as that tree. What the tree is isn't known here.
 ghost use Rattle.std.specs.Prelude.{◌≡◌, ◌<◌, ◌++◌, ◌∷◌, [], OnOk, reverse, slice_get, take};
 ghost use Rattle.meaning_tree.specs.Nodes.{end_of};
 ghost use Rattle.parse_state.specs.declared.value.Value.TheVariants as kinds;

@@ -1,4 +1,4 @@
-// What symbols and items answer.
+// What symbols and items answer. What they mean isn't known here.
 use c_tree::Handle;
 use sparse_model::NameId;
 use tag_list::TagList;

@@ -11,7 +11,7 @@ use Rattle.failure_listing.proofs.Listings.{ordered-otherwise}
 use Rattle.type_judge.specs.declared.judging.Judged.{Judged}
 use Rattle.type_judge.specs.Judging.{IsJudgedSo}
 use Rattle.type_judge.proofs.JudgingLemmas.{found-rank}
-use Rattle.expr_judge.specs.Rows as judge
+use Rattle.expression_rows.specs.Rows as judge
 use Rattle.warn_print.specs.Seen as warn
 use Rattle.warn_print.proofs.UnitLemmas.{shown-rank}
 use Rattle.judged.specs.Replies.{listing_shown}

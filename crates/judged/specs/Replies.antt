@@ -17,7 +17,7 @@ use Rattle.c_preproc.specs.declared.unit.UnitTokens.{UnitTokens}
 use Rattle.parse_state.specs.Finished.{spelled}
 use Rattle.c_parse.specs.Answers.{DerivesUnit}
 use Rattle.decl_judge.specs.Units.{nodes_of}
-use Rattle.expr_judge.specs.declared.row.Broken.{Broken}
+use Rattle.expression_rows.specs.declared.row.Broken.{Broken}
 use Rattle.type_judge.specs.declared.fault.JudgeFault.{JudgeFault}
 use Rattle.type_judge.specs.declared.fault.JudgeFault.TheVariants as faults
 use Rattle.type_judge.specs.declared.judging.Judged.{Judged}

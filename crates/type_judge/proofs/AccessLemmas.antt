@@ -6,7 +6,7 @@ use Rattle.c_types.specs.Table.{TypeTable}
 use Rattle.node_facts.specs.declared.fact.NodeFact.{NodeFact}
 use Rattle.node_facts.specs.declared.fact.NodeFact.TheVariants as facts
 use Rattle.node_facts.specs.Facts.{node_seen}
-use Rattle.expr_judge.specs.Facts.{part_seen}
+use Rattle.expression_rows.specs.Facts.{part_seen}
 use Rattle.type_judge.specs.Parts.{expression_in}
 
 pub access_is : (table : TypeTable) (token : ℕ) (surrounding : Surrounding) (fact : NodeFact)

@@ -36,7 +36,7 @@ use Rattle.node_facts.specs.declared.fact.NodeFact.{NodeFact}
 use Rattle.node_facts.specs.declared.fact.NodeFact.TheVariants as facts
 use Rattle.node_facts.specs.Facts.{IsKnownNodeFact, fact_seen, node_seen, nodes_seen, number_in}
 use Rattle.node_facts.specs.Kept.{node_kept}
-use Rattle.expr_judge.specs.Facts.{IsKnownPart, part_seen as expression_seen}
+use Rattle.expression_rows.specs.Facts.{IsKnownPart, part_seen as expression_seen}
 use Rattle.type_judge.specs.Constants.{bits_folded, bits_of, whole_constant, with_bits}
 use Rattle.type_judge.specs.Parts.{kept_at}
 use Rattle.type_judge.specs.Rows.{SaysOnly, fact_of_part, known_row}

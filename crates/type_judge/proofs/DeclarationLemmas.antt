@@ -21,11 +21,11 @@ use Rattle.node_facts.specs.declared.fact.NodeFact.TheVariants as facts
 use Rattle.node_facts.specs.Facts.{IsKnownNodeFact, declared_seen, node_seen}
 use Rattle.node_surroundings.specs.declared.surrounding.Surrounding as code
 use Rattle.node_surroundings.specs.Seen.{surrounding_seen}
-use Rattle.expr_judge.specs.declared.row.Broken.{Broken}
-use Rattle.expr_judge.specs.Arguments.{listed_failure}
-use Rattle.expr_judge.specs.Parts.{unless}
-use Rattle.expr_judge.specs.Rows.{IsKnownFailure, broken_seen, failure_listed}
-use Rattle.expr_judge.proofs.LeastLemmas.{unless_told}
+use Rattle.expression_rows.specs.declared.row.Broken.{Broken}
+use Rattle.expression_rows.specs.Arguments.{listed_failure}
+use Rattle.expression_rows.specs.Parts.{unless}
+use Rattle.expression_rows.specs.Rows.{IsKnownFailure, broken_seen, failure_listed}
+use Rattle.expression_rows.proofs.LeastLemmas.{unless_told}
 use Rattle.type_judge.specs.declared.known.Known.{Known}
 use Rattle.type_judge.specs.declared.row.NodeRow.{NodeRow}
 use Rattle.type_judge.specs.Known.{OnlyTypesJoin, facts_seen}

@@ -17,9 +17,9 @@ use Rattle.node_facts.specs.declared.fact.NodeFact.{NodeFact}
 use Rattle.node_facts.specs.declared.fact.NodeFact.TheVariants as facts
 use Rattle.node_facts.specs.Facts.{IsKnownNodeFact, declared_seen, node_seen, nodes_seen}
 use Rattle.linked_names.specs.Typedefs.{first_of}
-use Rattle.expr_judge.specs.declared.row.Broken as code
-use Rattle.expr_judge.specs.Names.{declared_by}
-use Rattle.expr_judge.specs.Rows.{broken_seen}
+use Rattle.expression_rows.specs.declared.row.Broken as code
+use Rattle.expression_rows.specs.Names.{declared_by}
+use Rattle.expression_rows.specs.Rows.{broken_seen}
 use Rattle.type_judge.specs.declared.known.Known.{Known}
 use Rattle.type_judge.specs.Known.{facts_seen}
 use Rattle.type_judge.specs.Linked.{typedefs_in}

@@ -10,8 +10,8 @@ use Rattle.c_types.specs.Table.{TypeTable, IsTypeId, type_at}
 use Rattle.node_facts.specs.Facts.{name_seen}
 use Rattle.node_facts.specs.Growing.{TypesJoin}
 use Rattle.node_facts.proofs.GrowthLemmas.{id_later, type_later}
-use Rattle.expr_judge.specs.Arguments.{Appends}
-use Rattle.expr_judge.specs.Rows.{IsKnownFailure, failure_seen}
+use Rattle.expression_rows.specs.Arguments.{Appends}
+use Rattle.expression_rows.specs.Rows.{IsKnownFailure, failure_seen}
 use Rattle.type_judge.specs.Found.{AreKnownFailures, found_seen}
 
 module _ (old new : TypeTable) (join : TypesJoin old new) where

@@ -25,7 +25,7 @@ use Rattle.type_judge.specs.Found.{found_seen}
 use Rattle.type_judge.specs.Identities.{names_told, renamed}
 use Rattle.type_judge.specs.Judging.{HasTypeIds, IsJudgedSo, IsPassOver, IsRefusal, IsRefusedFor}
 use Rattle.decl_judge.specs.Units.{nodes_of}
-use Rattle.expr_judge.specs.Rows.{IsKnownFailure, broken_seen, failure_seen}
+use Rattle.expression_rows.specs.Rows.{IsKnownFailure, broken_seen, failure_seen}
 use Rattle.type_judge.proofs.IdentityLemmas.{all_renamed, failures_renamed, found_renamed, nodes_renamed}
 use Rattle.type_judge.proofs.NodeLemmas.{length-nodes}
 

@@ -13,7 +13,7 @@ use Rattle.meaning_typing.specs.Rows.{Converted, Row, both_converted, gives}
 use Rattle.meaning_typing.specs.Specifiers.{type_named}
 use Rattle.c_types.specs.Table.{TypeTable, type_at}
 use Rattle.sparse_model.specs.declared.ids.TypeId.{TypeId}
-use Rattle.expr_judge.specs.Casts.{named_part}
+use Rattle.expression_rows.specs.Casts.{named_part}
 use Rattle.node_facts.specs.Growing.{TypesJoin}
 use Rattle.meaning_typing.specs.Units.{UnitNodes}
 use Rattle.type_judge.specs.declared.operands.TwoOperands.{TwoOperands}

@@ -24,9 +24,9 @@ use Rattle.node_facts.specs.declared.fact.NodeFact.{NodeFact}
 use Rattle.node_facts.specs.declared.fact.NodeFact.TheVariants as facts
 use Rattle.node_facts.specs.Facts.{IsKnownNodeFact, fact_seen, node_seen, nodes_seen, number_in}
 use Rattle.node_facts.specs.Growing.{TypesJoin}
-use Rattle.expr_judge.specs.declared.row.Row as expr
-use Rattle.expr_judge.specs.Rows.{IsKnownRow, told}
-use Rattle.expr_judge.specs.Rows as rows
+use Rattle.expression_rows.specs.declared.row.Row as expr
+use Rattle.expression_rows.specs.Rows.{IsKnownRow, told}
+use Rattle.expression_rows.specs.Rows as rows
 use Rattle.type_judge.specs.declared.known.Known.{Known}
 use Rattle.type_judge.specs.declared.row.NodeRow.{NodeRow}
 use Rattle.type_judge.specs.Constants.{bits_of, whole_constant, with_bits}

@@ -15,10 +15,10 @@ use Rattle.node_facts.specs.declared.expression.ExpressionFact as code
 use Rattle.node_facts.specs.Facts.{IsKnownNodeFact, node_seen, nodes_seen}
 use Rattle.node_facts.specs.Growing.{TypesJoin}
 use Rattle.node_facts.proofs.GrowthLemmas.{fact_later, id_later, type_later}
-use Rattle.expr_judge.specs.declared.call.Argument as calls
-use Rattle.expr_judge.specs.declared.value.Valued.{Valued}
-use Rattle.expr_judge.specs.Arguments.{IsKnownArgument, argument_seen}
-use Rattle.expr_judge.specs.Facts.{IsKnownPart, IsValued, part_seen, valued_part}
+use Rattle.expression_rows.specs.declared.call.Argument as calls
+use Rattle.expression_rows.specs.declared.value.Valued.{Valued}
+use Rattle.expression_rows.specs.Arguments.{IsKnownArgument, argument_seen}
+use Rattle.expression_rows.specs.Facts.{IsKnownPart, IsValued, part_seen, valued_part}
 use Rattle.type_judge.specs.Parts.{expression_in, kept_at, only_arguments, only_expression}
 
 -- What is kept at a handle

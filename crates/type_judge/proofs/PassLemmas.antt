@@ -17,8 +17,8 @@ use Rattle.node_facts.specs.declared.fact.NodeFact.{NodeFact}
 use Rattle.node_facts.specs.Facts.{IsKnownNodeFact, node_seen, nodes_seen}
 use Rattle.node_facts.specs.Growing.{TypesJoin}
 use Rattle.node_facts.proofs.GrowthLemmas.{joins_on, node_known, node_later, nodes_known, nodes_later}
-use Rattle.expr_judge.specs.Arguments.{Appends}
-use Rattle.expr_judge.specs.Rows.{IsKnownFailure, broken_seen}
+use Rattle.expression_rows.specs.Arguments.{Appends}
+use Rattle.expression_rows.specs.Rows.{IsKnownFailure, broken_seen}
 use Rattle.type_judge.specs.declared.known.Known.{Known}
 use Rattle.type_judge.specs.declared.pass.Pass.{Pass}
 use Rattle.type_judge.specs.declared.row.NodeRow.{NodeRow}

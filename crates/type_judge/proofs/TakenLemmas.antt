@@ -4,10 +4,10 @@ use Rattle.sparse_model.specs.declared.failure.Failure.{Failure}
 use Rattle.meaning_typing.specs.Rows.{Row}
 use Rattle.c_types.specs.Table.{TypeTable}
 use Rattle.node_facts.specs.Growing.{TypesJoin}
-use Rattle.expr_judge.specs.declared.row.Row as expr
-use Rattle.expr_judge.specs.Arguments.{Appends, without_failures}
-use Rattle.expr_judge.specs.Rows.{IsKnownRow, told}
-use Rattle.expr_judge.specs.Rows as rows
+use Rattle.expression_rows.specs.declared.row.Row as expr
+use Rattle.expression_rows.specs.Arguments.{Appends, without_failures}
+use Rattle.expression_rows.specs.Rows.{IsKnownRow, told}
+use Rattle.expression_rows.specs.Rows as rows
 use Rattle.type_judge.specs.declared.known.Known.{Known}
 use Rattle.type_judge.specs.declared.row.NodeRow.{NodeRow}
 use Rattle.type_judge.specs.Known.{OnlyTypesJoin}

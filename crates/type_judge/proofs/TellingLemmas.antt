@@ -9,12 +9,12 @@ use Rattle.meaning_rules.specs.Rules.{least_token}
 use Rattle.c_types.specs.Table.{TypeTable}
 use Rattle.node_facts.specs.declared.expression.ExpressionFact.{ExpressionFact}
 use Rattle.node_facts.specs.Facts.{IsKnownNodeFact, node_seen}
-use Rattle.expr_judge.specs.declared.row.Row as expr
-use Rattle.expr_judge.specs.declared.row.RowFailures.{RowFailures}
-use Rattle.expr_judge.specs.Arguments.{Appends, listed_failure}
-use Rattle.expr_judge.specs.Facts.{IsKnownPart, part_seen}
-use Rattle.expr_judge.specs.Rows.{IsKnownFailure, IsKnownRow, Told, failure_listed, failure_seen, failures_seen, told}
-use Rattle.expr_judge.specs.Rows as rows
+use Rattle.expression_rows.specs.declared.row.Row as expr
+use Rattle.expression_rows.specs.declared.row.RowFailures.{RowFailures}
+use Rattle.expression_rows.specs.Arguments.{Appends, listed_failure}
+use Rattle.expression_rows.specs.Facts.{IsKnownPart, part_seen}
+use Rattle.expression_rows.specs.Rows.{IsKnownFailure, IsKnownRow, Told, failure_listed, failure_seen, failures_seen, told}
+use Rattle.expression_rows.specs.Rows as rows
 use Rattle.type_judge.specs.declared.known.Known.{Known}
 use Rattle.type_judge.specs.declared.row.NodeRow.{NodeRow}
 use Rattle.type_judge.specs.Known.{OnlyTypesJoin}

@@ -8,7 +8,7 @@ use Rattle.meaning_typing.specs.Typing.{AreFacts, broken_at, failures_at, passed
 use Rattle.meaning_typing.specs.Units.{UnitNodes}
 use Rattle.meaning_rules.specs.Rules.{Judgement, Holds, BreaksConstraint, PassesObjectSize, IsJudged, IsJudgement, gathered, least_broken, least_token}
 use Rattle.node_facts.specs.Facts.{IsKnownNodeFact, nodes_seen}
-use Rattle.expr_judge.specs.Rows.{broken_seen}
+use Rattle.expression_rows.specs.Rows.{broken_seen}
 use Rattle.type_judge.specs.declared.fault.JudgeFault.{JudgeFault}
 use Rattle.type_judge.specs.declared.fault.JudgeFault.TheVariants as faults
 use Rattle.type_judge.specs.declared.judging.Judged.{Judged}

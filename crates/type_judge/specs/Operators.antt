@@ -10,7 +10,7 @@ use Rattle.meaning_typing.specs.Rows.{Row}
 use Rattle.meaning_typing.specs.Typing.{first_fact, part_fact, part_token, token_at, value_of_statement}
 use Rattle.meaning_typing.specs.Units.{UnitNodes}
 use Rattle.c_types.specs.Table.{TypeTable}
-use Rattle.expr_judge.specs.Facts.{IsValued, valued_part}
+use Rattle.expression_rows.specs.Facts.{IsValued, valued_part}
 use Rattle.type_judge.specs.declared.operands.OneOperand.{OneOperand}
 use Rattle.type_judge.specs.declared.operands.TwoOperands.{TwoOperands}
 use Rattle.type_judge.specs.Parts.{only_expression}

@@ -17,10 +17,10 @@ use Rattle.node_facts.specs.declared.expression.ExpressionFact.{ExpressionFact}
 use Rattle.node_facts.specs.declared.fact.NodeFact.{NodeFact}
 use Rattle.node_facts.specs.declared.fact.NodeFact.TheVariants as facts
 use Rattle.node_facts.specs.Facts.{IsKnownNodeFact, node_seen}
-use Rattle.expr_judge.specs.declared.row.Row as expr
-use Rattle.expr_judge.specs.declared.row.RowFailures.{RowFailures}
-use Rattle.expr_judge.specs.Arguments.{Appends, listed_failure}
-use Rattle.expr_judge.specs.Rows.{broken_seen}
+use Rattle.expression_rows.specs.declared.row.Row as expr
+use Rattle.expression_rows.specs.declared.row.RowFailures.{RowFailures}
+use Rattle.expression_rows.specs.Arguments.{Appends, listed_failure}
+use Rattle.expression_rows.specs.Rows.{broken_seen}
 use Rattle.type_judge.specs.declared.known.Known.{Known}
 use Rattle.type_judge.specs.declared.row.NodeRow.{NodeRow}
 use Rattle.type_judge.specs.Known.{OnlyTypesJoin}

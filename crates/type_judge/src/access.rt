@@ -3,12 +3,12 @@ ghost use Rattle.std.specs.Prelude.{◌≡◌, OnOk};
 ghost use Rattle.meaning_typing.specs.Typing as meaning;
 ghost use Rattle.node_facts.specs.Facts.{IsKnownNodeFact, node_seen};
 ghost use Rattle.node_surroundings.specs.Seen.{surrounding_seen, want_seen};
-ghost use Rattle.expr_judge.specs.Arguments.{Appends};
+ghost use Rattle.expression_rows.specs.Arguments.{Appends};
 ghost use Rattle.type_judge.specs.Parts.{expression_in};
 
 use crate::row::append;
 use c_types::Types;
-use expr_judge::judge_access;
+use expression_rows::judge_access;
 use node_facts::{ExpressionFact, NodeFact};
 use node_surroundings::{Surrounding, Want};
 use sparse_model::FailureList;

@@ -11,7 +11,7 @@ use crate::known::Known;
 use crate::row::{NodeRow, take_row};
 use c_tree::{Handle, Unit};
 use decl_judge::{child_at, is_forced, token_at};
-use expr_judge::judge_cast;
+use expression_rows::judge_cast;
 use node_facts::NodeFact;
 use sparse_model::{FailureList, TypeId};
 use std::alloc::AllocError;

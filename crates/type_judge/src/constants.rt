@@ -20,7 +20,7 @@ use crate::row::{NodeRow, fact_of};
 use c_tree::{Handle, Unit};
 use const_fold::{Folded, fold};
 use decl_judge::child_at;
-use expr_judge::judge_literal;
+use expression_rows::judge_literal;
 use node_facts::NodeFact;
 use sparse_model::IntKind;
 use std::alloc::AllocError;

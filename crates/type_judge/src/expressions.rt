@@ -14,7 +14,7 @@ use crate::known::Known;
 use crate::row::{NodeRow, take_row};
 use c_tree::{Handle, Unit};
 use decl_judge::{child_at, token_at};
-use expr_judge::{
+use expression_rows::{
     SubscriptTokens, judge_address, judge_assignment, judge_indirection, judge_name, judge_string,
     judge_subscript,
 };

@@ -2,7 +2,7 @@
 ghost use Rattle.std.specs.Prelude.{◌≡◌};
 ghost use Rattle.type_judge.specs.declared.fault.JudgeFault.TheVariants.{Memory};
 
-use expr_judge::Broken;
+use expression_rows::Broken;
 use sparse_model::LimitKind;
 use std::alloc::AllocError;
 use thiserror::Error;

@@ -3,7 +3,7 @@ ghost use Rattle.std.specs.Prelude.{◌≡◌, IfErr, IfNone, IfOk, IfSome, None
 ghost use Rattle.meaning_rules.specs.Rules.{first_refusal};
 ghost use Rattle.meaning_tree.specs.Laid.{IsLaid};
 ghost use Rattle.decl_judge.specs.Units.{nodes_of};
-ghost use Rattle.expr_judge.specs.Rows.{broken_seen};
+ghost use Rattle.expression_rows.specs.Rows.{broken_seen};
 ghost use Rattle.type_judge.specs.Judging.{HasTypeIds, IsJudgedSo, IsRefusal, IsRefusedFor};
 
 use crate::fault::JudgeFault;
@@ -11,7 +11,7 @@ use crate::identities::name_identities;
 use crate::pass::{Pass, judge_nodes};
 use c_tree::Unit;
 use c_types::Types;
-use expr_judge::Broken;
+use expression_rows::Broken;
 use failure_listing::in_order;
 use node_facts::NodeFacts;
 use node_surroundings::surroundings_of;

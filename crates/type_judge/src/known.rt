@@ -7,7 +7,7 @@ ghost use Rattle.c_types.specs.Table.{Extends, IsTypeId};
 ghost use Rattle.node_facts.specs.declared.fact.NodeFact.TheVariants as facts;
 ghost use Rattle.node_facts.specs.Facts.{IsKnownNodeFact};
 ghost use Rattle.node_facts.specs.Growing.{TypesJoin};
-ghost use Rattle.expr_judge.specs.Facts.{IsValued, valued_part};
+ghost use Rattle.expression_rows.specs.Facts.{IsValued, valued_part};
 ghost use Rattle.type_judge.specs.Known.{OnlyTypesJoin, facts_seen};
 ghost use Rattle.type_judge.specs.Linked.{linked_in, typedef_of};
 ghost use Rattle.type_judge.specs.Parts.{expression_in, kept_at, only_expression};
@@ -15,7 +15,7 @@ ghost use Rattle.type_judge.specs.Parts.{expression_in, kept_at, only_expression
 use crate::access::expression_of;
 use c_tree::Handle;
 use c_types::Types;
-use expr_judge::{Valued, with_value};
+use expression_rows::{Valued, with_value};
 use linked_names::{LinkedNames, TypedefNames};
 use node_facts::{DeclaredFact, ExpressionFact, NodeFact, NodeFacts};
 use std::alloc::{AllocError, Global};

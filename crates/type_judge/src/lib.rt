@@ -27,6 +27,6 @@ mod rows;
 mod selections;
 mod statements;
 
-pub use expr_judge::Broken;
+pub use expression_rows::Broken;
 pub use fault::JudgeFault;
 pub use judging::{Judged, judge};

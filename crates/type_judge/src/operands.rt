@@ -7,7 +7,7 @@ ghost use Rattle.type_judge.specs.Operators.{AreOperandsOf, IsOperandOf};
 use crate::known::Known;
 use c_tree::{Handle, Unit};
 use decl_judge::{child_at, token_at};
-use expr_judge::{BinaryTokens, Valued};
+use expression_rows::{BinaryTokens, Valued};
 use std::alloc::AllocError;
 
 /// The first operand of an operator, and the tokens at which both stand.

@@ -11,7 +11,7 @@ use crate::operands::{operand_of, operands_of};
 use crate::row::{NodeRow, take_row};
 use c_tree::{Handle, Unit};
 use decl_judge::{child_at, token_at};
-use expr_judge::{
+use expression_rows::{
     Argument, judge_binary, judge_comma, judge_compound, judge_expect, judge_logical, judge_not,
     judge_size, judge_step_before, judge_step_behind, judge_unary,
 };

@@ -12,7 +12,7 @@ use crate::known::Known;
 use crate::row::lowest;
 use crate::rows::judge_node;
 use c_tree::{Handle, Unit};
-use expr_judge::{Broken, lesser};
+use expression_rows::{Broken, lesser};
 use node_surroundings::Surroundings;
 use sparse_model::FailureList;
 use std::alloc::{AllocError, Global};

@@ -1,10 +1,10 @@
 // What the row of a node says.
 ghost use Rattle.std.specs.Prelude.{◌≡◌, ◌++◌, IfOk, OnOk};
-ghost use Rattle.expr_judge.specs.Arguments.{listed_failure};
+ghost use Rattle.expression_rows.specs.Arguments.{listed_failure};
 ghost use Rattle.type_judge.specs.Least.{lowest};
 ghost use Rattle.type_judge.specs.Rows.{fact_of_part, known_row, listed_failures, node_row};
 
-use expr_judge::{Broken, Row};
+use expression_rows::{Broken, Row};
 use node_facts::{ExpressionFact, NodeFact};
 use sparse_model::{Failure, FailureList};
 use std::alloc::AllocError;

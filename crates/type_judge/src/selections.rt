@@ -6,7 +6,7 @@ ghost use Rattle.meaning_typing.specs.Typing as meaning;
 ghost use Rattle.meaning_typing.specs.Typing.{operation_row};
 ghost use Rattle.meaning_typing.specs.Units.{node_at as node_of};
 ghost use Rattle.decl_judge.specs.Units.{handles_of, nodes_of};
-ghost use Rattle.expr_judge.specs.Parts.{IsKnownReturn, returned_seen};
+ghost use Rattle.expression_rows.specs.Parts.{IsKnownReturn, returned_seen};
 ghost use Rattle.type_judge.specs.Known.{IsWhole, OnlyTypesJoin, facts_seen};
 ghost use Rattle.type_judge.specs.Operators.{conditional_with, conditional_without, value_in};
 ghost use Rattle.type_judge.specs.Parts.{only_expression};
@@ -18,7 +18,7 @@ use crate::row::{NodeRow, take_row};
 use crate::statements::returned_among;
 use c_tree::{Handle, Node, Unit};
 use decl_judge::{child_at, node_at, token_at};
-use expr_judge::{ConditionalTokens, Returned, judge_conditional, judge_statement_expression};
+use expression_rows::{ConditionalTokens, Returned, judge_conditional, judge_statement_expression};
 use sparse_model::{FailureList, NodeKind};
 use std::alloc::AllocError;
 

@@ -3,8 +3,8 @@ use Rattle.std.proofs.Common.{refl, sym, subst, ◌∙◌}
 use Rattle.std.proofs.lemmas.Result.{IfOk-weaker}
 use Rattle.meaning_typing.specs.Typing.{access_failures}
 use Rattle.node_surroundings.specs.Seen.{surrounding_seen}
-use Rattle.expr_judge.specs.Arguments.{listed_failure}
-use Rattle.expr_judge.specs.Facts.{IsKnownPart, part_seen}
+use Rattle.expression_rows.specs.Arguments.{listed_failure}
+use Rattle.expression_rows.specs.Facts.{IsKnownPart, part_seen}
 use Rattle.type_judge.proofs.AccessLemmas.{access_is}
 use Rattle.type_judge.proofs.PartLemmas.{expression-known}
 use Rattle.type_judge.proofs.TellingLemmas.{one_known, one_listed}

@@ -4,8 +4,8 @@ use Rattle.meaning_typing.specs.Expressions.{Argument}
 use Rattle.meaning_typing.specs.Facts.{fact_at}
 use Rattle.meaning_typing.specs.Typing.{argument_at, token_at}
 use Rattle.decl_judge.specs.Units.{handles_of, nodes_of}
-use Rattle.expr_judge.specs.declared.call.Argument as calls
-use Rattle.expr_judge.specs.Arguments.{argument_seen}
+use Rattle.expression_rows.specs.declared.call.Argument as calls
+use Rattle.expression_rows.specs.Arguments.{argument_seen}
 use Rattle.type_judge.specs.Known.{facts_seen}
 use Rattle.type_judge.specs.Parts.{only_arguments, only_expression}
 use Rattle.type_judge.proofs.KnownLemmas.{facts_later, only_on, whole_later}

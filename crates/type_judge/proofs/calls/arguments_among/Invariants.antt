@@ -2,7 +2,7 @@
 use Rattle.std.proofs.Common.{◌≡◌, ◌++◌, All, drop, map}
 use Rattle.meaning_typing.specs.Typing.{argument_at}
 use Rattle.decl_judge.specs.Units.{handles_of, nodes_of}
-use Rattle.expr_judge.specs.Arguments.{IsKnownArgument, argument_seen}
+use Rattle.expression_rows.specs.Arguments.{IsKnownArgument, argument_seen}
 use Rattle.type_judge.specs.Known.{OnlyTypesJoin, facts_seen}
 use Rattle.type_judge.specs.Parts.{only_arguments}
 use Rattle.type_judge.proofs.calls.arguments_among.Given as goal

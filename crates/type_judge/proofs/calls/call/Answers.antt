@@ -6,9 +6,9 @@ use Rattle.meaning_typing.specs.Typing.{argument_at, token_at}
 use Rattle.meaning_typing.specs.Units.{child_at, children_from}
 use Rattle.c_tree.specs.Seen.{node_of}
 use Rattle.decl_judge.specs.Units.{handles_of, nodes_of}
-use Rattle.expr_judge.specs.Arguments.{Appends, argument_seen, without_failures}
-use Rattle.expr_judge.specs.Facts.{valued_part}
-use Rattle.expr_judge.specs.Rows.{told}
+use Rattle.expression_rows.specs.Arguments.{Appends, argument_seen, without_failures}
+use Rattle.expression_rows.specs.Facts.{valued_part}
+use Rattle.expression_rows.specs.Rows.{told}
 use Rattle.type_judge.specs.declared.known.Known.{Known}
 use Rattle.type_judge.specs.Known.{facts_seen}
 use Rattle.type_judge.specs.Parts.{only_arguments, only_expression}

@@ -10,8 +10,8 @@ use Rattle.c_types.specs.Table.{IsTypeId, type_at}
 use Rattle.decl_judge.specs.Asked.{named_in}
 use Rattle.decl_judge.specs.Units.{nodes_of}
 use Rattle.decl_judge.proofs.AskedLemmas.{named_at_known, named_at_told}
-use Rattle.expr_judge.specs.Casts.{named_part}
-use Rattle.expr_judge.specs.Facts.{valued_part}
+use Rattle.expression_rows.specs.Casts.{named_part}
+use Rattle.expression_rows.specs.Facts.{valued_part}
 use Rattle.type_judge.specs.Known.{facts_seen}
 use Rattle.type_judge.specs.Parts.{only_expression}
 use Rattle.type_judge.proofs.KnownLemmas.{facts_later, whole_later}

@@ -4,7 +4,7 @@ use Rattle.meaning_typing.specs.Names.{name_row}
 use Rattle.meaning_typing.specs.Units.{node_at}
 use Rattle.c_tree.specs.Seen.{node_of}
 use Rattle.decl_judge.specs.Units.{nodes_of}
-use Rattle.expr_judge.specs.Rows.{told}
+use Rattle.expression_rows.specs.Rows.{told}
 use Rattle.type_judge.specs.Known.{facts_seen}
 use Rattle.type_judge.proofs.KnownLemmas.{only_none}
 use Rattle.type_judge.proofs.NodeLemmas.{node-is}

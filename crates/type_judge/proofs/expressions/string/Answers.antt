@@ -3,7 +3,7 @@ use Rattle.meaning_typing.specs.Expressions.{string_row}
 use Rattle.meaning_typing.specs.Units.{node_at}
 use Rattle.c_tree.specs.Seen.{node_of}
 use Rattle.decl_judge.specs.Units.{nodes_of}
-use Rattle.expr_judge.specs.Rows.{told}
+use Rattle.expression_rows.specs.Rows.{told}
 use Rattle.type_judge.specs.declared.known.Known.{Known}
 use Rattle.type_judge.proofs.NodeLemmas.{node-is}
 use Rattle.type_judge.proofs.TakenLemmas.{only_types, row_taken}

@@ -4,8 +4,8 @@ use Rattle.meaning_typing.specs.Facts.{fact_at}
 use Rattle.meaning_typing.specs.Typing.{token_at}
 use Rattle.meaning_typing.specs.Units.{child_at}
 use Rattle.decl_judge.specs.Units.{nodes_of}
-use Rattle.expr_judge.specs.Facts.{valued_part}
-use Rattle.expr_judge.specs.Rows.{told}
+use Rattle.expression_rows.specs.Facts.{valued_part}
+use Rattle.expression_rows.specs.Rows.{told}
 use Rattle.type_judge.specs.Known.{facts_seen}
 use Rattle.type_judge.specs.Parts.{only_expression}
 use Rattle.type_judge.proofs.PartLemmas.{subscript_only}

@@ -1,6 +1,6 @@
 use Rattle.std.proofs.Common.{◌≡◌, ℕ, List, map, IfOk, option_map, ap, subst}
 use Rattle.meaning_tree.specs.Nodes.{TreeNode}
-use Rattle.expr_judge.specs.Parts.{returned_seen}
+use Rattle.expression_rows.specs.Parts.{returned_seen}
 use Rattle.type_judge.specs.Known.{facts_seen}
 use Rattle.type_judge.specs.Operators.{value_in}
 use Rattle.type_judge.specs.Parts.{only_expression}

@@ -3,7 +3,7 @@ use Rattle.meaning_typing.specs.Operators.{statement_expression_row}
 use Rattle.meaning_typing.specs.Typing.{last_statement, last_value}
 use Rattle.meaning_typing.specs.Units.{child_at}
 use Rattle.decl_judge.specs.Units.{nodes_of}
-use Rattle.expr_judge.specs.Parts.{returned_seen}
+use Rattle.expression_rows.specs.Parts.{returned_seen}
 use Rattle.type_judge.specs.Known.{facts_seen}
 use Rattle.type_judge.specs.Parts.{only_expression}
 use Rattle.type_judge.proofs.OperandLemmas.{statement_only}

@@ -4,7 +4,7 @@ use Rattle.vocabulary.specs.declared.node_kind.NodeKind.TheVariants as kinds
 use Rattle.meaning_typing.specs.Facts.{Fact}
 use Rattle.meaning_typing.specs.Typing.{value_of_statement}
 use Rattle.decl_judge.specs.Units.{handles_of}
-use Rattle.expr_judge.specs.Parts.{returned_seen}
+use Rattle.expression_rows.specs.Parts.{returned_seen}
 use Rattle.type_judge.specs.Known.{facts_seen}
 use Rattle.type_judge.specs.Operators.{value_in}
 use Rattle.type_judge.specs.Parts.{only_expression}

@@ -3,7 +3,7 @@ use Rattle.meaning_typing.specs.Conditionals.{conditional_row}
 use Rattle.meaning_typing.specs.Facts.{fact_at}
 use Rattle.meaning_typing.specs.Typing.{part_fact, part_token, token_at}
 use Rattle.decl_judge.specs.Units.{nodes_of}
-use Rattle.expr_judge.specs.Facts.{valued_part}
+use Rattle.expression_rows.specs.Facts.{valued_part}
 use Rattle.type_judge.specs.Known.{facts_seen}
 use Rattle.type_judge.specs.Operators.{conditional_with}
 use Rattle.type_judge.specs.Parts.{only_expression}

@@ -5,8 +5,8 @@ use Rattle.meaning_typing.specs.Units.{child_at, children_at}
 use Rattle.c_tree.specs.Seen.{node_of}
 use Rattle.c_types.specs.Table.{type_at}
 use Rattle.decl_judge.specs.Units.{handles_of, nodes_of}
-use Rattle.expr_judge.specs.Parts.{returned_seen}
-use Rattle.expr_judge.specs.Rows.{told}
+use Rattle.expression_rows.specs.Parts.{returned_seen}
+use Rattle.expression_rows.specs.Rows.{told}
 use Rattle.type_judge.specs.Known.{facts_seen}
 use Rattle.type_judge.specs.Parts.{only_expression}
 use Rattle.type_judge.proofs.GrowthLemmas.{types_later}

@@ -3,8 +3,8 @@ use Rattle.meaning_typing.specs.Facts.{fact_at}
 use Rattle.c_types.specs.Table.{IsTypeId}
 use Rattle.node_facts.specs.declared.declared.DeclaredFact.{DeclaredFact}
 use Rattle.node_facts.specs.Facts.{declared_seen}
-use Rattle.expr_judge.specs.declared.name.DeclaredName.{DeclaredName}
-use Rattle.expr_judge.specs.Names.{IsNamed, IsNamedIf, declared_by}
+use Rattle.expression_rows.specs.declared.name.DeclaredName.{DeclaredName}
+use Rattle.expression_rows.specs.Names.{IsNamed, IsNamedIf, declared_by}
 use Rattle.type_judge.specs.Known.{facts_seen}
 use Rattle.type_judge.proofs.DeclaredLemmas.{declared_at, declared_known}
 use Rattle.type_judge.proofs.known.Known.named_by.Goals as goal

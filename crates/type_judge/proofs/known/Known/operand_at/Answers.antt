@@ -1,6 +1,6 @@
 -- What is known of the node, with the type of its value.
 use Rattle.std.proofs.Common.{sym, subst, ◌∙◌}
-use Rattle.expr_judge.specs.Facts.{IsKnownPart}
+use Rattle.expression_rows.specs.Facts.{IsKnownPart}
 use Rattle.type_judge.proofs.PartLemmas.{operand_is, part_known}
 use Rattle.type_judge.proofs.known.Known.operand_at.Goals as goal
 

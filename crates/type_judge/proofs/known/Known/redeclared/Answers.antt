@@ -1,6 +1,6 @@
 use Rattle.std.proofs.Common.{None, Some, option_map, sym, ap, ◌∙◌}
 use Rattle.c_types.specs.Table.{type_at}
-use Rattle.expr_judge.specs.Rows.{failure_listed}
+use Rattle.expression_rows.specs.Rows.{failure_listed}
 use Rattle.type_judge.proofs.LinkedLemmas.{from_not, redeclarations-are}
 use Rattle.type_judge.proofs.known.Known.redeclared.Goals as goal
 

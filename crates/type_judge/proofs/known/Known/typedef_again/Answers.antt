@@ -3,7 +3,7 @@ use Rattle.vocabulary.specs.declared.error_kind.ErrorKind.TheVariants.{TypedefHa
 use Rattle.meaning_typing.specs.Rows.{breaks_named}
 use Rattle.meaning_rules.specs.Rules.{least_broken}
 use Rattle.node_facts.specs.Facts.{name_seen}
-use Rattle.expr_judge.specs.Rows.{broken_seen}
+use Rattle.expression_rows.specs.Rows.{broken_seen}
 use Rattle.type_judge.proofs.DeclaredLemmas.{again_by}
 use Rattle.type_judge.proofs.LinkedLemmas.{from_not}
 use Rattle.type_judge.proofs.known.Known.typedef_again.Goals as goal

@@ -6,7 +6,7 @@ use Rattle.meaning_typing.specs.Typing.{access_failures}
 use Rattle.node_facts.specs.Facts.{node_seen}
 use Rattle.node_surroundings.specs.Seen.{surrounding_seen, surroundings_seen}
 use Rattle.decl_judge.specs.Units.{nodes_of}
-use Rattle.expr_judge.specs.Arguments.{Appends}
+use Rattle.expression_rows.specs.Arguments.{Appends}
 use Rattle.type_judge.specs.declared.pass.Pass.{Pass}
 use Rattle.type_judge.specs.Judging.{IsPassOver}
 use Rattle.type_judge.specs.Linked.{typedef_of}

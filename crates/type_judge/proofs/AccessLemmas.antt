@@ -7,7 +7,7 @@ use Rattle.node_facts.specs.declared.fact.NodeFact.{NodeFact}
 use Rattle.node_facts.specs.declared.fact.NodeFact.TheVariants as facts
 use Rattle.node_facts.specs.Facts.{node_seen}
 use Rattle.expression_rows.specs.Facts.{part_seen}
-use Rattle.type_judge.specs.Parts.{expression_in}
+use Rattle.expr_judge.specs.Parts.{expression_in}
 
 pub access_is : (table : TypeTable) (token : ℕ) (surrounding : Surrounding) (fact : NodeFact)
     → access_failures token surrounding (part_seen table (expression_in fact)) ≡ access_failures token surrounding (node_seen table fact)

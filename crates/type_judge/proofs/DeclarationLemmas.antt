@@ -27,12 +27,14 @@ use Rattle.expression_rows.specs.Parts.{unless}
 use Rattle.expression_rows.specs.Rows.{IsKnownFailure, broken_seen, failure_listed}
 use Rattle.expression_rows.proofs.LeastLemmas.{unless_told}
 use Rattle.type_judge.specs.declared.known.Known.{Known}
-use Rattle.type_judge.specs.declared.row.NodeRow.{NodeRow}
+use Rattle.expr_judge.specs.declared.row.NodeRow.{NodeRow}
 use Rattle.type_judge.specs.Known.{OnlyTypesJoin, facts_seen}
-use Rattle.type_judge.specs.Parts.{declaration_in}
-use Rattle.type_judge.specs.Rows.{SaysOnly, Tells, known_row, redeclaration_row, row_seen}
+use Rattle.expr_judge.specs.Parts.{declaration_in}
+use Rattle.expr_judge.specs.Rows.{SaysOnly, known_row, row_seen}
+use Rattle.type_judge.specs.Rows.{Tells, redeclaration_row}
 use Rattle.type_judge.proofs.KnownLemmas.{only_none}
-use Rattle.type_judge.proofs.TellingLemmas.{one_known, one_listed, tells_only}
+use Rattle.expr_judge.proofs.TellingLemmas.{one_known, one_listed}
+use Rattle.type_judge.proofs.ToldLemmas.{tells_only}
 
 -- a node of which nothing but this is said
 pub says_known : (table : TypeTable) (row : NodeRow) (fact : NodeFact) (meant : Fact) → row ≡ known_row fact → node_seen table fact ≡ meant

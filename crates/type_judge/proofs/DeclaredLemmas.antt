@@ -1,5 +1,5 @@
 -- What is asked of what is known of a declarator is what the definitions ask.
-use Rattle.std.proofs.Common.{◌≡◌, ◌↔◌, ℕ, Bool, true, IsTrue, List, [], All, Option, Some, None, IfSome, if◌then◌else◌, option_map, refl, sym, ap, ◌∙◌}
+use Rattle.std.proofs.Common.{◌≡◌, ◌↔◌, ℕ, Bool, true, IsTrue, List, [], Option, Some, None, if◌then◌else◌, option_map, refl, sym, ap, ◌∙◌}
 use Rattle.std.proofs.lemmas.Bool.Decides.{same_from_decides}
 use Rattle.sparse_model.specs.declared.ids.TypeId.{TypeId}
 use Rattle.meaning_types.specs.Types.{TypeTree}
@@ -11,11 +11,10 @@ use Rattle.meaning_typing.specs.Names.{first_typedef, typedef_differs, typedefs_
 use Rattle.meaning_typing.specs.Statements as statements
 use Rattle.meaning_typing.specs.Surroundings.{Surrounding}
 use Rattle.meaning_rules.specs.Rules.{least_broken}
-use Rattle.c_types.specs.Table.{TypeTable, IsTypeId, type_at}
+use Rattle.c_types.specs.Table.{type_at}
 use Rattle.node_facts.specs.declared.declared.DeclaredFact.{DeclaredFact}
-use Rattle.node_facts.specs.declared.fact.NodeFact.{NodeFact}
 use Rattle.node_facts.specs.declared.fact.NodeFact.TheVariants as facts
-use Rattle.node_facts.specs.Facts.{IsKnownNodeFact, declared_seen, node_seen, nodes_seen}
+use Rattle.node_facts.specs.Facts.{declared_seen}
 use Rattle.linked_names.specs.Typedefs.{first_of}
 use Rattle.expression_rows.specs.declared.row.Broken as code
 use Rattle.expression_rows.specs.Names.{declared_by}
@@ -23,32 +22,7 @@ use Rattle.expression_rows.specs.Rows.{broken_seen}
 use Rattle.type_judge.specs.declared.known.Known.{Known}
 use Rattle.type_judge.specs.Known.{facts_seen}
 use Rattle.type_judge.specs.Linked.{typedefs_in}
-use Rattle.type_judge.specs.Parts.{declaration_in, kept_at}
 use Rattle.type_judge.proofs.LinkedLemmas.{first_typedef-is}
-use Rattle.type_judge.proofs.PartLemmas.{kept-is, known_at}
-
-module _ (table : TypeTable) where
-  declaration-seen : (fact : NodeFact) → option_map (declared_seen table) (declaration_in fact) ≡ declared_by (node_seen table fact)
-  declaration-seen facts.Unknown = refl
-  declaration-seen (facts.Expression expression) = refl
-  declaration-seen (facts.Specified specifiers) = refl
-  declaration-seen (facts.Declared declaration) = refl
-  declaration-seen (facts.NamedType of) = refl
-
-  declaration-known : (fact : NodeFact) → IsKnownNodeFact table fact → IfSome (declaration_in fact) (λ declaration. IsTypeId table declaration.of)
-  declaration-known facts.Unknown known = tt
-  declaration-known (facts.Expression expression) known = tt
-  declaration-known (facts.Specified specifiers) known = tt
-  declaration-known (facts.Declared declaration) known = known
-  declaration-known (facts.NamedType of) known = tt
-
-  module _ (kept : List NodeFact) (handle : ℕ) where
-    -- the declaration at a handle
-    pub declared_at : option_map (declared_seen table) (declaration_in (kept_at kept handle)) ≡ declared_by (meaning.fact_at (nodes_seen table kept) handle)
-    declared_at = declaration-seen (kept_at kept handle) ∙ ap declared_by (kept-is table kept handle)
-
-    pub declared_known : All (IsKnownNodeFact table) kept → IfSome (declaration_in (kept_at kept handle)) (λ declaration. IsTypeId table declaration.of)
-    declared_known known = declaration-known (kept_at kept handle) (known_at table kept handle known)
 
 -- What a declaration declares
 

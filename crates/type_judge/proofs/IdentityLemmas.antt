@@ -12,9 +12,9 @@ use Rattle.node_facts.specs.declared.fact.NodeFact.{NodeFact}
 use Rattle.node_facts.specs.declared.fact.NodeFact.TheVariants as facts
 use Rattle.node_facts.specs.Facts.{IsKnownNodeFact, name_seen, node_seen, nodes_seen}
 use Rattle.decl_judge.specs.Units.{nodes_of}
-use Rattle.type_judge.specs.Found.{AreKnownFailures, found_seen}
+use Rattle.expr_judge.specs.Found.{AreKnownFailures, found_seen}
 use Rattle.type_judge.specs.Identities.{declared_name, renamed, with_identity, with_node}
-use Rattle.type_judge.proofs.NodeLemmas.{node-is}
+use Rattle.expr_judge.proofs.NodeLemmas.{node-is}
 
 -- what a node tells, by its own name and the token of the node above
 pub node_tells :

@@ -21,13 +21,13 @@ use Rattle.type_judge.specs.declared.fault.JudgeFault.{JudgeFault}
 use Rattle.type_judge.specs.declared.fault.JudgeFault.TheVariants as faults
 use Rattle.type_judge.specs.declared.judging.Judged.{Judged}
 use Rattle.type_judge.specs.declared.pass.Pass.{Pass}
-use Rattle.type_judge.specs.Found.{found_seen}
+use Rattle.expr_judge.specs.Found.{found_seen}
 use Rattle.type_judge.specs.Identities.{names_told, renamed}
 use Rattle.type_judge.specs.Judging.{HasTypeIds, IsJudgedSo, IsPassOver, IsRefusal, IsRefusedFor}
 use Rattle.decl_judge.specs.Units.{nodes_of}
 use Rattle.expression_rows.specs.Rows.{IsKnownFailure, broken_seen, failure_seen}
 use Rattle.type_judge.proofs.IdentityLemmas.{all_renamed, failures_renamed, found_renamed, nodes_renamed}
-use Rattle.type_judge.proofs.NodeLemmas.{length-nodes}
+use Rattle.expr_judge.proofs.NodeLemmas.{length-nodes}
 
 -- what the first refusal says of a unit
 refused_as :

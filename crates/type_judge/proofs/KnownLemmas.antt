@@ -16,7 +16,9 @@ use Rattle.linked_names.proofs.GrowthLemmas.{Extends-twice}
 use Rattle.node_facts.specs.declared.fact.NodeFact.{NodeFact}
 use Rattle.node_facts.specs.declared.fact.NodeFact.TheVariants as facts
 use Rattle.node_facts.specs.Facts.{IsKnownNodeFact, node_seen, nodes_seen}
+use Rattle.node_facts.specs.Growing.{TypesJoin}
 use Rattle.node_facts.proofs.GrowthLemmas.{joins_none, joins_on, nodes_known, nodes_later}
+use Rattle.expr_judge.specs.Whole as parts
 use Rattle.type_judge.specs.declared.known.Known.{Known}
 use Rattle.type_judge.specs.Known.{IsKnownOf, IsWhole, OnlyTypesJoin, facts_seen}
 use Rattle.type_judge.specs.Linked.{linked_in, one_if, typedef_of, typedefs_in}
@@ -31,6 +33,10 @@ only_on a b c first second =
       linked = second.linked ∙ first.linked;
       typedefs = second.typedefs ∙ first.typedefs;
     }
+
+-- the table of types alone is another
+pub only_types : (old : Known) (types : TypeTable) → TypesJoin old.types types → OnlyTypesJoin old (record old { types = types })
+only_types old types join = record { types = join; facts = refl; linked = refl; typedefs = refl }
 
 pub only_none : (a : Known) → OnlyTypesJoin a a
 only_none a = record { types = joins_none a.types; facts = refl; linked = refl; typedefs = refl }
@@ -66,6 +72,11 @@ module _ (old new : Known) (only : OnlyTypesJoin old new) where
         whole = whole_later known.whole;
         typedefs = only.typedefs ∙ known.typedefs ∙ ap (typedefs_in surroundings) (sym only.facts);
       }
+
+-- What is handed in of it where an expression is judged
+
+pub handed_in : (known : Known) → IsWhole known → parts.IsWhole known.types known.facts
+handed_in known whole = record { ids = whole.ids; layouts = whole.layouts }
 
 -- Of how many nodes something is known
 

@@ -1,6 +1,5 @@
 -- Declarations among what is kept of nodes are those that the definitions find among facts.
-use Rattle.std.proofs.Common.{◌≡◌, ℕ, Bool, true, false, ◌&&◌, not, nat_eq, bytes_eq, List, [], ◌∷◌, All, Option, Some, None, IfSome, if◌then◌else◌, option_map, refl, sym, ap, subst, ◌∙◌, arith}
-use Rattle.std.proofs.lemmas.Bool.Decides.{nat_tests}
+use Rattle.std.proofs.Common.{◌≡◌, ℕ, Bool, true, false, ◌&&◌, not, nat_eq, bytes_eq, List, [], ◌∷◌, All, Option, Some, None, IfSome, if◌then◌else◌, option_map, refl, sym, ap, subst, ◌∙◌}
 use Rattle.std.proofs.lemmas.List.Elements.{All-cons, All-head, All-nil, All-tail}
 use Rattle.sparse_model.specs.declared.ids.NameId.{NameId}
 use Rattle.sparse_model.specs.declared.ids.TypeId.{TypeId}
@@ -15,6 +14,7 @@ use Rattle.node_facts.specs.declared.fact.NodeFact.TheVariants as facts
 use Rattle.node_facts.specs.Facts.{IsKnownNodeFact, declared_seen, name_seen, nodes_seen}
 use Rattle.node_facts.specs.Growing.{TypesJoin}
 use Rattle.node_facts.proofs.GrowthLemmas.{id_later}
+use Rattle.expr_judge.proofs.NameLemmas.{name_same}
 use Rattle.linked_names.specs.declared.declaration.Linked.{Linked}
 use Rattle.linked_names.specs.declared.declaration.Typedef.{Typedef}
 use Rattle.linked_names.specs.Linked.{AreTypeIds, shared_type, types_of}
@@ -23,22 +23,6 @@ use Rattle.linked_names.proofs.GrowthLemmas.{type-later, types_of-grown}
 use Rattle.type_judge.specs.declared.known.Known.{Known}
 use Rattle.type_judge.specs.Known.{IsKnownOf, IsWhole, OnlyTypesJoin, facts_seen}
 use Rattle.type_judge.specs.Linked.{linked_in, one_if, typedefs_in}
-
--- Names are seen alike where they have one number
-
-and_true : (test : Bool) → test && true ≡ test
-and_true true = refl
-and_true false = refl
-
-same_by : (number other : ℕ) (first second : Bool) → nat_eq number 0 ≡ first → nat_eq other 0 ≡ second
-    → bytes_eq (if first then [] else number ∷ []) (if second then [] else other ∷ []) ≡ nat_eq number other
-same_by number other true true e f = grind (arith, nat_tests)
-same_by number other true false e f = grind (arith, nat_tests)
-same_by number other false true e f = grind (arith, nat_tests)
-same_by number other false false e f = and_true (nat_eq number other)
-
-name-same : (name other : NameId) → bytes_eq (name_seen name) (name_seen other) ≡ nat_eq name.0 other.0
-name-same name other = same_by name.0 other.0 (nat_eq name.0 0) (nat_eq other.0 0) refl refl
 
 -- a test whose opposite fails
 pub from_not : (test : Bool) → not test ≡ false → test ≡ true
@@ -52,7 +36,7 @@ module _ (table : TypeTable) (name : NameId) where
       → before_types (has_linkage && bytes_eq (name_seen declaration.name) (name_seen name)) (type_at table declaration.of) (types_of table name others)
       ≡ types_of table name (one_if has_linkage (record { name = declaration.name; of = declaration.of }) others)
   one-linked declaration true others =
-      ap (λ same. before_types same (type_at table declaration.of) (types_of table name others)) (name-same declaration.name name)
+      ap (λ same. before_types same (type_at table declaration.of) (types_of table name others)) (name_same declaration.name name)
   one-linked declaration false others = refl
 
   pub linked_types-are : (kept : List NodeFact) → linked_types (name_seen name) (nodes_seen table kept) ≡ types_of table name (linked_in kept)
@@ -122,7 +106,7 @@ module _ (table : TypeTable) (scope : ℕ) (name : NameId) where
   one-typedef surrounding declaration true others =
       ap
       (λ same. type_if (nat_eq surrounding.around.scope scope && same) (type_at table declaration.of) (option_map (type_at table) (first_of scope name others)))
-      (name-same declaration.name name)
+      (name_same declaration.name name)
       ∙ typedef-by (nat_eq surrounding.around.scope scope && nat_eq declaration.name.0 name.0) declaration.of (first_of scope name others)
   one-typedef surrounding declaration false others = refl
 

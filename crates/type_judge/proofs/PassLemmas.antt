@@ -1,5 +1,5 @@
 -- One more node.
-use Rattle.std.proofs.Common.{◌≡◌, ℕ, suc, ◌<◌, ◌++◌, [], ◌∷◌, List, All, Option, None, length, option_map, refl, sym, ap, ap₂, subst, ◌∙◌, arith}
+use Rattle.std.proofs.Common.{◌≡◌, ℕ, suc, ◌<◌, ◌++◌, [], ◌∷◌, List, All, Option, None, length, option_map, sym, ap, ap₂, subst, ◌∙◌, arith}
 use Rattle.std.proofs.lemmas.List.{map-append}
 use Rattle.std.proofs.lemmas.List.Elements.{All-append, All-cons, All-nil}
 use Rattle.sparse_model.specs.declared.failure.Failure.{Failure}
@@ -21,15 +21,16 @@ use Rattle.expression_rows.specs.Arguments.{Appends}
 use Rattle.expression_rows.specs.Rows.{IsKnownFailure, broken_seen}
 use Rattle.type_judge.specs.declared.known.Known.{Known}
 use Rattle.type_judge.specs.declared.pass.Pass.{Pass}
-use Rattle.type_judge.specs.declared.row.NodeRow.{NodeRow}
-use Rattle.type_judge.specs.Found.{AreKnownFailures, found_seen}
+use Rattle.expr_judge.specs.declared.row.NodeRow.{NodeRow}
+use Rattle.expr_judge.specs.Found.{AreKnownFailures, found_seen}
 use Rattle.type_judge.specs.Judging.{IsPassOver}
 use Rattle.type_judge.specs.Known.{IsKnownOf}
 use Rattle.type_judge.specs.Least.{lowest}
 use Rattle.type_judge.specs.Linked.{linked_in, typedef_of, typedefs_in}
-use Rattle.type_judge.specs.Rows.{KeptRow, Tells, first_row}
+use Rattle.expr_judge.specs.Rows.{KeptRow}
+use Rattle.type_judge.specs.Rows.{Tells, first_row}
 use Rattle.type_judge.proofs.FactLemmas.{first_broken, first_failures, first_passed}
-use Rattle.type_judge.proofs.GrowthLemmas.{appended_both, appended_known, appended_later, appended_seen, failures_known, failures_later}
+use Rattle.expr_judge.proofs.GrowthLemmas.{appended_both, appended_known, appended_later, appended_seen, failures_known, failures_later}
 use Rattle.type_judge.proofs.KnownLemmas.{known_count, known_later, linked_more, typedefs_more}
 use Rattle.type_judge.proofs.LeastLemmas.{least_both, lowest_both}
 

@@ -1,5 +1,5 @@
 -- What is known of a unit so far, and what is answered of it in the end.
-use Rattle.std.specs.Prelude.{◌≡◌, ℕ, List, [], All, Option, Some, None, length, option_map}
+use Rattle.std.specs.Prelude.{◌≡◌, ℕ, List, [], All, Option, Some, length, option_map}
 use Rattle.vocabulary.specs.declared.limit.LimitKind.TheVariants as limits
 use Rattle.meaning_typing.specs.Building.{facts_of}
 use Rattle.meaning_typing.specs.Facts.{Fact}
@@ -13,7 +13,7 @@ use Rattle.type_judge.specs.declared.fault.JudgeFault.{JudgeFault}
 use Rattle.type_judge.specs.declared.fault.JudgeFault.TheVariants as faults
 use Rattle.type_judge.specs.declared.judging.Judged.{Judged}
 use Rattle.type_judge.specs.declared.pass.Pass.{Pass}
-use Rattle.type_judge.specs.Found.{AreKnownFailures, found_seen}
+use Rattle.expr_judge.specs.Found.{AreKnownFailures, found_seen}
 use Rattle.type_judge.specs.Identities.{names_told}
 use Rattle.type_judge.specs.Known.{IsKnownOf}
 

@@ -1,11 +1,7 @@
 pub mod Least
-pub mod Found
 pub mod Linked
 pub mod Known
 pub mod Rows
-pub mod Parts
-pub mod Constants
 pub mod Large
-pub mod Operators
 pub mod Identities
 pub mod Judging

@@ -2,7 +2,6 @@
 use Rattle.std.specs.Prelude.{ℕ, Bool, true, false, List, [], ◌∷◌}
 use Rattle.node_facts.specs.declared.fact.NodeFact.{NodeFact}
 use Rattle.node_facts.specs.declared.fact.NodeFact.TheVariants as facts
-use Rattle.node_facts.specs.declared.declared.DeclaredFact.{DeclaredFact}
 use Rattle.linked_names.specs.declared.declaration.Linked.{Linked}
 use Rattle.linked_names.specs.declared.declaration.Typedef.{Typedef}
 use Rattle.meaning_typing.specs.Surroundings.{Surrounding}

@@ -4,12 +4,11 @@ ghost use Rattle.meaning_typing.specs.Typing as meaning;
 ghost use Rattle.node_facts.specs.Facts.{IsKnownNodeFact, node_seen};
 ghost use Rattle.node_surroundings.specs.Seen.{surrounding_seen, want_seen};
 ghost use Rattle.expression_rows.specs.Arguments.{Appends};
-ghost use Rattle.type_judge.specs.Parts.{expression_in};
 
-use crate::row::append;
 use c_types::Types;
+use expr_judge::{append, expression_of};
 use expression_rows::judge_access;
-use node_facts::{ExpressionFact, NodeFact};
+use node_facts::NodeFact;
 use node_surroundings::{Surrounding, Want};
 use sparse_model::FailureList;
 use std::alloc::AllocError;
@@ -24,16 +23,6 @@ fn accesses(want: Want) -> bool
         Want::ForPlace => false,
         Want::ForEffect => false,
         Want::ForNothing => false,
-    }
-}
-
-/// What is known of an expression, if it is one.
-pub fn expression_of(fact: NodeFact) -> Option<ExpressionFact>
-    ensures { result ≡ expression_in fact }
-{
-    match fact {
-        NodeFact::Expression(expression) => Some(expression),
-        _ => None,
     }
 }
 

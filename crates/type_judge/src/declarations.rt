@@ -15,14 +15,14 @@ ghost use Rattle.node_facts.specs.Facts.{IsKnownNodeFact, declared_seen, node_se
 ghost use Rattle.node_surroundings.specs.Seen.{surrounding_seen};
 ghost use Rattle.type_judge.specs.Known.{IsWhole, OnlyTypesJoin, facts_seen};
 ghost use Rattle.type_judge.specs.Linked.{typedefs_in};
-ghost use Rattle.type_judge.specs.Rows.{SaysOnly, Tells, redeclaration_row};
+ghost use Rattle.expr_judge.specs.Rows.{SaysOnly};
+ghost use Rattle.type_judge.specs.Rows.{Tells, redeclaration_row};
 
-use crate::declared::declaration_of;
 use crate::known::Known;
 use crate::large::large_in;
-use crate::row::{NodeRow, append};
 use c_tree::{Handle, Unit};
 use decl_judge::{DeclaratorPlace, declarator_fact, parameter_fact, specified, token_at};
+use expr_judge::{NodeRow, append, declaration_of};
 use node_facts::{DeclaredFact, NodeFact};
 use node_surroundings::Surrounding;
 use sparse_model::FailureList;

@@ -14,13 +14,14 @@ ghost use Rattle.expression_rows.specs.Names.{IsNamed};
 ghost use Rattle.expression_rows.specs.Rows.{IsKnownFailure, broken_seen, failure_listed};
 ghost use Rattle.type_judge.specs.Known.{IsWhole, facts_seen};
 ghost use Rattle.type_judge.specs.Linked.{typedefs_in};
-ghost use Rattle.type_judge.specs.Parts.{declaration_in, kept_at};
+ghost use Rattle.expr_judge.specs.Parts.{declaration_in, kept_at};
 
 use crate::known::Known;
 use c_tree::Handle;
 use c_types::{OuterBase, Outline, Types};
+use expr_judge::declaration_of;
 use expression_rows::{Broken, DeclaredName};
-use node_facts::{DeclaredFact, NodeFact};
+use node_facts::DeclaredFact;
 use sparse_model::{ErrorKind, Failure, RuleCode, TypeId};
 
 // The result of a function, if the type is one. It takes a step for each parameter.
@@ -45,16 +46,6 @@ fn are_equal(types: &Types, one: TypeId, other: TypeId) -> bool
     ensures { result ≡ are_equal_types (type_at types.now one) (type_at types.now other) }
 {
     types.equal(one, other)
-}
-
-/// What a declarator declares, if something is known of one.
-pub fn declaration_of(fact: NodeFact) -> Option<DeclaredFact>
-    ensures { result ≡ declaration_in fact }
-{
-    match fact {
-        NodeFact::Declared(declaration) => Some(declaration),
-        _ => None,
-    }
 }
 
 impl Known {

@@ -1,23 +1,17 @@
 // What is known of the nodes of a unit so far.
-ghost use Rattle.std.specs.Prelude.{◌≡◌, ◌++◌, ◌∷◌, [], All, IfOk, IfSome, OnOk};
+ghost use Rattle.std.specs.Prelude.{◌≡◌, ◌++◌, ◌∷◌, [], IfOk, OnOk};
 ghost use Rattle.meaning_typing.specs.Declarators.{nothing_told};
-ghost use Rattle.meaning_typing.specs.Facts.{fact_at};
 ghost use Rattle.c_types.specs.Layouts.{told_in};
 ghost use Rattle.c_types.specs.Table.{Extends, IsTypeId};
 ghost use Rattle.node_facts.specs.declared.fact.NodeFact.TheVariants as facts;
 ghost use Rattle.node_facts.specs.Facts.{IsKnownNodeFact};
 ghost use Rattle.node_facts.specs.Growing.{TypesJoin};
-ghost use Rattle.expression_rows.specs.Facts.{IsValued, valued_part};
-ghost use Rattle.type_judge.specs.Known.{OnlyTypesJoin, facts_seen};
 ghost use Rattle.type_judge.specs.Linked.{linked_in, typedef_of};
-ghost use Rattle.type_judge.specs.Parts.{expression_in, kept_at, only_expression};
 
-use crate::access::expression_of;
 use c_tree::Handle;
 use c_types::Types;
-use expression_rows::{Valued, with_value};
 use linked_names::{LinkedNames, TypedefNames};
-use node_facts::{DeclaredFact, ExpressionFact, NodeFact, NodeFacts};
+use node_facts::{DeclaredFact, NodeFact, NodeFacts};
 use std::alloc::{AllocError, Global};
 
 /// What rows ask of the nodes that stand before.
@@ -112,42 +106,5 @@ impl Known {
             NodeFact::Specified(_) => Ok(()),
             NodeFact::NamedType(_) => Ok(()),
         }
-    }
-
-    /// What is known of the expression with this handle, if it is one.
-    pub fn expression_at(&self, handle: Handle) -> Option<ExpressionFact>
-        ensures { result ≡ expression_in (kept_at self.now.facts handle) }
-    {
-        expression_of(self.facts.at(handle))
-    }
-
-    /// The same, with the type of its value, which joins the table if it is new.
-    pub fn operand_at(&mut self, handle: Handle) -> Result<Option<Valued>, AllocError>
-        requires { All (IsKnownNodeFact self.old.types) self.old.facts }
-        ensures seen { IfOk result (λ found. valued_part self.new.types found ≡ only_expression (fact_at (facts_seen self.old) handle)) }
-        ensures valued { IfOk result (λ found. IfSome found (IsValued self.new.types)) }
-        ensures keeps { OnOk result (OnlyTypesJoin self.old self.new) }
-    {
-        let part = self.expression_at(handle);
-        let found = with_value(&mut self.types, part)?;
-        Ok(found)
-    }
-
-    /// The same of two.
-    pub fn operands_at(
-        &mut self,
-        first: Handle,
-        second: Handle,
-    ) -> Result<(Option<Valued>, Option<Valued>), AllocError>
-        requires { All (IsKnownNodeFact self.old.types) self.old.facts }
-        ensures first { IfOk result (λ found. valued_part self.new.types found.0 ≡ only_expression (fact_at (facts_seen self.old) first)) }
-        ensures second { IfOk result (λ found. valued_part self.new.types found.1 ≡ only_expression (fact_at (facts_seen self.old) second)) }
-        ensures first_valued { IfOk result (λ found. IfSome found.0 (IsValued self.new.types)) }
-        ensures second_valued { IfOk result (λ found. IfSome found.1 (IsValued self.new.types)) }
-        ensures keeps { OnOk result (OnlyTypesJoin self.old self.new) }
-    {
-        let left = self.operand_at(first)?;
-        let right = self.operand_at(second)?;
-        Ok((left, right))
     }
 }

@@ -10,7 +10,7 @@ ghost use Rattle.type_judge.specs.Known.{IsWhole, OnlyTypesJoin, facts_seen};
 ghost use Rattle.type_judge.specs.Large.{is_large_fault, large_at};
 
 use crate::known::Known;
-use crate::row::lowest;
+use crate::least::lowest;
 use c_layout::{LayoutFault, size_of};
 use c_tree::{Handle, Unit};
 use c_types::Types;

@@ -6,25 +6,17 @@
 #![tactic(auto)]
 
 mod access;
-mod calls;
-mod casts;
-mod constants;
 mod declarations;
 mod declared;
-mod expressions;
 mod fault;
 mod identities;
 mod judging;
 mod known;
 mod large;
+mod least;
 mod names;
-mod operands;
-mod operation;
-mod operators;
 mod pass;
-mod row;
 mod rows;
-mod selections;
 mod statements;
 
 pub use expression_rows::Broken;

@@ -7,13 +7,12 @@ ghost use Rattle.meaning_typing.specs.Typing.{row_with_constant};
 ghost use Rattle.meaning_typing.specs.Units.{child_at as child_of};
 ghost use Rattle.decl_judge.specs.Units.{nodes_of};
 ghost use Rattle.type_judge.specs.Known.{IsWhole, facts_seen};
-ghost use Rattle.type_judge.specs.Rows.{SaysOnly};
+ghost use Rattle.expr_judge.specs.Rows.{SaysOnly};
 
-use crate::constants::with_bits;
 use crate::known::Known;
-use crate::row::NodeRow;
 use c_tree::{Handle, Unit};
 use decl_judge::{child_at, name_fact, typeof_fact};
+use expr_judge::{NodeRow, with_bits};
 
 /// The row of a name of a type.
 pub fn type_name(unit: &Unit, known: &Known, handle: Handle) -> NodeRow

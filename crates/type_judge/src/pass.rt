@@ -9,7 +9,7 @@ ghost use Rattle.type_judge.specs.Judging.{IsPassOver};
 
 use crate::access::access_node;
 use crate::known::Known;
-use crate::row::lowest;
+use crate::least::lowest;
 use crate::rows::judge_node;
 use c_tree::{Handle, Unit};
 use expression_rows::{Broken, lesser};

@@ -3,58 +3,22 @@ ghost use Rattle.std.specs.Prelude.{◌≡◌, ◌<◌, false, IfOk, length};
 ghost use Rattle.meaning_tree.specs.Nodes.{end_of};
 ghost use Rattle.meaning_typing.specs.Units.{kind_at};
 ghost use Rattle.decl_judge.specs.Units.{nodes_of};
+ghost use Rattle.expr_judge.specs.Rows.{is_of_declaration};
 ghost use Rattle.node_surroundings.specs.Seen.{surroundings_seen};
 ghost use Rattle.type_judge.specs.Known.{IsKnownOf};
-ghost use Rattle.type_judge.specs.Rows.{Tells, first_row, is_of_declaration, is_primary};
+ghost use Rattle.type_judge.specs.Rows.{Tells, first_row};
 
-use crate::calls::call;
-use crate::constants::{literal, parenthesized};
 use crate::declarations::{declarator, parameter, specifiers, typedef_name};
-use crate::expressions::{address, assignment, indirection, name, string, subscript};
 use crate::known::Known;
 use crate::names::{type_name, typeof_expression, typeof_name};
-use crate::operation::judge_operator;
-use crate::row::NodeRow;
 use crate::statements::return_statement;
 use c_tree::{Handle, Unit};
-use node_surroundings::{Surroundings, operation_of};
+use expr_judge::{NodeRow, row_of_expression, row_of_name};
+use node_surroundings::Surroundings;
 use sparse_model::{FailureList, NodeKind};
 use std::alloc::{AllocError, Global};
 
-// The row of an operator or of `return`; all other nodes say nothing.
-fn judge_operation(
-    alloc: Global,
-    unit: &Unit,
-    surroundings: &Surroundings,
-    known: &mut Known,
-    found: &mut FailureList,
-    handle: Handle,
-    kind: NodeKind,
-) -> Result<NodeRow, AllocError>
-    requires whole { unit.now.first ≡ 0 }
-    requires node { handle < end_of unit.now }
-    requires kind { kind_at (nodes_of unit.now) handle ≡ kind }
-    requires declares { is_of_declaration kind ≡ false }
-    requires primary { is_primary kind ≡ false }
-    requires surroundings { length surroundings.now ≡ length unit.now.nodes }
-    requires known { IsKnownOf (nodes_of unit.now) (surroundings_seen surroundings.now) handle known.old }
-    ensures { IfOk result (λ row. Tells known.old known.new found.old found.new row (first_row (nodes_of unit.now) (surroundings_seen surroundings.now) handle)) }
-{
-    match kind {
-        NodeKind::Subscript => subscript(unit, known, found, handle),
-        NodeKind::Call => call(alloc, unit, known, found, handle),
-        NodeKind::Address => address(unit, known, found, handle),
-        NodeKind::Indirection => indirection(unit, known, found, handle),
-        NodeKind::Assignment => assignment(unit, known, found, handle),
-        NodeKind::ReturnStatement => {
-            let stands = surroundings.get(handle);
-            return_statement(unit, known, found, handle, stands.around.function)
-        }
-        _ => judge_operator(unit, known, found, handle, operation_of(kind)),
-    }
-}
-
-// The row of a primary expression, or of what is built of expressions.
+// The row of an expression or of `return`; all other nodes say nothing.
 fn judge_expression(
     alloc: Global,
     unit: &Unit,
@@ -73,12 +37,16 @@ fn judge_expression(
     ensures { IfOk result (λ row. Tells known.old known.new found.old found.new row (first_row (nodes_of unit.now) (surroundings_seen surroundings.now) handle)) }
 {
     match kind {
-        NodeKind::Name => name(unit, known, found, handle),
-        NodeKind::IntegerConstant(of) => literal(unit, known, handle, of),
-        NodeKind::CharacterConstant(of) => literal(unit, known, handle, of),
-        NodeKind::StringLiteral => string(unit, known, found, handle),
-        NodeKind::Parenthesized => Ok(parenthesized(unit, known, handle)),
-        _ => judge_operation(alloc, unit, surroundings, known, found, handle, kind),
+        // Declarations of a name with linkage are kept by name, so no walk goes over them.
+        NodeKind::Name => row_of_name(known.named_by(unit.node(handle).number), found),
+        NodeKind::ReturnStatement => {
+            let stands = surroundings.get(handle);
+            return_statement(unit, known, found, handle, stands.around.function)
+        }
+        _ => {
+            let types = &mut known.types;
+            row_of_expression(alloc, unit, types, &known.facts, handle, kind, found)
+        }
     }
 }
 

@@ -6,8 +6,8 @@ use Rattle.node_surroundings.specs.Seen.{surrounding_seen}
 use Rattle.expression_rows.specs.Arguments.{listed_failure}
 use Rattle.expression_rows.specs.Facts.{IsKnownPart, part_seen}
 use Rattle.type_judge.proofs.AccessLemmas.{access_is}
-use Rattle.type_judge.proofs.PartLemmas.{expression-known}
-use Rattle.type_judge.proofs.TellingLemmas.{one_known, one_listed}
+use Rattle.expr_judge.proofs.PartLemmas.{expression-known}
+use Rattle.expr_judge.proofs.TellingLemmas.{one_known, one_listed}
 use Rattle.type_judge.proofs.access.access_node.Goals as goal
 
 pub judge_access-failure-requires : goal.judge_access-failure-requires

@@ -14,8 +14,8 @@ use Rattle.type_judge.specs.Linked.{typedefs_in}
 use Rattle.type_judge.proofs.DeclarationLemmas.{declarator-standing, placed_at, tells_declarator}
 use Rattle.type_judge.proofs.KnownLemmas.{facts_later, only_on, whole_later}
 use Rattle.type_judge.proofs.LinkedLemmas.{typedefs_kept}
-use Rattle.type_judge.proofs.NodeLemmas.{children-are}
-use Rattle.type_judge.proofs.TakenLemmas.{only_types}
+use Rattle.expr_judge.proofs.NodeLemmas.{children-are}
+use Rattle.type_judge.proofs.KnownLemmas.{only_types}
 use Rattle.type_judge.proofs.declarations.declarator.Goals as goal
 
 pub declarator_fact-requires-clause-facts : goal.declarator_fact-requires-clause-facts

@@ -1,7 +1,7 @@
 use Rattle.std.proofs.Common.{None, Some, option_map, sym, ap, subst, ◌∙◌}
 use Rattle.node_facts.specs.Facts.{declared_seen}
 use Rattle.expression_rows.specs.Rows.{broken_seen}
-use Rattle.type_judge.specs.declared.row.NodeRow.{NodeRow}
+use Rattle.expr_judge.specs.declared.row.NodeRow.{NodeRow}
 use Rattle.type_judge.specs.Known.{facts_seen}
 use Rattle.type_judge.specs.Rows.{Tells, redeclaration_row}
 use Rattle.type_judge.proofs.DeclarationLemmas.{tells_declared}

@@ -6,7 +6,7 @@ use Rattle.c_tree.specs.Seen.{node_of}
 use Rattle.decl_judge.specs.Units.{nodes_of}
 use Rattle.type_judge.specs.Known.{facts_seen}
 use Rattle.type_judge.proofs.DeclarationLemmas.{says_known}
-use Rattle.type_judge.proofs.NodeLemmas.{children-are}
+use Rattle.expr_judge.proofs.NodeLemmas.{children-are}
 use Rattle.type_judge.proofs.declarations.specifiers.Goals as goal
 
 pub returns-clause-says : goal.returns-clause-says

@@ -8,7 +8,7 @@ use Rattle.node_facts.specs.declared.fact.NodeFact.TheVariants as facts
 use Rattle.decl_judge.specs.Units.{nodes_of}
 use Rattle.type_judge.specs.Known.{facts_seen}
 use Rattle.type_judge.proofs.DeclarationLemmas.{says_known}
-use Rattle.type_judge.proofs.NodeLemmas.{node-is}
+use Rattle.expr_judge.proofs.NodeLemmas.{node-is}
 use Rattle.type_judge.proofs.declarations.typedef_name.Goals as goal
 
 pub returns-in-Some : goal.returns-in-Some

@@ -10,7 +10,7 @@ use Rattle.type_judge.specs.Least.{lowest}
 use Rattle.type_judge.proofs.KnownLemmas.{facts_later, only_on, whole_later}
 use Rattle.type_judge.proofs.LargeLemmas.{large_from, large_from-none, large_more}
 use Rattle.type_judge.proofs.LeastLemmas.{lowest_none}
-use Rattle.type_judge.proofs.TakenLemmas.{only_types}
+use Rattle.type_judge.proofs.KnownLemmas.{only_types}
 use Rattle.type_judge.proofs.large.large_among.Goals as goal
 
 pub derived-requires-clause-facts : goal.derived-requires-clause-facts

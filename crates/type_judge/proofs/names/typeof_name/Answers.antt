@@ -4,13 +4,13 @@ use Rattle.meaning_typing.specs.Rows.{known}
 use Rattle.meaning_typing.specs.Typing.{row_with_constant}
 use Rattle.meaning_typing.specs.Units.{child_at}
 use Rattle.decl_judge.specs.Units.{nodes_of}
-use Rattle.type_judge.specs.declared.row.NodeRow.{NodeRow}
-use Rattle.type_judge.specs.Constants.{with_bits}
+use Rattle.expr_judge.specs.declared.row.NodeRow.{NodeRow}
+use Rattle.expr_judge.specs.Constants.{with_bits}
 use Rattle.type_judge.specs.Known.{facts_seen}
-use Rattle.type_judge.specs.Parts.{kept_at}
-use Rattle.type_judge.specs.Rows.{SaysOnly, known_row}
-use Rattle.type_judge.proofs.OperatorLemmas.{says_without}
-use Rattle.type_judge.proofs.PartLemmas.{kept-is, known_at}
+use Rattle.expr_judge.specs.Parts.{kept_at}
+use Rattle.expr_judge.specs.Rows.{SaysOnly, known_row}
+use Rattle.expr_judge.proofs.OperatorLemmas.{says_without}
+use Rattle.expr_judge.proofs.PartLemmas.{kept-is, known_at}
 use Rattle.type_judge.proofs.names.typeof_name.Goals as goal
 
 pub returns : goal.returns

@@ -1,65 +1,69 @@
--- The rows of primary expressions.
-use Rattle.std.proofs.Common.{ap, subst, ◌∙◌, arith}
-use Rattle.meaning_constants.specs.Nodes.{fold_of}
+-- The rows of expressions and of `return`.
+use Rattle.std.proofs.Common.{sym, ap, ◌∙◌, arith}
+use Rattle.meaning_typing.specs.Facts.{fact_at}
+use Rattle.meaning_typing.specs.Names.{name_row}
+use Rattle.meaning_typing.specs.Statements.{result_around, return_row}
+use Rattle.meaning_typing.specs.Typing.{first_fact, row_at, token_at}
+use Rattle.meaning_typing.specs.Units.{child_at, children_at}
+use Rattle.c_tree.specs.Seen.{node_of}
 use Rattle.decl_judge.specs.Units.{nodes_of}
 use Rattle.node_surroundings.specs.Seen.{surroundings_seen}
+use Rattle.expr_judge.proofs.NodeLemmas.{node-is}
+use Rattle.expr_judge.proofs.RowLemmas.{name_told}
 use Rattle.type_judge.specs.Known.{facts_seen}
-use Rattle.type_judge.specs.Rows.{Tells}
-use Rattle.type_judge.proofs.KnownLemmas.{known_count, only_none}
-use Rattle.type_judge.proofs.RowLemmas.{character_told, integer_told, name_told, parenthesized_told, string_told}
-use Rattle.type_judge.proofs.TellingLemmas.{tells_only, told_as, told_only}
+use Rattle.type_judge.proofs.KnownLemmas.{handed_in, known_count, only_none, only_types}
+use Rattle.type_judge.proofs.RowLemmas.{return_told}
+use Rattle.type_judge.proofs.ToldLemmas.{told_as, told_over}
 use Rattle.type_judge.proofs.rows.judge_expression.Goals as goal
 
-pub name-requires-clause-few : goal.name-requires-clause-few
-name-requires-clause-few c =
+pub named_by-requires-clause-few : goal.named_by-requires-clause-few
+named_by-requires-clause-few c =
     omega (
       arith,
       c.ranges.handle,
       known_count (nodes_of c.args.unit.now) (surroundings_seen c.args.surroundings.now) c.args.handle c.args.known.now c.requires.known,
     )
 
-pub literal-requires-clause-literal : goal.literal-requires-clause-literal
-literal-requires-clause-literal c = ap fold_of (c.requires.kind ∙ c.in-IntegerConstant.is)
-
-pub literal-requires-in-CharacterConstant-clause-literal : goal.literal-requires-in-CharacterConstant-clause-literal
-literal-requires-in-CharacterConstant-clause-literal c = ap fold_of (c.requires.kind ∙ c.in-CharacterConstant.is)
-
-pub parenthesized-requires-clause-own : goal.parenthesized-requires-clause-own
-parenthesized-requires-clause-own c = ap fold_of (c.requires.kind ∙ c.in-Parenthesized.is)
-
 pub returns-in-Name : goal.returns-in-Name
 returns-in-Name c =
+    let unit = c.args.unit.now in
+    let nodes = nodes_of unit in
+    let surroundings = surroundings_seen c.args.surroundings.now in
     let known = c.args.known.now in
-    told_as known c.name.new.known c.name.result _ _
-    (name_told (nodes_of c.args.unit.now) (surroundings_seen c.args.surroundings.now) c.args.handle (facts_seen known) c.requires.known.facts (c.requires.kind ∙ c.in-Name.is))
-    c.args.found.now c.name.new.found c.name.ensures
+    let facts = facts_seen known in
+    let handle = c.args.handle in
+    let node = node-is unit c.requires.whole handle (node_of c.node.result.now) c.node.ensures in
+    told_over known known c.row_of_name.result _ _
+    (ap (λ node. name_row facts (fact_at facts node.number)) (sym node)
+    ∙ name_told nodes surroundings handle facts (c.requires.kind ∙ c.in-Name.is)
+    ∙ ap (λ earlier. row_at nodes surroundings earlier handle) c.requires.known.facts)
+    c.args.found.now c.row_of_name.new.found (λ join. only_none known)
+    (c.row_of_name.ensures known.types facts (fact_at facts c.node.result.now.number) c.named_by.ensures.named c.named_by.ensures.known)
 
-pub returns-in-IntegerConstant : goal.returns-in-IntegerConstant
-returns-in-IntegerConstant c =
+pub returns-in-ReturnStatement : goal.returns-in-ReturnStatement
+returns-in-ReturnStatement c =
+    let nodes = nodes_of c.args.unit.now in
+    let handle = c.args.handle in
     let known = c.args.known.now in
-    told_only known c.literal.new.known c.literal.result _ _
-    (integer_told (nodes_of c.args.unit.now) (surroundings_seen c.args.surroundings.now) c.args.handle (facts_seen known) c.requires.known.facts c.in-IntegerConstant.of (c.requires.kind ∙ c.in-IntegerConstant.is))
-    c.args.found.now c.literal.ensures.says c.literal.ensures.keeps
+    let facts = facts_seen known in
+    told_as known c.return_statement.new.known c.return_statement.result _ _
+    (ap
+    (λ surrounding.
+    return_row (token_at nodes handle) (token_at nodes (child_at nodes handle 0)) (first_fact facts (children_at nodes handle))
+    (result_around nodes facts surrounding.around.function))
+    c.get-stands.ensures.seen
+    ∙ return_told nodes (surroundings_seen c.args.surroundings.now) handle facts c.requires.known.facts (c.requires.kind ∙ c.in-ReturnStatement.is))
+    c.args.found.now c.return_statement.new.found c.return_statement.ensures
 
-pub returns-in-CharacterConstant : goal.returns-in-CharacterConstant
-returns-in-CharacterConstant c =
-    let known = c.args.known.now in
-    told_only known c.literal-in-CharacterConstant.new.known c.literal-in-CharacterConstant.result _ _
-    (character_told (nodes_of c.args.unit.now) (surroundings_seen c.args.surroundings.now) c.args.handle (facts_seen known) c.requires.known.facts c.in-CharacterConstant.of (c.requires.kind ∙ c.in-CharacterConstant.is))
-    c.args.found.now c.literal-in-CharacterConstant.ensures.says c.literal-in-CharacterConstant.ensures.keeps
+pub row_of_expression-requires-clause-known : goal.row_of_expression-requires-clause-known
+row_of_expression-requires-clause-known c = handed_in c.args.known.now c.requires.known.whole
 
-pub returns-in-StringLiteral : goal.returns-in-StringLiteral
-returns-in-StringLiteral c =
+pub returns-in_default : goal.returns-in_default
+returns-in_default c =
+    let nodes = nodes_of c.args.unit.now in
+    let surroundings = surroundings_seen c.args.surroundings.now in
     let known = c.args.known.now in
-    told_as known c.string.new.known c.string.result _ _
-    (string_told (nodes_of c.args.unit.now) (surroundings_seen c.args.surroundings.now) c.args.handle (facts_seen known) c.requires.known.facts (c.requires.kind ∙ c.in-StringLiteral.is))
-    c.args.found.now c.string.new.found c.string.ensures
-
-pub returns-in-Parenthesized : goal.returns-in-Parenthesized
-returns-in-Parenthesized c =
-    let known = c.args.known.now in
-    let found = c.args.found.now in
-    let row = c.parenthesized.result in
-    subst (Tells known known found found row)
-    (parenthesized_told (nodes_of c.args.unit.now) (surroundings_seen c.args.surroundings.now) c.args.handle (facts_seen known) c.requires.known.facts (c.requires.kind ∙ c.in-Parenthesized.is))
-    (tells_only known known found row _ c.parenthesized.ensures (only_none known))
+    let types = c.row_of_expression.new.types in
+    told_over known (record known { types = types }) c.row_of_expression.result _ _
+    (ap (λ earlier. row_at nodes surroundings earlier c.args.handle) c.requires.known.facts) c.args.found.now c.row_of_expression.new.found
+    (only_types known types) (c.row_of_expression.ensures surroundings)

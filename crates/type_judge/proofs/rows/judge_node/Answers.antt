@@ -7,9 +7,9 @@ use Rattle.type_judge.specs.Known.{facts_seen}
 use Rattle.type_judge.specs.Rows.{Tells}
 use Rattle.type_judge.proofs.KnownLemmas.{known_count, only_none}
 use Rattle.type_judge.proofs.LinkedLemmas.{typedefs_of_unit}
-use Rattle.type_judge.proofs.NodeLemmas.{kind-is}
+use Rattle.expr_judge.proofs.NodeLemmas.{kind-is}
 use Rattle.type_judge.proofs.RowLemmas.{declarator_told, parameter_told, specifiers_told, type_name_told, typedef_told, typeof_name_told, typeof_told}
-use Rattle.type_judge.proofs.TellingLemmas.{tells_only, told_as, told_only}
+use Rattle.type_judge.proofs.ToldLemmas.{tells_only, told_as, told_only}
 use Rattle.type_judge.proofs.rows.judge_node.Goals as goal
 
 pub typedef_name-requires-clause-few : goal.typedef_name-requires-clause-few

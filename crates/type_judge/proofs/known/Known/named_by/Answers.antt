@@ -6,7 +6,7 @@ use Rattle.node_facts.specs.Facts.{declared_seen}
 use Rattle.expression_rows.specs.declared.name.DeclaredName.{DeclaredName}
 use Rattle.expression_rows.specs.Names.{IsNamed, IsNamedIf, declared_by}
 use Rattle.type_judge.specs.Known.{facts_seen}
-use Rattle.type_judge.proofs.DeclaredLemmas.{declared_at, declared_known}
+use Rattle.expr_judge.proofs.NameLemmas.{declared_at, declared_known}
 use Rattle.type_judge.proofs.known.Known.named_by.Goals as goal
 
 pub returns-in_err-declaration-clause-named : goal.returns-in_err-declaration-clause-named

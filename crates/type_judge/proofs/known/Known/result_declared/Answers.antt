@@ -4,8 +4,9 @@ use Rattle.c_types.specs.Table.{IsTypeId, type_at}
 use Rattle.node_facts.specs.declared.declared.DeclaredFact.{DeclaredFact}
 use Rattle.node_facts.specs.Facts.{declared_seen}
 use Rattle.type_judge.specs.Known.{facts_seen}
-use Rattle.type_judge.specs.Parts.{declaration_in}
-use Rattle.type_judge.proofs.DeclaredLemmas.{declared_at, declared_known, result_declared-by, result_of_declaration}
+use Rattle.expr_judge.specs.Parts.{declaration_in}
+use Rattle.expr_judge.proofs.NameLemmas.{declared_at, declared_known}
+use Rattle.type_judge.proofs.DeclaredLemmas.{result_declared-by, result_of_declaration}
 use Rattle.type_judge.proofs.known.Known.result_declared.Goals as goal
 
 pub returns-in_err-declaration-clause-seen : goal.returns-in_err-declaration-clause-seen

@@ -4,7 +4,8 @@ use Rattle.c_types.specs.Table.{IsTypeId, type_at}
 use Rattle.node_facts.specs.declared.declared.DeclaredFact.{DeclaredFact}
 use Rattle.node_facts.specs.Facts.{declared_seen}
 use Rattle.type_judge.specs.Known.{facts_seen}
-use Rattle.type_judge.proofs.DeclaredLemmas.{declared_at, declared_known, type_declared-by}
+use Rattle.expr_judge.proofs.NameLemmas.{declared_at, declared_known}
+use Rattle.type_judge.proofs.DeclaredLemmas.{type_declared-by}
 use Rattle.type_judge.proofs.known.Known.type_declared.Goals as goal
 
 pub returns-in_err-declaration-clause-seen : goal.returns-in_err-declaration-clause-seen

@@ -1,5 +1,5 @@
 -- The row of the node, and what its access says, are those of one more node.
-use Rattle.std.proofs.Common.{◌≡◌, ℕ, suc, ◌+◌, ◌<◌, length, sym, ap, subst, arith}
+use Rattle.std.proofs.Common.{◌≡◌, ℕ, suc, ◌+◌, ◌<◌, length, sym, subst, arith}
 use Rattle.std.proofs.lemmas.List.{length-map}
 use Rattle.meaning_typing.specs.Surroundings.{Surrounding, surrounding_at}
 use Rattle.meaning_typing.specs.Typing.{access_failures}
@@ -9,9 +9,8 @@ use Rattle.decl_judge.specs.Units.{nodes_of}
 use Rattle.expression_rows.specs.Arguments.{Appends}
 use Rattle.type_judge.specs.declared.pass.Pass.{Pass}
 use Rattle.type_judge.specs.Judging.{IsPassOver}
-use Rattle.type_judge.specs.Linked.{typedef_of}
 use Rattle.type_judge.proofs.KnownLemmas.{whole_later}
-use Rattle.type_judge.proofs.NodeLemmas.{end-nodes, token-is}
+use Rattle.expr_judge.proofs.NodeLemmas.{end-nodes, token-is}
 use Rattle.type_judge.proofs.PassLemmas.{Joins, pass_more}
 use Rattle.type_judge.proofs.pass.Pass.judge_next.Goals as goal
 

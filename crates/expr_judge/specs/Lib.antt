@@ -1,0 +1,8 @@
+pub mod Whole
+pub mod Found
+pub mod Rows
+pub mod Parts
+pub mod Constants
+pub mod Operators
+pub mod Named
+pub mod Judging

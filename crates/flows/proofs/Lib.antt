@@ -1,1 +1,4 @@
+pub mod DigitLemmas
+pub mod ElementLemmas
 pub mod AskedLemmas
+pub mod LineLemmas

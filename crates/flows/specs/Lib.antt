@@ -1,3 +1,8 @@
+pub mod Reading
+pub mod Steps
+pub mod Lines
 pub mod Asked
 pub mod Shown
+pub mod Answers
 pub mod Stops
+pub mod Files

@@ -1,6 +1,9 @@
 // The command: the flows of a file to their answers. Who writes them isn't known here.
-ghost use Rattle.std.specs.Prelude.{◌≡◌, IsErrOf};
+ghost use Rattle.std.specs.Prelude.{◌≡◌, ◌++◌, IsErrOf, OnOk, Some, codes};
 ghost use Rattle.meaning_outside.specs.Faults.{Told};
+ghost use Rattle.meaning_outside.specs.Files.{FileMap, file_at};
+ghost use Rattle.flows.specs.Shown.{shown_place, stop_text};
+ghost use Rattle.flows.specs.Files.{IsFileAnswered};
 
 use crate::text::{NoAnswer, push_answers};
 use crate::wrong::Place;
@@ -55,6 +58,7 @@ pub fn flow_answers<F: Files>(
     path: &[u8],
     files: &mut F,
 ) -> Result<(), Stop>
+    ensures shown { (map : FileMap) → F.holds files.old ≡ Some map → IsFileAnswered (file_at map path.now) shown.old.items shown.new.items result }
     ensures read { Told (F.faults files.old) (F.faults files.new) (IsErrOf result Stop.ReadFault) }
     ensures keeps { F.holds files.new ≡ F.holds files.old }
 {
@@ -69,7 +73,9 @@ pub fn flow_answers<F: Files>(
 }
 
 /// Appends what is told of a stop, in a line.
-pub fn push_stop(text: &mut Vec<u8>, path: &[u8], stop: Stop) -> Result<(), AllocError> {
+pub fn push_stop(text: &mut Vec<u8>, path: &[u8], stop: Stop) -> Result<(), AllocError>
+    ensures { OnOk result (text.new.items ≡ text.old.items ++ path.now ++ stop_text stop ++ codes "\n") }
+{
     text.extend_from_slice(path)?;
     match stop {
         Stop::Wrong(place) => push_place(text, place)?,
@@ -81,7 +87,9 @@ pub fn push_stop(text: &mut Vec<u8>, path: &[u8], stop: Stop) -> Result<(), Allo
     Ok(())
 }
 
-fn push_place(text: &mut Vec<u8>, place: Place) -> Result<(), AllocError> {
+fn push_place(text: &mut Vec<u8>, place: Place) -> Result<(), AllocError>
+    ensures { OnOk result (text.new.items ≡ text.old.items ++ shown_place place) }
+{
     let mut buffer = Buffer::new();
     text.push(b':')?;
     text.extend_from_slice(buffer.format(place.line).as_bytes())?;

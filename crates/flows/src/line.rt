@@ -1,5 +1,9 @@
 // A flow and its counts, read from a line.
-ghost use Rattle.std.specs.Prelude.{◌<◌, ◌≤◌, ◌^◌, IfOk, length};
+ghost use Rattle.std.specs.Prelude.{◌≡◌, ◌<◌, ◌≤◌, ◌^◌, ◌++◌, [], ◌∷◌, IfErr, IfOk, OnOk, length, map};
+ghost use Rattle.control_flow.specs.Seen.{block_of, step_of, targets};
+ghost use Rattle.flows.specs.Reading.{Reads, Fails};
+ghost use Rattle.flows.specs.Lines.{another_at, begins_number, begins_step, block_at, line_at, note_at, steps_at, successor_at, successors_at};
+ghost use Rattle.flows.specs.Answers.{IsReadingOf, line_of};
 
 use crate::number::{behind_mark, behind_spaces, read_index, read_signed};
 use crate::step::read_step;
@@ -11,18 +15,28 @@ use tag_list::TagList;
 
 /// Why no line was read.
 #[derive(Clone, Copy)]
-pub enum NoLine {
+pub(crate) enum NoLine {
     Wrong(Fault),
     NoMemory,
 }
 
 impl From<Fault> for NoLine {
+    ghost use Rattle.std.specs.Prelude.{◌≡◌};
+    ghost use Rattle.flows.specs.declared.line.NoLine.TheVariants.{Wrong};
+
+    ghost from_gives = { λ fault no_line. no_line ≡ Wrong fault };
+
     fn from(fault: Fault) -> Self {
         NoLine::Wrong(fault)
     }
 }
 
 impl From<AllocError> for NoLine {
+    ghost use Rattle.std.specs.Prelude.{◌≡◌};
+    ghost use Rattle.flows.specs.declared.line.NoLine.TheVariants.{NoMemory};
+
+    ghost from_gives = { λ _ no_line. no_line ≡ NoMemory };
+
     fn from(_error: AllocError) -> Self {
         NoLine::NoMemory
     }
@@ -30,15 +44,19 @@ impl From<AllocError> for NoLine {
 
 /// What stands in a line.
 #[derive(Drop)]
-pub struct Line {
-    pub flow: Flow,
-    pub note: ContextNote,
+pub(crate) struct Line {
+    pub(crate) flow: Flow,
+    pub(crate) note: ContextNote,
     /// For each block, how many bytes of the line stand at it and behind.
-    pub lefts: Vec<usize>,
+    pub(crate) lefts: Vec<usize>,
 }
 
 /// The flow of a line, with its counts.
-pub fn read_line(alloc: Global, text: &[u8]) -> Result<Line, NoLine> {
+pub(crate) fn read_line(alloc: Global, text: &[u8]) -> Result<Line, NoLine>
+    requires { length text.now ≤ 2 ^ 30 }
+    ensures reads { IfOk result (λ line. line_at text.now ≡ Reads (line_of line) []) }
+    ensures fails { IfErr result (IsReadingOf (line_at text.now)) }
+{
     let mut blocks = BlockList::new(alloc);
     let mut lefts = Vec::new(alloc);
     let mut rest = behind_spaces(text);
@@ -48,33 +66,45 @@ pub fn read_line(alloc: Global, text: &[u8]) -> Result<Line, NoLine> {
         if blocks.push(block).is_err() {
             return Err(NoLine::NoMemory);
         }
-        match behind.split_first() {
-            Some((b'|', others)) => rest = behind_spaces(others),
-            Some((b';', others)) => {
-                let note = read_note(behind_spaces(others))?;
-                let flow = Flow { blocks };
-                return Ok(Line { flow, note, lefts });
-            }
-            _ => return Err(NoLine::Wrong(no_counts(behind))),
+        let (another, behind) = read_another(behind)?;
+        if !another {
+            let note = read_note(behind)?;
+            let flow = Flow { blocks };
+            return Ok(Line { flow, note, lefts });
         }
+        rest = behind;
     }
 }
 
 // How many bytes are left at a block.
-fn push_left(lefts: &mut Vec<usize>, left: usize) -> Result<(), AllocError> {
+fn push_left(lefts: &mut Vec<usize>, left: usize) -> Result<(), AllocError>
+    ensures { OnOk result (lefts.new.items ≡ lefts.old.items ++ left ∷ []) }
+{
     lefts.push(left)?;
     Ok(())
 }
 
-fn no_counts(text: &[u8]) -> Fault {
-    Fault {
-        left: text.len(),
-        wrong: Wrong::NoCounts,
+// What stands behind a block: another one, or the counts; and the text of that.
+fn read_another(text: &[u8]) -> Result<(bool, &[u8]), Fault>
+    ensures reads { IfOk result (λ read. another_at text.now ≡ Reads read.0 read.1.now) }
+    ensures fails { IfErr result (λ fault. another_at text.now ≡ Fails fault.wrong fault.left) }
+    ensures shorter { IfOk result (λ read. length read.1.now < length text.now) }
+{
+    match text.split_first() {
+        Some((b'|', others)) => Ok((true, behind_spaces(others))),
+        Some((b';', others)) => Ok((false, behind_spaces(others))),
+        _ => Err(Fault {
+            left: text.len(),
+            wrong: Wrong::NoCounts,
+        }),
     }
 }
 
 // The counts behind a flow, which end the line.
-fn read_note(text: &[u8]) -> Result<ContextNote, Fault> {
+fn read_note(text: &[u8]) -> Result<ContextNote, Fault>
+    ensures reads { IfOk result (λ note. note_at text.now ≡ Reads note []) }
+    ensures fails { IfErr result (λ fault. note_at text.now ≡ Fails fault.wrong fault.left) }
+{
     let (enters, rest) = read_signed(text)?;
     let rest = behind_mark(behind_spaces(rest), b',', Wrong::NoComma)?;
     let (leaves, rest) = read_signed(behind_spaces(rest))?;
@@ -91,7 +121,10 @@ fn read_note(text: &[u8]) -> Result<ContextNote, Fault> {
 
 // A block, and the text behind it and its spaces.
 fn read_block(alloc: Global, text: &[u8]) -> Result<(Block, &[u8]), NoLine>
-    ensures { IfOk result (λ read. length read.1.now < length text.now) }
+    requires { length text.now ≤ 2 ^ 30 }
+    ensures reads { IfOk result (λ read. block_at text.now ≡ Reads (block_of read.0) read.1.now) }
+    ensures fails { IfErr result (IsReadingOf (block_at text.now)) }
+    ensures shorter { IfOk result (λ read. length read.1.now < length text.now) }
 {
     let (steps, rest) = read_steps(alloc, text)?;
     if let Some((b'>', others)) = rest.split_first() {
@@ -104,66 +137,73 @@ fn read_block(alloc: Global, text: &[u8]) -> Result<(Block, &[u8]), NoLine>
 
 // The steps of a block, or the mark for none.
 fn read_steps(alloc: Global, text: &[u8]) -> Result<(StepList, &[u8]), NoLine>
-    ensures { IfOk result (λ read. length read.1.now < length text.now) }
+    ensures reads { IfOk result (λ read. steps_at text.now ≡ Reads (map step_of read.0) read.1.now) }
+    ensures fails { IfErr result (IsReadingOf (steps_at text.now)) }
+    ensures shorter { IfOk result (λ read. length read.1.now < length text.now) }
 {
     let mut steps = StepList::new(alloc);
     if let Some((b'-', others)) = text.split_first() {
         return Ok((steps, behind_spaces(others)));
     }
-    let (first, behind) = read_step(text)?;
-    if steps.push(first).is_err() {
-        return Err(NoLine::NoMemory);
-    }
-    let mut rest = behind_spaces(behind);
-    'steps: while begins_step(rest) {
+    let mut rest = text;
+    'steps: loop {
         let (step, behind) = read_step(rest)?;
         if steps.push(step).is_err() {
             return Err(NoLine::NoMemory);
         }
         rest = behind_spaces(behind);
+        if !begins_step(rest) {
+            return Ok((steps, rest));
+        }
     }
-    Ok((steps, rest))
 }
 
 // No mark stands here that ends the steps of a block.
-fn begins_step(text: &[u8]) -> bool {
+fn begins_step(text: &[u8]) -> bool
+    ensures { result ≡ begins_step text.now }
+{
     !matches!(text.first(), None | Some(b'>' | b'|' | b';'))
 }
 
 // The numbers of successors, of which there is one at least.
 fn read_successors(alloc: Global, text: &[u8]) -> Result<(TagList, &[u8]), NoLine>
-    ensures { IfOk result (λ read. length read.1.now < length text.now) }
+    requires { length text.now ≤ 2 ^ 30 }
+    ensures reads { IfOk result (λ read. successors_at text.now ≡ Reads (targets read.0) read.1.now) }
+    ensures fails { IfErr result (IsReadingOf (successors_at text.now)) }
+    ensures shorter { IfOk result (λ read. length read.1.now < length text.now) }
 {
     let mut next = TagList::new(alloc);
-    let (first, behind) = read_index(text)?;
-    push_successor(&mut next, first, text)?;
-    let mut rest = behind_spaces(behind);
-    'numbers: while begins_number(rest) {
-        let (number, behind) = read_index(rest)?;
-        push_successor(&mut next, number, rest)?;
+    let mut rest = text;
+    'numbers: loop {
+        let (number, behind) = read_successor(rest)?;
+        next.push(number, 0)?;
         rest = behind_spaces(behind);
+        if !begins_number(rest) {
+            return Ok((next, rest));
+        }
     }
-    Ok((next, rest))
 }
 
-fn begins_number(text: &[u8]) -> bool {
+fn begins_number(text: &[u8]) -> bool
+    ensures { result ≡ begins_number text.now }
+{
     !matches!(text.first(), None | Some(b'|' | b';'))
 }
 
-// The number of the successor at this text.
-fn push_successor(next: &mut TagList, number: u32, text: &[u8]) -> Result<(), NoLine> {
-    if number >= 1 << 30 {
-        return Err(NoLine::Wrong(Fault {
+// The number of a successor.
+fn read_successor(text: &[u8]) -> Result<(u32, &[u8]), Fault>
+    ensures reads { IfOk result (λ read. successor_at text.now ≡ Reads read.0 read.1.now) }
+    ensures fails { IfErr result (λ fault. successor_at text.now ≡ Fails fault.wrong fault.left) }
+    ensures small { IfOk result (λ read. read.0 < 2 ^ 30) }
+    ensures shorter { IfOk result (λ read. length read.1.now < length text.now) }
+{
+    let (number, rest) = read_index(text)?;
+    if number < 1 << 30 {
+        Ok((number, rest))
+    } else {
+        Err(Fault {
             left: text.len(),
             wrong: Wrong::LargeNumber,
-        }));
+        })
     }
-    if next.len() >= 1 << 30 {
-        return Err(NoLine::Wrong(Fault {
-            left: text.len(),
-            wrong: Wrong::TooManySuccessors,
-        }));
-    }
-    next.push(number, 0)?;
-    Ok(())
 }

@@ -1,11 +1,13 @@
 // Numbers and marks at the front of a text.
-ghost use Rattle.std.specs.Prelude.{◌<◌, ◌≤◌, IfOk, length};
+ghost use Rattle.std.specs.Prelude.{◌≡◌, ◌<◌, ◌≤◌, ◌+◌, ◌-◌, ◌*◌, ◌^◌, IfErr, IfOk, IfSome, MatchOption, length};
+ghost use Rattle.flows.specs.Reading.{Reads, Fails, behind_spaces, digits_from, index_at, mark_at, negative, number_at, positive, signed_at};
 
 use crate::wrong::{Fault, Wrong};
 
 /// The text behind the spaces at its front.
-pub fn behind_spaces(text: &[u8]) -> &[u8]
-    ensures { length result.now ≤ length text.now }
+pub(crate) fn behind_spaces(text: &[u8]) -> &[u8]
+    ensures text { result.now ≡ behind_spaces text.now }
+    ensures shorter { length result.now ≤ length text.now }
 {
     let mut rest = text;
     'spaces: while let Some((byte, others)) = rest.split_first() {
@@ -18,8 +20,10 @@ pub fn behind_spaces(text: &[u8]) -> &[u8]
 }
 
 /// The text behind this mark, which stands at its front.
-pub fn behind_mark(text: &[u8], mark: u8, wrong: Wrong) -> Result<&[u8], Fault>
-    ensures { IfOk result (λ rest. length rest.now < length text.now) }
+pub(crate) fn behind_mark(text: &[u8], mark: u8, wrong: Wrong) -> Result<&[u8], Fault>
+    ensures reads { IfOk result (λ rest. mark_at mark wrong text.now ≡ Reads tt rest.now) }
+    ensures fails { IfErr result (λ fault. mark_at mark wrong text.now ≡ Fails fault.wrong fault.left) }
+    ensures shorter { IfOk result (λ rest. length rest.now < length text.now) }
 {
     match text.split_first() {
         Some((byte, others)) if *byte == mark => Ok(others),
@@ -30,9 +34,12 @@ pub fn behind_mark(text: &[u8], mark: u8, wrong: Wrong) -> Result<&[u8], Fault>
     }
 }
 
-/// A number in decimal.
-pub fn read_number(text: &[u8]) -> Result<(u64, &[u8]), Fault>
-    ensures { IfOk result (λ read. length read.1.now < length text.now) }
+// A number in decimal that is at most so large.
+fn read_number(text: &[u8], most: u64) -> Result<(u64, &[u8]), Fault>
+    ensures reads { IfOk result (λ read. number_at most text.now ≡ Reads read.0 read.1.now) }
+    ensures fails { IfErr result (λ fault. number_at most text.now ≡ Fails fault.wrong fault.left) }
+    ensures most { IfOk result (λ read. read.0 ≤ most) }
+    ensures shorter { IfOk result (λ read. length read.1.now < length text.now) }
 {
     let Some((digit, others)) = text.split_first() else {
         return Err(no_number(text));
@@ -40,78 +47,98 @@ pub fn read_number(text: &[u8]) -> Result<(u64, &[u8]), Fault>
     if !digit.is_ascii_digit() {
         return Err(no_number(text));
     }
-    let mut number = u64::from(*digit - b'0');
-    let mut rest = others;
-    'digits: while let Some((digit, others)) = rest.split_first() {
-        if !digit.is_ascii_digit() {
-            return Ok((number, rest));
-        }
-        let Some(more) = more_digits(number, *digit - b'0') else {
-            return Err(large_number(text));
-        };
-        number = more;
-        rest = others;
+    let Some((number, rest)) = read_digits(u64::from(*digit - b'0'), others) else {
+        return Err(large_number(text));
+    };
+    if number <= most {
+        Ok((number, rest))
+    } else {
+        Err(large_number(text))
     }
-    Ok((number, rest))
 }
 
-fn no_number(text: &[u8]) -> Fault {
+fn no_number(text: &[u8]) -> Fault
+    ensures left { result.left ≡ length text.now }
+    ensures wrong { result.wrong ≡ Wrong.NoNumber }
+{
     Fault {
         left: text.len(),
         wrong: Wrong::NoNumber,
     }
 }
 
-fn large_number(text: &[u8]) -> Fault {
+fn large_number(text: &[u8]) -> Fault
+    ensures left { result.left ≡ length text.now }
+    ensures wrong { result.wrong ≡ Wrong.LargeNumber }
+{
     Fault {
         left: text.len(),
         wrong: Wrong::LargeNumber,
     }
 }
 
-// One digit more.
-fn more_digits(number: u64, digit: u8) -> Option<u64> {
+// The number behind the digits at the front of a text, given the one before them, if it is below 2^64.
+fn read_digits(first: u64, text: &[u8]) -> Option<(u64, &[u8])>
+    ensures number { MatchOption result
+        (2 ^ 64 ≤ (digits_from first text.now).0)
+        (λ read. digits_from first text.now ≡ (read.0, read.1.now)) }
+    ensures shorter { IfSome result (λ read. length read.1.now ≤ length text.now) }
+{
+    let mut number = first;
+    let mut rest = text;
+    'digits: while let Some((digit, others)) = rest.split_first() {
+        if !digit.is_ascii_digit() {
+            return Some((number, rest));
+        }
+        number = one_digit_more(number, *digit - b'0')?;
+        rest = others;
+    }
+    Some((number, rest))
+}
+
+fn one_digit_more(number: u64, digit: u8) -> Option<u64>
+    ensures { MatchOption result (2 ^ 64 ≤ number * 10 + digit) (λ more. more ≡ number * 10 + digit) }
+{
     number.checked_mul(10)?.checked_add(u64::from(digit))
 }
 
 /// The number of a token or of a block.
-pub fn read_index(text: &[u8]) -> Result<(u32, &[u8]), Fault>
-    ensures { IfOk result (λ read. length read.1.now < length text.now) }
+pub(crate) fn read_index(text: &[u8]) -> Result<(u32, &[u8]), Fault>
+    ensures reads { IfOk result (λ read. index_at text.now ≡ Reads read.0 read.1.now) }
+    ensures fails { IfErr result (λ fault. index_at text.now ≡ Fails fault.wrong fault.left) }
+    ensures shorter { IfOk result (λ read. length read.1.now < length text.now) }
 {
-    let (number, rest) = read_number(text)?;
-    match u32::try_from(number) {
-        Ok(index) => Ok((index, rest)),
-        Err(_) => Err(large_number(text)),
-    }
+    let (number, rest) = read_number(text, 4_294_967_295)?;
+    Ok((number as u32, rest))
 }
 
 /// A number with a sign, or without one.
-pub fn read_signed(text: &[u8]) -> Result<(i64, &[u8]), Fault>
-    ensures { IfOk result (λ read. length read.1.now < length text.now) }
+pub(crate) fn read_signed(text: &[u8]) -> Result<(i64, &[u8]), Fault>
+    ensures reads { IfOk result (λ read. signed_at text.now ≡ Reads read.0 read.1.now) }
+    ensures fails { IfErr result (λ fault. signed_at text.now ≡ Fails fault.wrong fault.left) }
+    ensures shorter { IfOk result (λ read. length read.1.now < length text.now) }
 {
     match text.split_first() {
-        Some((b'-', others)) => read_negative(text, others),
-        Some((b'+', others)) => read_positive(text, others),
-        _ => read_positive(text, text),
+        Some((b'-', digits)) => read_negative(digits),
+        Some((b'+', digits)) => read_positive(digits),
+        _ => read_positive(text),
     }
 }
 
-fn read_positive<'t>(text: &'t [u8], digits: &'t [u8]) -> Result<(i64, &'t [u8]), Fault>
-    ensures { IfOk result (λ read. length read.1.now < length digits.now) }
+fn read_positive(digits: &[u8]) -> Result<(i64, &[u8]), Fault>
+    ensures reads { IfOk result (λ read. positive (number_at (2 ^ 63 - 1) digits.now) ≡ Reads read.0 read.1.now) }
+    ensures fails { IfErr result (λ fault. positive (number_at (2 ^ 63 - 1) digits.now) ≡ Fails fault.wrong fault.left) }
+    ensures shorter { IfOk result (λ read. length read.1.now < length digits.now) }
 {
-    let (number, rest) = read_number(digits)?;
-    match i64::try_from(number) {
-        Ok(value) => Ok((value, rest)),
-        Err(_) => Err(large_number(text)),
-    }
+    let (number, rest) = read_number(digits, 9_223_372_036_854_775_807)?;
+    Ok((number as i64, rest))
 }
 
-fn read_negative<'t>(text: &'t [u8], digits: &'t [u8]) -> Result<(i64, &'t [u8]), Fault>
-    ensures { IfOk result (λ read. length read.1.now < length digits.now) }
+fn read_negative(digits: &[u8]) -> Result<(i64, &[u8]), Fault>
+    ensures reads { IfOk result (λ read. negative (number_at (2 ^ 63) digits.now) ≡ Reads read.0 read.1.now) }
+    ensures fails { IfErr result (λ fault. negative (number_at (2 ^ 63) digits.now) ≡ Fails fault.wrong fault.left) }
+    ensures shorter { IfOk result (λ read. length read.1.now < length digits.now) }
 {
-    let (number, rest) = read_number(digits)?;
-    match i64::try_from(0 - i128::from(number)) {
-        Ok(value) => Ok((value, rest)),
-        Err(_) => Err(large_number(text)),
-    }
+    let (number, rest) = read_number(digits, 9_223_372_036_854_775_808)?;
+    Ok(((-i128::from(number)) as i64, rest))
 }

@@ -1,7 +1,8 @@
 // The lines of a text to their answers, a line each.
-ghost use Rattle.std.specs.Prelude.{◌≡◌, ◌<◌, ◌++◌, OnOk, codes, length};
+ghost use Rattle.std.specs.Prelude.{◌≡◌, ◌<◌, ◌≤◌, ◌+◌, ◌^◌, ◌++◌, IfErr, IfOk, OnOk, codes, length};
 ghost use Rattle.std.specs.Fmt.{decimal};
 ghost use Rattle.flows.specs.Shown.{shown_answer, shown_exit};
+ghost use Rattle.flows.specs.Answers.{EndsSo, IsAnswerOf, IsFaultOf, behind_line, first_line, place_of};
 
 use crate::check::asked_fault;
 use crate::line::{Line, NoLine, read_line};
@@ -13,29 +14,37 @@ use std::alloc::{AllocError, Global};
 
 /// Why a text is answered no further.
 #[derive(Clone, Copy)]
-pub enum NoAnswer {
+pub(crate) enum NoAnswer {
     Wrong(Place),
     NoMemory,
 }
 
 impl From<AllocError> for NoAnswer {
+    ghost use Rattle.std.specs.Prelude.{◌≡◌};
+    ghost use Rattle.flows.specs.declared.text.NoAnswer.TheVariants.{NoMemory};
+
+    ghost from_gives = { λ _ no_answer. no_answer ≡ NoMemory };
+
     fn from(_error: AllocError) -> Self {
         NoAnswer::NoMemory
     }
 }
 
 /// Appends the answers to the lines of a text, up to the first line that has none.
-pub fn push_answers(shown: &mut Vec<u8>, alloc: Global, text: &[u8]) -> Result<(), NoAnswer> {
+pub(crate) fn push_answers(shown: &mut Vec<u8>, alloc: Global, text: &[u8]) -> Result<(), NoAnswer>
+    requires { length text.now ≤ 2 ^ 30 }
+    ensures { EndsSo shown.old.items text.now shown.new.items result }
+{
     let mut rest = text;
-    let mut number: usize = 0;
+    let mut number: usize = 1;
     'lines: while !rest.is_empty() {
         let (line, others) = first_line(rest);
-        number = number.saturating_add(1);
         match answer_line(alloc, line) {
             Ok(answer) => push_answer(shown, answer)?,
             Err(NoLine::NoMemory) => return Err(NoAnswer::NoMemory),
             Err(NoLine::Wrong(fault)) => return Err(NoAnswer::Wrong(place_of(number, line, fault))),
         }
+        number += 1;
         rest = others;
     }
     Ok(())
@@ -44,7 +53,10 @@ pub fn push_answers(shown: &mut Vec<u8>, alloc: Global, text: &[u8]) -> Result<(
 // The first line without its new-line, and what stands behind that.
 fn first_line(text: &[u8]) -> (&[u8], &[u8])
     requires { 0 < length text.now }
-    ensures { length result.1.now < length text.now }
+    ensures line { result.0.now ≡ first_line text.now }
+    ensures behind { result.1.now ≡ behind_line text.now }
+    ensures within { length result.0.now ≤ length text.now }
+    ensures shorter { length result.1.now < length text.now }
 {
     match memchr(b'\n', text) {
         Some(end) => (&text[..end], &text[end + 1..]),
@@ -52,16 +64,23 @@ fn first_line(text: &[u8]) -> (&[u8], &[u8])
     }
 }
 
-fn place_of(number: usize, line: &[u8], fault: Fault) -> Place {
+fn place_of(number: usize, line: &[u8], fault: Fault) -> Place
+    requires { length line.now ≤ 2 ^ 30 }
+    ensures { result ≡ place_of number line.now fault }
+{
     Place {
         line: number,
-        column: line.len().saturating_sub(fault.left).saturating_add(1),
+        column: line.len().saturating_sub(fault.left) + 1,
         wrong: fault.wrong,
     }
 }
 
 // The answer for the flow of a line.
-fn answer_line(alloc: Global, text: &[u8]) -> Result<ContextAnswer, NoLine> {
+fn answer_line(alloc: Global, text: &[u8]) -> Result<ContextAnswer, NoLine>
+    requires { length text.now ≤ 2 ^ 30 }
+    ensures answer { IfOk result (IsAnswerOf text.now) }
+    ensures fault { IfErr result (IsFaultOf text.now) }
+{
     let Line { flow, note, lefts } = read_line(alloc, text)?;
     if let Some((number, wrong)) = asked_fault(flow.blocks.as_slice(), note.enters) {
         let left = lefts.get(number).copied().unwrap_or(0);

@@ -1,4 +1,6 @@
 // What can be wrong with a line, and where.
+ghost use Rattle.std.specs.Prelude.{◌≡◌};
+ghost use Rattle.flows.specs.Shown.{wrong_text};
 
 /// What is wrong with a line.
 #[derive(Clone, Copy, Debug, PartialEq, Eq)]
@@ -11,7 +13,6 @@ pub enum Wrong {
     NoClosing,
     NoEnd,
     NoCounts,
-    TooManySuccessors,
     NoPointFirst,
     NoSuchBlock,
     LargeSum,
@@ -19,7 +20,9 @@ pub enum Wrong {
 
 impl Wrong {
     /// What is written of it.
-    pub fn text(self) -> &'static [u8] {
+    pub(crate) fn text(self) -> &'static [u8]
+        ensures { result.now ≡ wrong_text self }
+    {
         match self {
             Wrong::NoStep => b"a step or `-` is expected".as_slice(),
             Wrong::NoNumber => b"a number is expected".as_slice(),
@@ -29,7 +32,6 @@ impl Wrong {
             Wrong::NoClosing => b"`)` is expected".as_slice(),
             Wrong::NoEnd => b"the end of the line is expected".as_slice(),
             Wrong::NoCounts => b"`>`, `|` or `;` is expected".as_slice(),
-            Wrong::TooManySuccessors => b"the block has too many successors".as_slice(),
             Wrong::NoPointFirst => b"the block has steps and doesn't begin with a point".as_slice(),
             Wrong::NoSuchBlock => b"the block has a successor that is no block".as_slice(),
             Wrong::LargeSum => b"the numbers sum up to 2^63 or more".as_slice(),
@@ -39,9 +41,9 @@ impl Wrong {
 
 /// What is wrong, and how many bytes of the line stand there and behind.
 #[derive(Clone, Copy, Debug, PartialEq, Eq)]
-pub struct Fault {
-    pub left: usize,
-    pub wrong: Wrong,
+pub(crate) struct Fault {
+    pub(crate) left: usize,
+    pub(crate) wrong: Wrong,
 }
 
 /// What is wrong with a text, by line and column, both counted from 1.

@@ -1,6 +1,6 @@
--- Where those that are left are below, all are.
+use Rattle.std.proofs.Common.{◌≡◌}
 use Rattle.control_flow.specs.Seen.{targets}
-use Rattle.flows.specs.Asked.{AllBelow}
+use Rattle.flows.specs.Asked.{all_below}
 use Rattle.flows.proofs.check.are_below.Given as goal
 
 abbrev pub invariant-loop-number : goal.invariant-loop-number
@@ -8,5 +8,5 @@ invariant-loop-number l =
     record {
       next : (goal.iterator-loop-number).can_next l.number-iterator;
       finite : (goal.iterator-loop-number).is_finite l.number-iterator;
-      all : AllBelow l.blocks (targets l.number-iterator) → AllBelow l.blocks (targets l.next);
+      all : all_below l.blocks (targets l.number-iterator) ≡ all_below l.blocks (targets l.next);
     }

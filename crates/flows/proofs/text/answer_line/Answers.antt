@@ -8,4 +8,4 @@ use Rattle.flows.proofs.text.answer_line.Goals as goal
 pub walk-requires-clause-closed : goal.walk-requires-clause-closed
 walk-requires-clause-closed c =
     let same : c.as_slice.result.now ≡ c.in_ok-flow.field-0.flow.blocks = cc in
-    subst (λ (blocks : List Block). IsClosed (graph_of_blocks blocks)) same c.in_default.ensures.closed
+    subst (λ (blocks : List Block). IsClosed (graph_of_blocks blocks)) same c.in_default.ensures.asked.closed

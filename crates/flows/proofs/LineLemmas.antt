@@ -1,0 +1,90 @@
+-- The first line of a text ends at its first new-line; and what is answered for a text, line by line.
+use Rattle.std.proofs.Common.{◌≡◌, ℕ, zero, suc, ◌+◌, ◌-◌, ◌<◌, ◌≤◌, ◌==◌, Bool, true, false, Option, Some, Result, Ok, Err, IfErr, IsErrAnd, OnOk, is_err, List, [], ◌∷◌, ◌++◌, take, drop, length, slice_index, slice_index_or, if◌then◌else◌, refl, sym, ap, ◌∙◌, subst, arith}
+use Rattle.std.proofs.lemmas.List.{length-drop, take_all}
+use Rattle.std.proofs.lemmas.Result.{err_from_is_err_and}
+use Rattle.meaning_paths.specs.Graphs.{BasicBlock}
+use Rattle.control_flow.specs.declared.note.ContextAnswer.{ContextAnswer}
+use Rattle.flows.specs.declared.line.NoLine.{NoLine}
+use Rattle.flows.specs.declared.line.NoLine.TheVariants as no_line
+use Rattle.flows.specs.declared.wrong.Fault.{Fault}
+use Rattle.flows.specs.declared.wrong.Place.{Place}
+use Rattle.flows.specs.declared.wrong.Wrong.{Wrong}
+use Rattle.flows.specs.Reading.{Reading, Reads, reads_on}
+use Rattle.flows.specs.Lines.{FlowLine, block_at, line_at}
+use Rattle.flows.specs.Asked.{asked_fault}
+use Rattle.flows.specs.Shown.{shown_answer}
+use Rattle.flows.specs.Answers.{IsAnswerOf, IsFaultOf, IsReadingOf, Shows, behind_line, block_fault_at, fault_at, fault_of, first_line, goes, line_fault, place_of, stops}
+use Rattle.flows.proofs.ElementLemmas.{ReadsBlocksOn, no-block}
+
+never : (test : Bool) → (test ≡ true → ⊥) → test ≡ false
+never true isnt = absurd (isnt refl)
+never false isnt = refl
+
+-- what a slice up to the end of a text is
+pub to-end : (text : List ℕ) (place : ℕ) → take (length text - place) (drop place text) ≡ drop place text
+to-end text place = take_all (length text - place) (drop place text) (omega (arith, length-drop place text))
+
+-- an error that is handed on by `?`
+pub handed-on : {T F : Type 0} (P : F → Type 0) (fault : F) (result : Result T F) → IsErrAnd result (λ other. other ≡ fault) → P fault → IfErr result P
+handed-on P fault result is holds =
+    let found = err_from_is_err_and result is in
+    subst (λ one. IfErr one P) (sym found.1) (subst P (sym found.2) holds)
+
+-- what holds where a call went well
+pub went-well : {T E P : Type 0} (result : Result T E) → is_err result ≡ false → OnOk result P → P
+went-well (Ok value) well holds = holds
+went-well (Err fault) well holds = absurd (cc well)
+
+pub ended-at : (text : List ℕ) (place : ℕ) → place < length text → (slice_index text place == 10) ≡ true → ((k : ℕ) → 0 ≤ k → k < place → (slice_index text k == 10) ≡ true → ⊥)
+    → (first_line text ≡ take place text) × (behind_line text ≡ drop (suc place) text)
+ended-at [] place within here before = absurd (omega (arith, within))
+ended-at (byte ∷ rest) zero within here before = (
+  ap (λ (ends : Bool). if ends then [] else byte ∷ first_line rest) here,
+  ap (λ (ends : Bool). if ends then rest else behind_line rest) here,
+)
+ended-at (byte ∷ rest) (suc place) within here before =
+    let goes_on = never (byte == 10) (before 0 (omega arith) (omega arith)) in
+    let later = ended-at rest place (omega (arith, within)) here (λ k low below. before (suc k) (omega arith) (omega (arith, below))) in (
+      ap (λ (ends : Bool). if ends then [] else byte ∷ first_line rest) goes_on ∙ ap (λ (line : List ℕ). byte ∷ line) later.0,
+      ap (λ (ends : Bool). if ends then rest else behind_line rest) goes_on ∙ later.1,
+    )
+
+pub endless : (text : List ℕ) → ((k : ℕ) → 0 ≤ k → k < length text → (slice_index text k == 10) ≡ true → ⊥) → (first_line text ≡ text) × (behind_line text ≡ [])
+endless [] nowhere = (refl, refl)
+endless (byte ∷ rest) nowhere =
+    let goes_on = never (byte == 10) (nowhere 0 (omega arith) (omega arith)) in
+    let later = endless rest (λ k low below. nowhere (suc k) (omega arith) (omega (arith, below))) in (
+      ap (λ (ends : Bool). if ends then [] else byte ∷ first_line rest) goes_on ∙ ap (λ (line : List ℕ). byte ∷ line) later.0,
+      ap (λ (ends : Bool). if ends then rest else behind_line rest) goes_on ∙ later.1,
+    )
+
+-- what isn't read isn't read with what follows either
+pub not-read : {X Y : Type 0} (reading : Reading X) (next : X → List ℕ → Reading Y) (why : NoLine) → IsReadingOf reading why → IsReadingOf (reads_on reading next) why
+not-read reading next (no_line.Wrong fault) is = ap (λ (found : Reading _). reads_on found next) is
+not-read reading next no_line.NoMemory is = tt
+
+pub unread : (text : List ℕ) (why : NoLine) → IsReadingOf (line_at text) why → IsFaultOf text why
+unread text (no_line.Wrong fault) is = ap fault_of is
+unread text no_line.NoMemory is = tt
+
+pub lacking : (text : List ℕ) (line : FlowLine) (rest : List ℕ) (number : ℕ) (wrong : Wrong) (left : ℕ) → line_at text ≡ Reads line rest → asked_fault line.graph line.note.enters ≡ Some (number, wrong)
+    → left ≡ slice_index_or line.lefts number 0 → line_fault text ≡ Some (fault_at wrong left)
+lacking text line rest number wrong left read lacks same =
+    ap fault_of read ∙ ap (block_fault_at line.lefts) lacks ∙ ap (λ (k : ℕ). Some (fault_at wrong k)) (sym same)
+
+pub block-unread : (graph : List BasicBlock) (lefts text : List ℕ) (whole : Reading FlowLine) → ReadsBlocksOn graph lefts text whole → (why : NoLine) → IsReadingOf (block_at text) why → IsReadingOf whole why
+block-unread graph lefts text whole on (no_line.Wrong fault) is = no-block graph lefts text whole on fault.wrong fault.left is
+block-unread graph lefts text whole on no_line.NoMemory is = tt
+
+-- one line more is answered
+pub line-goes : (number : ℕ) (before text line others more after : List ℕ) (stop : Option Place) (answer : ContextAnswer) → 0 < length text → line ≡ first_line text → others ≡ behind_line text
+    → more ≡ before ++ shown_answer answer → IsAnswerOf line answer → Shows (number + 1) more others after stop → Shows number before text after stop
+line-goes number before text line others more after stop answer some is_first is_behind is_more answers later =
+    goes some (subst (λ (l : List ℕ). IsAnswerOf l answer) is_first answers)
+    (subst (λ (m : List ℕ). Shows (number + 1) m (behind_line text) after stop) is_more (subst (λ (o : List ℕ). Shows (number + 1) more o after stop) is_behind later))
+
+-- a line that has no answer stops all
+pub line-stops : (number : ℕ) (before text line : List ℕ) (fault : Fault) (place : Place) → 0 < length text → line ≡ first_line text → line_fault line ≡ Some fault → place ≡ place_of number line fault
+    → Shows number before text before (Some place)
+line-stops number before text line fault place some is_first lacks is_place =
+    stops some (subst (λ (l : List ℕ). line_fault l ≡ Some fault) is_first lacks) refl (ap Some is_place ∙ ap (λ (l : List ℕ). Some (place_of number l fault)) is_first)

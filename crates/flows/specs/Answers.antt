@@ -1,0 +1,85 @@
+-- What is answered for a line, for a text of lines, and for a file.
+use Rattle.std.specs.Prelude.{◌≡◌, ℕ, ◌+◌, ◌-◌, ◌<◌, ◌==◌, Option, Some, None, Result, Ok, Err, List, [], ◌∷◌, ◌++◌, length, slice_index_or, if◌then◌else◌}
+use Rattle.meaning_paths.specs.Graphs.{IsPathOf}
+use Rattle.meaning_paths.specs.ContextRules.{IsAnswer}
+use Rattle.control_flow.specs.declared.note.ContextAnswer.{ContextAnswer}
+use Rattle.control_flow.specs.Seen.{answer_of, graph_of, the_key}
+use Rattle.flows.specs.declared.line.Line.{Line}
+use Rattle.flows.specs.declared.line.NoLine.{NoLine}
+use Rattle.flows.specs.declared.line.NoLine.TheVariants as no_line
+use Rattle.flows.specs.declared.text.NoAnswer.{NoAnswer}
+use Rattle.flows.specs.declared.text.NoAnswer.TheVariants as no_answer
+use Rattle.flows.specs.declared.wrong.Wrong.{Wrong}
+use Rattle.flows.specs.declared.wrong.Fault.{Fault}
+use Rattle.flows.specs.declared.wrong.Place.{Place}
+use Rattle.flows.specs.Reading.{Reading, Reads, Fails}
+use Rattle.flows.specs.Lines.{FlowLine, line_at}
+use Rattle.flows.specs.Asked.{asked_fault}
+use Rattle.flows.specs.Shown.{shown_answer}
+
+-- what a line that was read says
+abbrev pub line_of : Line → FlowLine
+line_of line = record { graph = graph_of line.flow; lefts = line.lefts.items; note = line.note }
+
+-- nothing was read for this reason; want of memory alone is free
+abbrev pub IsReadingOf : {X : Type 0} → Reading X → NoLine → Type 0
+IsReadingOf reading (no_line.Wrong fault) = reading ≡ Fails fault.wrong fault.left
+IsReadingOf reading no_line.NoMemory = Unit {0}
+
+-- Lines
+
+abbrev pub fault_at : (wrong : Wrong) (left : ℕ) → Fault
+fault_at wrong left = record { left = left; wrong = wrong }
+
+-- what a graph lacks stands at its block
+abbrev pub block_fault_at : (lefts : List ℕ) → Option (ℕ × Wrong) → Option Fault
+block_fault_at lefts None = None
+block_fault_at lefts (Some found) = Some (fault_at found.1 (slice_index_or lefts found.0 0))
+
+abbrev pub fault_of : Reading FlowLine → Option Fault
+fault_of (Fails wrong left) = Some (fault_at wrong left)
+fault_of (Reads line rest) = block_fault_at line.lefts (asked_fault line.graph line.note.enters)
+
+-- what is wrong with a line, if anything is: it isn't in the notation, or its flow isn't what the walk asks for
+abbrev pub line_fault : List ℕ → Option Fault
+line_fault text = fault_of (line_at text)
+
+-- nothing is wrong with the line, and this is the rules' answer for its flow and its counts
+pub record IsAnswerOf (text : List ℕ) (answer : ContextAnswer) : Type 0 where
+  pub line : FlowLine
+  pub read : line_at text ≡ Reads line []
+  pub asked : asked_fault line.graph line.note.enters ≡ None
+  pub answers : IsAnswer (IsPathOf line.graph) the_key line.note.enters line.note.leaves (answer_of answer)
+
+abbrev pub IsFaultOf : (text : List ℕ) → NoLine → Type 0
+IsFaultOf text (no_line.Wrong fault) = line_fault text ≡ Some fault
+IsFaultOf text no_line.NoMemory = Unit {0}
+
+-- Texts
+
+-- the first line without its new-line
+abbrev pub first_line : List ℕ → List ℕ
+first_line [] = []
+first_line (byte ∷ rest) = if byte == 10 then [] else byte ∷ first_line rest
+
+abbrev pub behind_line : List ℕ → List ℕ
+behind_line [] = []
+behind_line (byte ∷ rest) = if byte == 10 then rest else behind_line rest
+
+abbrev pub place_of : (number : ℕ) (line : List ℕ) → Fault → Place
+place_of number line fault = record { line = number; column = (length line - fault.left) + 1; wrong = fault.wrong }
+
+-- The answers to the lines of a text, the first of which has this number, stand behind what was shown before: to all of them, or
+-- to those before the first one that has none.
+pub data Shows : (number : ℕ) → (before text after : List ℕ) → Option Place → Type 0 where
+  ends : {number : ℕ} {before text after : List ℕ} {stop : Option Place} → text ≡ [] → after ≡ before → stop ≡ None → Shows number before text after stop
+  stops : {number : ℕ} {before text after : List ℕ} {stop : Option Place} {fault : Fault} → 0 < length text → line_fault (first_line text) ≡ Some fault → after ≡ before
+      → stop ≡ Some (place_of number (first_line text) fault) → Shows number before text after stop
+  goes : {number : ℕ} {before text after : List ℕ} {stop : Option Place} {answer : ContextAnswer} → 0 < length text → IsAnswerOf (first_line text) answer
+      → Shows (number + 1) (before ++ shown_answer answer) (behind_line text) after stop → Shows number before text after stop
+
+-- how the answers to a text end; want of memory alone is free
+abbrev pub EndsSo : (before text after : List ℕ) → Result Unit NoAnswer → Type 0
+EndsSo before text after (Ok done) = Shows 1 before text after None
+EndsSo before text after (Err (no_answer.Wrong place)) = Shows 1 before text after (Some place)
+EndsSo before text after (Err no_answer.NoMemory) = Unit {0}

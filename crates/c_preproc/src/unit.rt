@@ -16,6 +16,9 @@ use sparse_model::{Failure, FailureList, FileNames, Options, RuleCode};
 use sparse_outside::Files;
 use std::alloc::{AllocError, Global};
 
+// For the text of the options there is room below this many bytes.
+const MOST_COMMANDS: usize = 1 << 30;
+
 /// The tokens of a file with those that it includes, behind its directives and with its macros replaced.
 #[derive(Drop)]
 pub struct UnitTokens {
@@ -31,7 +34,8 @@ pub struct UnitTokens {
 /// The preprocessed unit of the file with the path `main` (C11 5.1.1.2 phases 3 and 4), behind the text of the options.
 ///
 /// # Errors
-/// `Error` with the first error, and `Limit` with the first limit that is passed. `ReadFault` where a load failed.
+/// `Error` with the first error, and `Limit` with the first limit that is passed. `ReadFault` where a load failed. `Memory` for
+/// want of memory, and for a text of the options of 2^30 bytes or more, for which there is no room.
 pub fn preprocess<F: Files>(
     alloc: Global,
     options: &Options,
@@ -39,8 +43,6 @@ pub fn preprocess<F: Files>(
     names: &mut Names,
     main: &[u8],
 ) -> Result<UnitTokens, PreFault>
-    requires few { length options.now.commands < 2 ^ 30 }
-
     // Over each map of files that agrees with all that this call loaded, it is the unit of the path.
     ensures unit { IfOk result (λ unit. (map : FileMap) → AgreesWith map (loads_since (F.loads files.old) (F.loads files.new))
         → IsUnit (options_seen options.now) map main.now names.new unit) }
@@ -65,9 +67,12 @@ pub fn preprocess<F: Files>(
     ensures known { IfOk result (IsKnownUnit names.new) }
     ensures known_fault { IfErr result (IsKnownFault names.new) }
 {
+    let text = options.commands.as_slice();
+    if text.len() >= MOST_COMMANDS {
+        return Err(PreFault::Memory);
+    }
     let mut state = first_state(alloc, names, main)?;
     let mut kept = Kept::new(alloc);
-    let text = options.commands.as_slice();
     let directories = options.dirs.as_slice();
     match state.read_command(alloc, names, files, directories, &mut kept, text) {
         Ok(()) => match state.read_main(alloc, names, files, directories, &mut kept, main) {

@@ -10,9 +10,6 @@ use sparse_model::Options;
 use sparse_outside::{Files, Sink, Words};
 use std::alloc::Global;
 
-/// From this length on the text of the file `<command>` is too long to be read.
-const MAX_COMMANDS: usize = 1 << 30;
-
 /// Writes to `err` what the judge says of the file that the words name, which are those of the checker's command; or the
 /// line for which it isn't judged. Says how it ended as the checker does.
 pub fn judged<F: Files, O: Sink, E: Sink>(
@@ -63,9 +60,6 @@ fn judge_file<F: Files>(
     ensures read { Told (F.faults files.old) (F.faults files.new) (IsErrOf result Stop.ReadFault) }
     ensures keeps { F.holds files.new ≡ F.holds files.old }
 {
-    if options.commands.len() >= MAX_COMMANDS {
-        return Err(Stop::NoMemory);
-    }
     let mut names = Names::new(alloc)?;
     match preprocess(alloc, options, files, &mut names, path) {
         Ok(toks) => Ok(judge_tokens(alloc, &names, &toks, &options.classes)?),

@@ -24,9 +24,6 @@ use sparse_model::Options;
 use sparse_outside::{Files, Words};
 use std::alloc::{AllocError, Global};
 
-/// From this length on the text of the file `<command>` is too long to be read.
-const MAX_COMMANDS: usize = 1 << 30;
-
 /// Why there is no reply.
 #[derive(Clone, Copy, Debug, PartialEq, Eq)]
 pub enum Stop {
@@ -95,9 +92,6 @@ fn check_file<F: Files>(
 {
     loads_of_each_path_once_agree();
     each_path_has_one_unit();
-    if options.commands.len() >= MAX_COMMANDS {
-        return Err(Stop::NoMemory);
-    }
     let mut names = Names::new(alloc)?;
     match preprocess(alloc, options, files, &mut names, path) {
         Ok(toks) => Ok(check_tokens(alloc, &names, &toks, &options.classes)?),
@@ -119,9 +113,6 @@ fn expand_file<F: Files>(
     ensures cause { Told (F.faults files.old) (F.faults files.new) (IsErrOf result Stop.ReadFault) }
     ensures keeps { F.holds files.new ≡ F.holds files.old }
 {
-    if options.commands.len() >= MAX_COMMANDS {
-        return Err(Stop::NoMemory);
-    }
     let mut names = Names::new(alloc)?;
     match preprocess(alloc, options, files, &mut names, path) {
         Ok(toks) => Ok(expand_tokens(alloc, &names, toks.tokens.as_slice())?),

@@ -71,7 +71,7 @@ zero-in_range kinds.Bool = (le_z_yes tt, le_z_yes tt)
 zero-in_range kind = (le_z_yes tt, le_z_yes tt)
 
 -- so no kind has its least number above its greatest
-least-below : (kind : IntKind) → least kind ≤ℤ greatest kind
+pub least-below : (kind : IntKind) → least kind ≤ℤ greatest kind
 least-below kind = let (low, high) = zero-in_range kind in omega (arith, ints, low, high)
 
 -- numbers are wrapped in each kind but _Bool
@@ -114,6 +114,10 @@ converted_is_apart =
 -- a wrapped number is one of the kind, _Bool too
 pub wrapped_is_in_range : (kind : IntKind) (number : ℤ) → IsInRange kind (wrapped kind number)
 wrapped_is_in_range kind number = between (least kind) (greatest kind) number (least-below kind)
+
+-- and a number of the kind stays as it is
+pub wrapped_is_kept : (kind : IntKind) (number : ℤ) → IsInRange kind number → wrapped kind number ≡ number
+wrapped_is_kept kind number within = stays (least kind) (greatest kind) number within.0 within.1
 
 -- the truth of a number is a number of int
 truth-is_an_int : (is_zero : Bool) → IsInRange kinds.Int (if is_zero then pos 0 else pos 1)

@@ -1,4 +1,5 @@
 -- What is proved of the definitions.
 pub mod Numbers
+pub mod Wrapping
 pub mod Constants
 pub mod Nodes

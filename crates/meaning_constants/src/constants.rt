@@ -1,8 +1,10 @@
 // What is proved of constants, and examples.
 ghost use Rattle.meaning_constants.specs.laws.Numbers.{ConversionsAreInRange, ConversionsKeepNumbers, ConversionsWrap};
+ghost use Rattle.meaning_constants.specs.laws.Wrapping.{ConversionsCompose, OperatorsNarrowOnce, OperatorsWrapOnce};
 ghost use Rattle.meaning_constants.specs.laws.Constants.{ConstantsAreInRange};
 ghost use Rattle.meaning_constants.specs.laws.Nodes.{BitsTellNumbers, NodeConstantsFit};
 ghost use Rattle.meaning_constants.specs.examples.Numbers.{ConversionExamples};
+ghost use Rattle.meaning_constants.specs.examples.Wrapping.{WaysThatCount};
 ghost use Rattle.meaning_constants.specs.examples.Constants.{OperatorExamples, EvaluationExamples, CastExamples, FoulExamples};
 ghost use Rattle.meaning_constants.specs.examples.Enumerators.{EnumeratorExamples};
 ghost use Rattle.meaning_constants.specs.examples.Compared.{ComparedExamples};
@@ -15,6 +17,16 @@ pub fn numbers_are_converted()
     ensures in_range { ConversionsAreInRange }
     ensures kept { ConversionsKeepNumbers }
     ensures wrapped { ConversionsWrap }
+{}
+
+/// Sums, differences, products, shifts to the left and bits are the same of operands that were wrapped first (6.2.5 p9), and of
+/// the common kind and of a narrower one to which the result is wrapped (6.3.1.8); a number that is converted twice is
+/// converted at once (6.3.1.3). Of the other operators there are numbers that tell the ways apart.
+pub fn wrapping_commutes()
+    ensures before { OperatorsWrapOnce }
+    ensures composed { ConversionsCompose }
+    ensures behind { OperatorsNarrowOnce }
+    ensures others { WaysThatCount }
 {}
 
 /// The number of a constant is one of its kind; that of a fouled one is one of the promoted kind.

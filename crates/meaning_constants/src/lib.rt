@@ -8,5 +8,5 @@ mod constants;
 
 pub use constants::{
     compared_examples, constants_are_in_range, node_constants_are_kept, numbers_are_converted,
-    worked_examples, worked_nodes,
+    worked_examples, worked_nodes, wrapping_commutes,
 };

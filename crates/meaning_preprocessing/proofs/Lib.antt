@@ -5,3 +5,10 @@ pub mod PlainFiles
 pub mod WellFormedLines
 pub mod LinesBehind
 pub mod SkippedLines
+pub mod ExpansionFronts
+pub mod LongerParts
+pub mod InLine
+pub mod LongerTexts
+pub mod LongerFiles
+pub mod LoadedBefore
+pub mod ReadOnce

@@ -70,11 +70,11 @@ behind_directive value include text hash rest groups s =
     (λ u. behind_turn value include groups (turn_of value hash rest groups u))
 
 -- with text before
-abbrev prepended : List Tok → FileParts → FileParts
+abbrev pub prepended : List Tok → FileParts → FileParts
 prepended tokens (LastText text) = LastText (tokens ++ text)
 prepended tokens (DirectiveBehind text hash rest parts) = DirectiveBehind (tokens ++ text) hash rest parts
 
-prepended-nothing : (parts : FileParts) → prepended [] parts ≡ parts
+pub prepended-nothing : (parts : FileParts) → prepended [] parts ≡ parts
 prepended-nothing (LastText text) = refl
 prepended-nothing (DirectiveBehind text hash rest parts) = refl
 

@@ -2,3 +2,4 @@
 pub mod Units
 pub mod Lines
 pub mod Macros
+pub mod LongerFiles

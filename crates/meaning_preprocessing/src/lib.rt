@@ -9,5 +9,6 @@ mod units;
 
 pub use units::{
     definitions_are_well_formed, each_path_has_one_unit, lines_are_read_in_order,
-    numbers_tell_paths, plain_files_stay, skipped_groups_do_not_show, worked_examples,
+    lines_behind_the_end_do_not_show, numbers_tell_paths, plain_files_stay,
+    skipped_groups_do_not_show, worked_examples,
 };

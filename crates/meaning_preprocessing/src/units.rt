@@ -3,6 +3,7 @@ ghost use Rattle.meaning_preprocessing.specs.examples.DirectiveRows.{LineRows, G
 ghost use Rattle.meaning_preprocessing.specs.examples.MacroRows.{DefinitionRows, ConditionRows, LeftNameRows};
 ghost use Rattle.meaning_preprocessing.specs.examples.IncludeRows.{SearchRows, HeaderRows, FileRows, CommandRows, DepthRows, LimitRows};
 ghost use Rattle.meaning_preprocessing.specs.laws.Lines.{LinesHaveAllTokens, SkippedLinesDoNotShow, LinesBehindADirective, LinesBehindTheEnd};
+ghost use Rattle.meaning_preprocessing.specs.laws.LongerFiles.{TokensBehindTheEnd, LinesBehindTheUnitsEnd, FilesWithoutIncludesAreReadOnce};
 ghost use Rattle.meaning_preprocessing.specs.laws.Macros.{DefinitionsAreWellFormed};
 ghost use Rattle.meaning_preprocessing.specs.laws.Units.{UnitsExist, UnitsAreUnique, UnitsAreWithinTheLimit, PlainFilesStay, NumbersTellPaths, NumbersStay};
 
@@ -30,6 +31,15 @@ pub fn lines_are_read_in_order()
     ensures tokens { LinesHaveAllTokens }
     ensures behind { LinesBehindADirective }
     ensures at_the_end { LinesBehindTheEnd }
+{}
+
+/// Lines behind the one at which a file breaks off change nothing, be there a directive between or not; nor do those
+/// that FILE has behind the end of its unit, neither how the unit ends nor its tokens.
+/// An include that reads FILE again would show them; a FILE without includes is read once.
+pub fn lines_behind_the_end_do_not_show()
+    ensures tokens { TokensBehindTheEnd }
+    ensures lines { LinesBehindTheUnitsEnd }
+    ensures once { FilesWithoutIncludesAreReadOnce }
 {}
 
 /// Nothing of a group that is skipped shows but its conditionals: each other line may be left out.

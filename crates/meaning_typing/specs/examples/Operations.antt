@@ -6,6 +6,7 @@ use Rattle.vocabulary.specs.declared.node_kind.NodeKind.TheVariants as kinds
 use Rattle.vocabulary.specs.declared.role.Role.TheVariants.{Evaluated, Condition, TypePart, Unevaluated}
 use Rattle.meaning_tree.specs.Trees.{SyntaxTree, Node, Parts, NoParts, Part, parts_of}
 use Rattle.meaning_operands.specs.Failures.{Failure}
+use Rattle.meaning_typing.specs.Evaluation.{evaluated_parts}
 use Rattle.meaning_typing.specs.Facts.{Fact, Expression}
 use Rattle.meaning_typing.specs.Rows.{breaks_at}
 use Rattle.meaning_typing.specs.Typing.{failures_at}
@@ -13,7 +14,7 @@ use Rattle.meaning_typing.specs.Building.{surroundings_of, facts_of}
 use Rattle.meaning_typing.specs.Operators.{integer}
 use Rattle.vocabulary.specs.declared.int_kind.IntKind.TheVariants as integers
 use Rattle.meaning_typing.specs.Units.{UnitNodes}
-use Rattle.meaning_typing.specs.examples.Drawn.{declaration, declarator, in_body, int, leaf, number, over, p, parenthesized, star, statement, type_over, u, i, user_int}
+use Rattle.meaning_typing.specs.examples.Drawn.{declaration, declarator, in_body, int, leaf, nodes_from, number, over, p, parenthesized, star, statement, type_over, u, i, user_int}
 use Rattle.meaning_typing.specs.examples.Rows.{access, body_handles, breaking, failing}
 use Rattle.meaning_typing.specs.examples.Typing.{fact_in, types_at}
 
@@ -72,6 +73,8 @@ pub record OperationExamples : Type 0 where
       (over kinds.Negation 33 (star 34 (u 35) ∷ []) ∷ over kinds.Addition 36 (star 34 (u 35) ∷ number 37 1 ∷ []) ∷ over kinds.LogicalNot 33 (star 34 (u 35) ∷ [])
       ∷ over kinds.LogicalAnd 36 (star 34 (u 35) ∷ number 37 1 ∷ []) ∷ over kinds.Comma 36 (star 34 (u 35) ∷ number 37 1 ∷ []) ∷ [])
       ≡ access 34 user_int ∷ access 34 user_int ∷ access 34 user_int ∷ access 34 user_int ∷ access 34 user_int ∷ []
+  -- of `i ?: *u` both operands are evaluated, each once
+  pub both_once : evaluated_parts (nodes_from 0 (Node kinds.Conditional 34 [] 0 (Part Condition (i 33) (Part Evaluated (star 36 (u 37)) NoParts)))) [] 3 ≡ 0 ∷ 2 ∷ []
   -- the statement in a body loads it, and so gives the body a value
   pub inside : failing body ≡ access 35 user_int
   pub value_of_body : types_at (in_body (statement body ∷ [])) (44 ∷ 47 ∷ []) ≡ Some user_int ∷ Some int ∷ []

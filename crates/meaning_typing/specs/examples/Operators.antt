@@ -1,5 +1,5 @@
 -- Worked examples: the types that operators give, what fails at them, and what they break.
-use Rattle.std.specs.Prelude.{◌≡◌, pos, negsuc, Bool, true, false, [], ◌∷◌, map, replicate, Option, Some, None}
+use Rattle.std.specs.Prelude.{◌≡◌, pos, negsuc, Bool, true, false, [], ◌∷◌, codes, map, replicate, Option, Some, None}
 use Rattle.vocabulary.specs.declared.error_kind.ErrorKind.TheVariants.{NotModifiable, WrongOperandTypes, VoidValueUsed, IncompleteType, IncompatibleTypes, BadCast, ConditionIsNotScalar, BadBitField}
 use Rattle.vocabulary.specs.declared.operator.Operator.TheVariants as operators
 use Rattle.vocabulary.specs.declared.rule.RuleCode.TheVariants.{A3, A5, A6, B1, B2, B3, B4, B5, B7, N1}
@@ -12,7 +12,7 @@ use Rattle.meaning_typing.specs.Operators.{comma_row, integer, logical_row, not_
 use Rattle.meaning_typing.specs.Casts.{cast_row, expect_row, is_forced, sizeof_row, truncation}
 use Rattle.meaning_typing.specs.Changes.{compound_row}
 use Rattle.meaning_typing.specs.Units.{UnitNodes}
-use Rattle.meaning_typing.specs.examples.Drawn.{int, leaf, nodes_of, type_over}
+use Rattle.meaning_typing.specs.examples.Drawn.{declaration, declarator, int, leaf, named, nodes_of, type_over}
 use Rattle.meaning_typing.specs.examples.Values.{char, unsigned_int, long, unsigned_long, void, le16, le32, be32, to_int, to_user_int, to_int_in_space_1, to_void, to_const_void, nothing_from_nothing, unknown_length, structure, c, t, i, ui, l, h, r, rb, fouled_h, p, s, v, u, none, x, void_value, void_place, to_unknown, number, zero, null, unary, binary, conditional, without_middle, cast, forced_cast, compound, behind, before, gives, plain, fouled, names, shows, null_pointer}
 use Rattle.vocabulary.specs.declared.node_kind.NodeKind.TheVariants as kinds
 
@@ -192,6 +192,8 @@ pub record CastFailures : Type 0 where
       ∷ cast (integer integers.Bool) (number (pos 1)) ∷ [])
       ≡ (truncation 2 (pos 300) (pos 44) ∷ []) ∷ [] ∷ (truncation 2 (negsuc 0) (pos 255) ∷ []) ∷ [] ∷ [] ∷ (truncation 2 (pos 128) (negsuc 127) ∷ [])
       ∷ (truncation 2 (pos 2) (pos 1) ∷ []) ∷ [] ∷ []
+  -- `(int *)0`, `(int USER *)0`, `(void *)(void *)0`: no cast is told of a null pointer
+  pub zeros : map (λ row. row.failures) (cast to_int zero ∷ cast to_user_int zero ∷ cast to_void null ∷ []) ≡ [] ∷ [] ∷ [] ∷ []
   -- `(le16)70000`
   pub truncated_too : (cast le16 (number (pos 70000))).failures ≡ shows B4 int le16 ∷ truncation 2 (pos 70000) (pos 4464) ∷ []
 
@@ -205,10 +207,18 @@ forcing_pointer = nodes_of (type_over kinds.TypeName 0 (type_over kinds.Specifie
 abbrev pub not_forcing : UnitNodes
 not_forcing = nodes_of (type_over kinds.TypeName 0 (type_over kinds.Specifiers 0 (leaf kinds.IntSpecifier 0 ∷ []) ∷ type_over kinds.Declarator 1 (leaf kinds.PointerDeclarator 1 ∷ []) ∷ []) ∷ [])
 
+-- `typedef int FORCE T;`, and the type name `T`
+abbrev pub forcing_typedef : UnitNodes
+forcing_typedef =
+    nodes_of
+    (declaration 0 (leaf kinds.TypedefSpecifier 0 ∷ leaf kinds.IntSpecifier 1 ∷ type_over kinds.AttributeList 2 (leaf kinds.ForceAttribute 2 ∷ []) ∷ []) (declarator 3 (codes "T") [] ∷ [])
+    ∷ type_over kinds.TypeName 5 (type_over kinds.Specifiers 5 (named kinds.TypedefName 5 (codes "T") 5 ∷ []) ∷ []) ∷ [])
+
 pub record ForceExamples : Type 0 where
   pub among_specifiers : is_forced forcing 6 ≡ true
   pub behind_star : is_forced forcing_pointer 6 ≡ true
   pub nowhere : is_forced not_forcing 4 ≡ false
+  pub of_a_typedef : is_forced forcing_typedef 9 ≡ false
 
 -- Constraints
 

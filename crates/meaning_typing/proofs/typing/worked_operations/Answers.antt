@@ -11,6 +11,7 @@ returns c = record {
   measured_sum = refl;
   chosen_one = refl;
   loaded = refl;
+  both_once = refl;
   inside = refl;
   value_of_body = refl;
   designated = refl;

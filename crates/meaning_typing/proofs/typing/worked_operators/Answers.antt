@@ -51,6 +51,7 @@ returns-clause-casts c = record {
   both = refl;
   restricted_ones = refl;
   truncated = refl;
+  zeros = refl;
   truncated_too = refl;
 }
 
@@ -59,6 +60,7 @@ returns-clause-forces c = record {
   among_specifiers = refl;
   behind_star = refl;
   nowhere = refl;
+  of_a_typedef = refl;
 }
 
 pub returns-clause-constraints : goal.returns-clause-constraints

@@ -10,7 +10,7 @@ like as macros that are 0, which the compiler has built in. CC names another com
 Prints for each file whether its tokens are equal, where they first differ or why it is refused, and the time and the peak
 memory of both; then whether a check reads it whole, or its first refusal. What a check of the same tokens refuses once its
 inline assembly is taken out, and then each refused declaration, shows how far the grammar reaches: each such refusal once, with
-how often it was met. Exits 1 where a file isn't equal.
+how often it was met and the first declaration that it refused, up to the word at which it stands. Exits 1 where a file isn't equal.
 """
 import collections
 import os
@@ -101,10 +101,12 @@ def compare(program, tree, file, folder):
 
 # What a check says of a unit that is read whole and not judged yet
 READ_WHOLE = re.compile(r"\S+:1:1: error\[29\]: form not built")
-REFUSED = re.compile(r"(\S+):(\d+):\d+: error\[(\d+)\]: (.*)")
+REFUSED = re.compile(r"(\S+):(\d+):(\d+): error\[(\d+)\]: (.*)")
 ASSEMBLY = {b"asm", b"__asm", b"__asm__"}
 # So many refused declarations of a file are left out, one behind the other.
 MOST_LEFT_OUT = 2000
+# So many characters of a refused declaration are shown.
+SHOWN = 160
 
 
 def checked(program, words, tree, folder):
@@ -170,9 +172,10 @@ def ends_parameters(tokens):
 
 
 def reach(program, text, tree, folder):
-    """What a check refuses of tokens without inline assembly, one declaration after the other left out: the texts, counted."""
+    """What a check refuses of tokens without inline assembly, one declaration after the other left out: the texts, counted, and of
+    each text the first such declaration as far as it is refused."""
     left = declarations(without_assembly([token.spelled for token in scan(1, text)]))
-    path, refusals = os.path.join(folder, "tokens.c"), collections.Counter()
+    path, refusals, firsts = os.path.join(folder, "tokens.c"), collections.Counter(), {}
     for _ in range(MOST_LEFT_OUT):
         # one declaration a line, so that the line of a refusal names it
         with open(path, "wb") as unit:
@@ -180,11 +183,19 @@ def reach(program, text, tree, folder):
         line, _ = checked(program, [path], tree, folder)
         refused = REFUSED.fullmatch(line)
         if READ_WHOLE.fullmatch(line) or not refused:
-            return refusals, line
-        number = int(refused[2]) - 1
-        refusals[f"error[{refused[3]}]: {refused[4]}"] += 1
+            return refusals, firsts, line
+        number, refusal = int(refused[2]) - 1, f"error[{refused[4]}]: {refused[5]}"
+        refusals[refusal] += 1
+        firsts.setdefault(refusal, shown(b" ".join(left[number]), int(refused[3])))
         del left[number]
-    return refusals, "more"
+    return refusals, firsts, "more"
+
+
+def shown(text, column):
+    """The words of a declaration up to the one in this column, and how it begins where that is far."""
+    text = text[: column - 1] + text[column - 1 :].split(b" ", 1)[0]
+    text = text.decode("utf-8", "replace")
+    return text if len(text) <= SHOWN else f"{text[: SHOWN // 2]} .. {text[-SHOWN // 2 :]}"
 
 
 def read(program, tree, file, folder):
@@ -195,9 +206,9 @@ def read(program, tree, file, folder):
     with open(os.path.join(folder, "ours.i"), "rb") as text:
         tokens = text.read()
     if tokens:
-        refusals, last = reach(program, tokens, tree, folder)
+        refusals, firsts, last = reach(program, tokens, tree, folder)
         yield f"  without inline assembly, and without what is refused: {'read whole' if READ_WHOLE.fullmatch(last) else last!r}"
-        yield from (f"    {count} times {refusal}" for refusal, count in refusals.most_common())
+        yield from (f"    {count} times {refusal}, first at the end of: {firsts[refusal]}" for refusal, count in refusals.most_common())
 
 
 def main():

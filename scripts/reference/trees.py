@@ -301,8 +301,8 @@ class Builder:
         first, specifiers = self.at, self.specifiers()
         parts = [*of_type(specifiers)]
         while self.word() != ";":
-            if self.word() != ":":
-                parts += of_type(self.declarator().node)
+            # (a bit-field without a name has a declarator with nothing)
+            parts += of_type(Node("Declarator", self.at) if self.word() == ":" else self.declarator().node)
             if self.word() == ":":
                 parts.append((U, Node("BitFieldWidth", self.take(), parts=((U, self.conditional()),))))
             parts += of_type(*self.attribute_lists())
@@ -413,7 +413,8 @@ class Builder:
         items = pieces(self.balanced())
         self.take(")")
         self.take(")")
-        return Node("AttributeList", at, parts=of_type(*filter(None, map(self.attribute, filter(None, items)))))
+        words = of_type(*filter(None, map(self.attribute, filter(None, items))))
+        return Node("AttributeList", at, number=self.place(self.at), parts=words)
 
     def attribute(self, item):
         """The node of an item, or None where it means nothing."""

@@ -33,6 +33,9 @@ const HEADED: &[File] = &[
 const HEADED_WARNING: &str =
     "t.c:3:18: warning: incorrect type in assignment (different address spaces)\nt.c:3:18:    expected int *\nt.c:3:18:    got int noderef *\n";
 
+// A unit with one header.
+const WITH_HEADER: &[File] = &[("t.c", "#include \"a.h\"\n"), ("a.h", "extern int x;\n")];
+
 // A header that lies in the second directory alone, or in none.
 const SEARCHED: &[File] = &[("t.c", "#include <a.h>\n"), ("e/a.h", "")];
 
@@ -72,11 +75,13 @@ struct Faulty {
 }
 
 #[rattlefmt::skip]
-const FAULTY: [Faulty; 7] = [
+const FAULTY: [Faulty; 9] = [
     Faulty { case: "a failed load is no missing file", words: &["t.c"], files: ALONE, failing: &[1], room: ROOM, err: "", exit: Exit::ReadFault },
     Faulty { case: "a later load isn't made", words: &["t.c"], files: ALONE, failing: &[2], room: ROOM, err: WARNING, exit: Exit::Warned },
     Faulty { case: "room for a place alone", words: &["t.c"], files: ALONE, failing: &[], room: 10, err: "t.c:3:18: ", exit: Exit::WriteFault },
     Faulty { case: "the load behind those of the headers isn't made", words: &["t.c"], files: HEADED, failing: &[5], room: ROOM, err: HEADED_WARNING, exit: Exit::Warned },
+    Faulty { case: "the load of the one header", words: &["t.c"], files: WITH_HEADER, failing: &[2], room: ROOM, err: "", exit: Exit::ReadFault },
+    Faulty { case: "the load behind that of the one header isn't made", words: &["t.c"], files: WITH_HEADER, failing: &[3], room: ROOM, err: "", exit: Exit::Clean },
     Faulty { case: "no directory is searched behind a failed load", words: &["-Id", "-Ie", "t.c"], files: SEARCHED, failing: &[2], room: ROOM, err: "", exit: Exit::ReadFault },
     Faulty { case: "the load that finds the header", words: &["-Id", "-Ie", "t.c"], files: SEARCHED, failing: &[3], room: ROOM, err: "", exit: Exit::ReadFault },
     Faulty { case: "a failed load of a header that is missing", words: &["-Id", "t.c"], files: SEARCHED, failing: &[2], room: ROOM, err: "", exit: Exit::ReadFault },

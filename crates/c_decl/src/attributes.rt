@@ -40,12 +40,13 @@ pub fn make_attribute_list(state: &mut ParseState<'_>) -> Result<(), ActionFault
 {
     refuse_bad_list(state)?;
     let token = state.token(1);
+    let behind = state.next_token();
     state.make(&Shape {
         takes: 2,
         kind: NodeKind::AttributeList,
         token,
         name: None,
-        number: 0,
+        number: u64::from(behind),
         sources: &[Source::AllTrees(0)],
     })
 }

@@ -13,9 +13,6 @@ pub record Keeping (below now rest old raw : List Item) : Type 0 where
   pub rest_is : rest ≡ below ++ backwards left
   pub raw_is : raw ≡ old ++ done
 
-pub none_kept : (below now rest old : List Item) → rest ≡ below ++ backwards now → Keeping below now rest old old
-none_kept below now rest old is = record { done = []; left = now; split = refl; rest_is = is; raw_is = sym (append-nil old) }
-
 pub all_kept : (below now rest old raw : List Item) → Keeping below now rest old raw → length rest ≤ length below → raw ≡ old ++ now
 all_kept below now rest old raw k short = k.raw_is ∙ ap (λ ts. old ++ ts) (sym (k.split ∙ ap (λ ts. k.done ++ ts) (by k.left (omega (arith, short, ap length k.rest_is, length-append below (backwards k.left), length-backwards k.left))) ∙ append-nil k.done))
   where

@@ -54,10 +54,6 @@ pub begins-nothing : (parts : List Part) → begins_here parts ≡ true → join
 begins-nothing [] begins = refl
 begins-nothing (p ∷ ps) begins = ap (λ (b : Bool). if b then [] else p.operand ∷ joined_here ps) begins
 
-pub begins-all : (parts : List Part) → begins_here parts ≡ true → behind_joined parts ≡ parts
-begins-all [] begins = refl
-begins-all (p ∷ ps) begins = ap (λ (b : Bool). if b then p ∷ ps else behind_joined ps) begins
-
 -- a parameter alone is its expanded argument
 pub lone-some : (place : At) (raw expanded : List (List Hiding)) (s : Spelling) (o : Operand) (others : List Part) (k : ℕ) → lone_parameter o others ≡ Some k
     → part_of place raw expanded (map (operand_by s) (o ∷ joined_here others)) ≡ Joins (hiding.set_at place (argument_of expanded k))

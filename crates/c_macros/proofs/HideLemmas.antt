@@ -24,10 +24,6 @@ names_of-has s apart id [] = refl
 names_of-has s apart id (n ∷ numbers) =
     λ i. (apart (record { 0 = n }) id ∙ nat_eq_equiv.symm n id.0) i || names_of-has s apart id numbers i
 
--- what a set hides
-pub hidden-has : (names : List (List ℕ)) (table : sets.Table) (r : Reading) → Reads names table r → (set : SetId) (id : NameId) → IsSet table set → r.hidden set (r.spelled id) ≡ holds table set id.0
-hidden-has names table r reads set id is = ap (λ (hides : NameSet). hides (r.spelled id)) (reads.hides set is) ∙ names_of-has r.spelled reads.spells.apart id (numbers_at table set.0)
-
 or-left : (a b : Bool) → a ≡ true → (a || b) ≡ true
 or-left true b h = refl
 or-left false b h = absurd (true≢false (sym h))

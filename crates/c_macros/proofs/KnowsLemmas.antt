@@ -38,14 +38,6 @@ same-id i j same = λ k. record { 0 = same k }
 other-number : (i j : NameId) → (i.0 ≡ j.0 → ⊥) → i ≢ j
 other-number i j apart = λ same. apart (ap (λ (id : NameId). id.0) same)
 
--- a table without a macro
-pub KnowsAll-new : (names : List (List ℕ)) (table : Table) → ((name : NameId) → macro_at table name ≡ None) → ((file : ℕ) → spelling_of_file table file ≡ None) → KnowsAll names table
-KnowsAll-new names table no_macros no_files = record {
-  named = λ name m found. absurd (none-some m (sym (no_macros name) ∙ found));
-  macros = λ name m found. absurd (none-some m (sym (no_macros name) ∙ found));
-  files = λ file spelled found. absurd (none-some spelled (sym (no_files file) ∙ found));
-}
-
 -- the macro behind a definition is one of two
 defined-known : (names : List (List ℕ)) (before : Option Macro) (m : Macro) → ((old : Macro) → before ≡ Some old → IsKnownMacro names old) → IsKnownMacro names m → IsKnownMacro names (defined_as before m)
 defined-known names None m old known = known

@@ -52,25 +52,6 @@ pub record Putting (table : sets.Table) (hides : SetId) (before part work items 
   pub rest : items ≡ before ++ left
   pub on : PutOn table hides taken work put
 
--- none is put yet
-pub none_put : (table : sets.Table) (hides : SetId) (before part work items : List Item) → items ≡ before ++ part → Putting table hides before part work items work
-none_put table hides before part work items is = record {
-  left = part;
-  taken = [];
-  split = sym (append-nil part);
-  rest = is;
-  on = record { items = []; stand = sym (append-nil work); read = λ names r reads. refl };
-}
-
--- none is left
-pub all_put : (table : sets.Table) (hides : SetId) (before part work items put : List Item) → Putting table hides before part work items put → length items ≤ length before
-    → (items ≡ before) × PutOn table hides part work put
-all_put table hides before part work items put p short = by p.left p.split p.rest
-  where
-    by : (left : List Item) → part ≡ left ++ p.taken → items ≡ before ++ left → (items ≡ before) × PutOn table hides part work put
-    by [] split rest = (rest ∙ append-nil before, subst (λ ts. PutOn table hides ts work put) (sym split) p.on)
-    by (x ∷ xs) split rest = absurd (omega (arith, short, ap length rest, length-append before (x ∷ xs)))
-
 -- one more is put
 pub one_put : (table grown : sets.Table) (hides : SetId) (before part work items put fewer : List Item) (item : Item) (hidden : SetId)
     → Extends table grown → Putting table hides before part work items put → items ≡ fewer ++ item ∷ [] → length before < length items

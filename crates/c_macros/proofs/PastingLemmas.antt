@@ -179,16 +179,6 @@ pub goes-far : (r : Reading) (place : At) (raw : List (List Hiding)) (os : Chain
 goes-far r place raw os most base all found goes far =
     omega (arith, far, ap length goes.split.items, length-append base goes.left, length-map goes.left (hiding_by r), standing-chain place raw (Joins (hidings_by r goes.left)) os, ap standing goes.same)
 
--- nothing is left of the chain
-pub goes-ends : (r : Reading) (place : At) (raw : List (List Hiding)) (os : Chain) (start : ℕ) (base all : List Item) (found : Pasted)
-    → GoesOn r (length base) base all (λ so_far. chain_tokens place raw so_far os) found → os ≡ [] → start ≡ length base → Holds r start base all found
-goes-ends r place raw os start base all found goes none is_start =
-    record {
-      left = goes.left;
-      split = record { items = goes.split.items; length = is_start };
-      read = sym goes.same ∙ ap (chain_tokens place raw (Joins (hidings_by r goes.left))) none;
-    }
-
 -- The last item is joined
 
 -- tokens before what is pasted

@@ -35,12 +35,3 @@ followed names (a ∷ []) all = ap not (signs a (and_parts _ _ all).0).0
 followed names (a ∷ b ∷ tokens) all =
     (λ k. (not ((signs a (and_parts _ _ all).0).0 k) || is_some (parameter_of names (token_by own_text b))) && hashes_are_followed names (map (token_by own_text) (b ∷ tokens)))
     ∙ followed names (b ∷ tokens) (and_parts (plain a) _ all).1
-
-pub plain-IsWellFormed : (m : Macro) → list_all plain m.body ≡ true → are_different (map own_text (params_in m.params)) ≡ true → (m.variadic ≡ true → 0 < length (params_in m.params)) → IsWellFormed (by_ids m)
-plain-IsWellFormed m all different last = record {
-  different = ap are_different (sym (params_in-by own_text m.params)) ∙ different;
-  last = λ variadic. subst (λ n. 0 < n) (sym (length-map (params_in m.params) own_text) ∙ ap length (params_in-by own_text m.params)) (last variadic);
-  begins = begins m.body all;
-  ends = ends m.body all;
-  followed = λ called. followed _ m.body all;
-}

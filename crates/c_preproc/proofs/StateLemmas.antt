@@ -256,25 +256,6 @@ with-identifiers names path state s all tokens are known holds = record {
   tokens_known = holds.tokens_known;
 }
 
-pub with-tokens : (names : List (List ℕ)) (path : List ℕ) (state : State) (s : UnitState) (all : Vec Token) → length all.items ≤ unit_limits.unit_tokens → AreKnown names all.items → Holds names path state s
-    → Holds names path (record state { tokens = all }) s
-with-tokens names path state s all few known holds = record {
-  made = holds.made;
-  macros = holds.macros;
-  knows = holds.knows;
-  files = holds.files;
-  budget = holds.budget;
-  sum = holds.sum;
-  bytes = holds.bytes;
-  paths = holds.paths;
-  paths_known = holds.paths_known;
-  main = holds.main;
-  undefined = holds.undefined;
-  undefined_known = holds.undefined_known;
-  few = few;
-  tokens_known = known;
-}
-
 pub with-bytes : (names : List (List ℕ)) (path : List ℕ) (state : State) (s : UnitState) (count : ℕ) → Holds names path state s
     → Holds names path (record state { bytes = state.bytes + count }) (record s { bytes = s.bytes + count })
 with-bytes names path state s count holds = record {

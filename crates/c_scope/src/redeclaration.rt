@@ -1,4 +1,5 @@
-// Which names a scope may declare twice.
+// Which names a scope may declare twice: what declared a name before and what declares it now arrive, and whether that
+// is refused leaves. Neither the name nor the scope is known here.
 ghost use Rattle.std.specs.Prelude.{◌≡◌};
 ghost use Rattle.meaning_scopes.specs.Redeclaration.{is_redeclared as redeclares};
 

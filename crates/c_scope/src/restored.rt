@@ -1,4 +1,5 @@
-// What the map of the newest entries has where an entry goes.
+// The map of the newest entries where an entry goes: the name and the index of the entry that it hid arrive, and the
+// map has that one again, or nothing. What stands in an entry isn't known here.
 ghost use Rattle.std.specs.Prelude.{◌≡◌, IsSome, cond};
 ghost use Rattle.indexmap.specs.IndexMap.{get};
 ghost use Rattle.vocabulary.specs.declared.scope.NameSpace.{NameSpace};

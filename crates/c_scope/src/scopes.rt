@@ -1,4 +1,5 @@
-// The list of scopes as its callers see it.
+// The list of scopes as its callers see it: names arrive by their ids, and what was bound to them last leaves.
+// Spellings aren't known here, nor what a declaration says.
 use crate::restored::{Key, restore};
 use crate::slot::{Binding, Slot, bindings_of};
 use indexmap::IndexMap;

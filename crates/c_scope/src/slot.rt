@@ -1,4 +1,5 @@
-// What stands in the list of entries and marks.
+// What stands in the list of entries and marks: the entries of a scope that is left arrive, and their bindings leave,
+// to be bound again later. What is visible isn't known here.
 ghost use Rattle.std.specs.Prelude.{◌≡◌, IfOk, map};
 ghost use Rattle.c_scope.specs.Seen.{entry_of};
 ghost use Rattle.c_scope.specs.Slots.{entries_in};

@@ -120,17 +120,6 @@ punctuator_of-shorter count b text shorter long = punctuator_among-shorter punct
 none_longer : (count b : ℕ) (text : List ℕ) → are_shorter count b ≡ true → count ≤ length (b ∷ text) → found_spelling (punctuator_of (b ∷ text)) (b ∷ text) ≡ None
 none_longer count b text shorter long = ap (λ found. found_spelling found (b ∷ text)) (punctuator_of-shorter count b text shorter long)
 
--- such a byte is a punctuator by itself, or none begins with it
-pub found_punctuator-alone :
-    (text : List ℕ) (b : ℕ) → 0 < length text → b ≡ get_or text 0 new_line → are_shorter 2 b ≡ true →
-    found_spelling (punctuator_of (b ∷ [])) (b ∷ []) ≡ found_punctuator text
-found_punctuator-alone text b some is shorter =
-    let c = get_or (drop 1 text) 0 new_line in
-    let d = get_or (drop 1 (drop 1 text)) 0 new_line in
-    let e = get_or (drop 1 (drop 1 (drop 1 text))) 0 new_line in
-    sym (λ i. or_else (none_longer 2 b (c ∷ d ∷ e ∷ []) shorter (omega arith) i) (or_else (none_longer 2 b (c ∷ d ∷ []) shorter (omega arith) i) (or_else (none_longer 2 b (c ∷ []) shorter (omega arith) i) (found_punctuator_of 1 (b ∷ [])))))
-    ∙ ap (λ first. found_punctuator (first ∷ c ∷ d ∷ e ∷ [])) is ∙ found_punctuator-four text some
-
 -- two bytes tell the punctuator
 pub found_punctuator-in_two :
     (text second : List ℕ) (a b : ℕ) → 0 < length text → second ≡ drop 1 text → a ≡ get_or text 0 new_line → b ≡ get_or second 0 new_line →

@@ -24,12 +24,6 @@ logical_from-byte open_line at b (c ∷ rest) settled =
     ])
     settled
 
--- a splice is no byte of it
-logical_from-splice :
-    (open_line : Bool) (at : At) (rest : List ℕ) →
-    logical_from open_line at (backslash ∷ new_line ∷ rest) ≡ logical_from open_line (behind_byte (behind_byte at backslash) new_line) rest
-logical_from-splice open_line at rest = refl
-
 -- the closing new-line adds a byte at most
 length-closing_line : (open_line : Bool) (at : At) → length (closing_line open_line at) ≤ 1
 length-closing_line true at = omega arith

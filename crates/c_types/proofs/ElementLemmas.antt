@@ -36,18 +36,6 @@ integer-bytes told kinds.ULong = refl
 integer-bytes told kinds.LLong = refl
 integer-bytes told kinds.ULLong = refl
 
-pub aggregate-told : (told : Told) (token : ℕ) (is_union : Bool) → told_extent (told token is_union) ≡ single_extent told (single_with (aggregate_innermost is_union) token)
-aggregate-told told token true = refl
-aggregate-told told token false = refl
-
--- there are no more than one of the arrays has, but for one without an array
-pub count-few : (elements : Elements) → count_in elements ≤ max 1 (most_in elements)
-count-few elements = by elements.is_empty (most_in elements)
-  where
-    by : (is_empty : Bool) (most : ℕ) → count_with is_empty most ≤ max 1 most
-    by true most = omega arith
-    by false most = omega arith
-
 -- an array of so many of them
 pub times-repeats : (elements result : Elements) (length count most : ℕ) → most_in elements ≤ 2 ^ 40 + 1 → count ≡ capped_count (length * count_in elements) → most ≡ max (most_in elements) count
     → most_in result ≡ most → result.is_empty ≡ nat_eq count 0 → repeats_in result ≡ times_more length (repeats_in elements)

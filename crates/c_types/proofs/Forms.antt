@@ -147,52 +147,8 @@ seen-kept types more shape inside =
 
 -- What is left of a function
 
-result_of-bare : (type_ : TypeTree) → result_of (bare type_) ≡ bare (result_of type_)
-result_of-bare (Typed (FunctionTree result parameters variadic) qualifiers flags) = refl
-result_of-bare (Typed base qualifiers flags) = refl
-
-parameters_of-bare : (type_ : TypeTree) → parameter_types (bare type_) ≡ bare_types (parameter_types type_)
-parameters_of-bare (Typed (FunctionTree result parameters variadic) qualifiers flags) = refl
-parameters_of-bare (Typed base qualifiers flags) = refl
-
-is_variadic-bare : (type_ : TypeTree) → is_variadic (bare type_) ≡ is_variadic type_
-is_variadic-bare (Typed (FunctionTree result parameters variadic) qualifiers flags) = refl
-is_variadic-bare (Typed base qualifiers flags) = refl
-
-result_of-unflagged : (type_ : TypeTree) → result_of (without_flags type_) ≡ without_flags (result_of type_)
-result_of-unflagged (Typed (FunctionTree result parameters variadic) qualifiers flags) = refl
-result_of-unflagged (Typed base qualifiers flags) = refl
-
-parameters_of-unflagged : (type_ : TypeTree) → parameter_types (without_flags type_) ≡ types_without_flags (parameter_types type_)
-parameters_of-unflagged (Typed (FunctionTree result parameters variadic) qualifiers flags) = refl
-parameters_of-unflagged (Typed base qualifiers flags) = refl
-
-is_variadic-unflagged : (type_ : TypeTree) → is_variadic (without_flags type_) ≡ is_variadic type_
-is_variadic-unflagged (Typed (FunctionTree result parameters variadic) qualifiers flags) = refl
-is_variadic-unflagged (Typed base qualifiers flags) = refl
-
 pub IsFunction-bare : (type_ : TypeTree) → IsFunction type_ → IsFunction (bare type_)
 IsFunction-bare type_ is = subst (λ t. IsFunction (bare t)) (sym is) refl
 
 pub IsFunction-unflagged : (type_ : TypeTree) → IsFunction type_ → IsFunction (without_flags type_)
 IsFunction-unflagged type_ is = subst (λ t. IsFunction (without_flags t)) (sym is) refl
-
--- a function without parameters and marks is one
-pub parameter-bare : (types : List TypeTree) (first rest left_first left_rest : ℕ)
-    → type_numbered types left_first ≡ bare (type_numbered types first) → type_numbered types left_rest ≡ bare (type_numbered types rest)
-    → form_seen types (forms.Parameter left_first left_rest) ≡ bare_base (form_seen types (forms.Parameter first rest))
-parameter-bare types first rest left_first left_rest one others =
-    let results = ap result_of others ∙ result_of-bare (type_numbered types rest) in
-    let parameters = ap parameter_types others ∙ parameters_of-bare (type_numbered types rest) in
-    let variadic = ap is_variadic others ∙ is_variadic-bare (type_numbered types rest) in
-    λ i. FunctionTree (results i) (MoreTypes (one i) (parameters i)) (variadic i)
-
-pub parameter-plain : (types : List TypeTree) (first rest left_first left_rest : ℕ)
-    → type_numbered types left_first ≡ without_flags (bare (type_numbered types first)) → type_numbered types left_rest ≡ without_flags (bare (type_numbered types rest))
-    → form_seen types (forms.Parameter left_first left_rest) ≡ base_without_flags (bare_base (form_seen types (forms.Parameter first rest)))
-parameter-plain types first rest left_first left_rest one others =
-    let function = type_numbered types rest in
-    let results = ap result_of others ∙ result_of-unflagged (bare function) ∙ ap without_flags (result_of-bare function) in
-    let parameters = ap parameter_types others ∙ parameters_of-unflagged (bare function) ∙ ap types_without_flags (parameters_of-bare function) in
-    let variadic = ap is_variadic others ∙ is_variadic-unflagged (bare function) ∙ is_variadic-bare function in
-    λ i. FunctionTree (results i) (MoreTypes (one i) (parameters i)) (variadic i)

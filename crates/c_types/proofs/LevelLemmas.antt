@@ -31,12 +31,6 @@ IsChain-pop rows whole (one ∷ arrays) array inner chain =
 
 -- Elements
 
--- the element of an array is known, and earlier
-pub level-known : (types : List TypeTree) (form : Form) (element : ℕ) → IsInside types form → element_in form ≡ Some element → element < length types
-level-known types (forms.Array e n) element inside is = subst (λ k. k < length types) (same_Some _ _ is) inside
-level-known types (forms.OpenArray e) element inside is = subst (λ k. k < length types) (same_Some _ _ is) inside
-level-known types form element inside is = absurd (none-some element is)
-
 module _ (types : List TypeTree) (qualifiers own : Qualifiers) (flags others : Flags) where
   -- what is added to an array is added to its element
   pub level-seen : (form : Form) (element : ℕ) → element_in form ≡ Some element

@@ -19,10 +19,6 @@ pub after_steps-push : (types : List TypeTree) (steps : List Step) (step : Step)
 after_steps-push types [] step made = refl
 after_steps-push types (other ∷ steps) step made = ap (after_step types other) (after_steps-push types steps step made)
 
--- what is made last stands first
-pub made_seen-push : (made : List CType) (tree : CType) → made_seen (made ++ tree ∷ []) ≡ tree_seen tree ∷ made_seen made
-made_seen-push made tree = ap reverse (map-append tree_seen made (tree ∷ [])) ∙ reverse-append (map tree_seen made) (tree_seen tree ∷ [])
-
 -- a parameter in front of others
 pub joined-one : (own : TypeTrees) (first : TypeTree) (others : TypeTrees)
     → joined_types (joined_types own (MoreTypes first NoTypes)) others ≡ joined_types own (MoreTypes first others)
@@ -82,20 +78,6 @@ function-seen-push answer parameters parameter variadic =
     (ap list_types (map-append tree_seen parameters (parameter ∷ [])) ∙ list_types-push (map tree_seen parameters) (tree_seen parameter))
 
 -- Steps
-
--- a part is taken, and what is made of it put in its place
-pub put-part : (types : List TypeTree) (outer : OuterShape) (rest : List CType) (part tree : CType) → tree_seen tree ≡ around outer (tree_seen part)
-    → made_seen (rest ++ tree ∷ []) ≡ after_step types (Around outer) (made_seen (rest ++ part ∷ []))
-put-part types outer rest part tree is =
-    made_seen-push rest tree ∙ ap (λ t. t ∷ made_seen rest) is ∙ sym (ap (after_step types (Around outer)) (made_seen-push rest part))
-
--- a parameter is taken, and its function
-pub put-parameter : (types : List TypeTree) (rest : List CType) (function parameter tree : CType)
-    → tree_seen tree ≡ with_parameters (tree_seen function) (MoreTypes (tree_seen parameter) NoTypes)
-    → made_seen (rest ++ tree ∷ []) ≡ after_step types Append (made_seen ((rest ++ function ∷ []) ++ parameter ∷ []))
-put-parameter types rest function parameter tree is =
-    made_seen-push rest tree ∙ ap (λ t. t ∷ made_seen rest) is
-    ∙ sym (ap (after_step types Append) (made_seen-push (rest ++ function ∷ []) parameter ∙ ap (λ ts. tree_seen parameter ∷ ts) (made_seen-push rest function)))
 
 -- the first parameter, and then the others
 pub steps-first : (types : List TypeTree) (steps : List Step) (number first rest : ℕ)
@@ -167,10 +149,3 @@ module _ (types : List TypeTree) (outer : OuterShape) (part : ℕ) where
 pub OnOk_from : {X E A B : Type 0} (result : Result X E) → (A → B) → OnOk result A → OnOk result B
 OnOk_from (Ok x) to holds = to holds
 OnOk_from (Err e) to holds = tt
-
--- one tree is the last one
-pub made-one : (made : List CType) (type_ : TypeTree) → made_seen made ≡ type_ ∷ [] → (tree : CType) × (made ≡ tree ∷ []) × (tree_seen tree ≡ type_)
-made-one [] type_ is = absurd (cc is)
-made-one (tree ∷ []) type_ is = (tree, refl, cc)
-made-one (tree ∷ other ∷ made) type_ is =
-    absurd (omega (arith, ap length is, length-reverse (map tree_seen (tree ∷ other ∷ made)), length-map (tree ∷ other ∷ made) tree_seen))

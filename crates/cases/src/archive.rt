@@ -5,6 +5,7 @@ use crate::escapes::unescaped;
 use crate::line::Line;
 use crate::program::Program;
 use anyhow::Result;
+use bstr::ByteSlice;
 use ksparse::Exit;
 use sparse_outside::{HonestFiles, Words};
 use std::alloc::{AllocError, Global};
@@ -61,10 +62,12 @@ pub fn run_archive(alloc: Global, archive: &str, text: &str) -> Result<Shown> {
     if !text.ends_with('\n') {
         bench.tell(1, "the last line has no new-line")?;
     }
-    for part in &parts(alloc, text)? {
+    let parts = parts(alloc, text)?;
+    for part in &parts {
         bench.take(part)?;
     }
     bench.end()?;
+    bench.tell_unnamed(parts.as_slice())?;
     Ok(bench.shown)
 }
 
@@ -91,6 +94,30 @@ fn parts<'a>(alloc: Global, text: &'a str) -> Result<Vec<Part<'a>>, AllocError> 
     }
     parts.push(part)?;
     Ok(parts)
+}
+
+impl<'a> Part<'a> {
+    // The last part of the path of the file that begins here, as it is written, where one does.
+    fn file(&self) -> Option<&'a str> {
+        match self.line {
+            Line::Section(name) | Line::Escaped(name) if Stream::named(name).is_none() => {
+                Some(
+                    name.rsplit_once('/')
+                        .map_or(name, |(_directories, name)| name),
+                )
+            }
+            _ => None,
+        }
+    }
+
+    // Whether a file or a command says this name.
+    fn names(&self, file: &[u8]) -> bool {
+        match self.line {
+            Line::Command(line) => line.as_bytes().contains_str(file),
+            Line::Section(_) | Line::Escaped(_) => self.text.as_bytes().contains_str(file),
+            Line::NoSection | Line::Text => false,
+        }
+    }
 }
 
 impl<'a> Bench<'a> {
@@ -199,6 +226,23 @@ impl<'a> Bench<'a> {
             self.tell(command.line, difference.as_str())?;
         }
         self.shown.endings.push(ran.exit)?;
+        Ok(())
+    }
+
+    // Tells each file whose name nothing says, as that of a section with a misspelled name.
+    fn tell_unnamed(&mut self, parts: &[Part]) -> Result<(), AllocError> {
+        for part in parts {
+            let Some(written) = part.file() else {
+                continue;
+            };
+            let Some(name) = unescaped(self.alloc, written.as_bytes())? else {
+                continue;
+            };
+            let written = written.as_bytes();
+            if !parts.iter().any(|other| other.names(written) || other.names(name.as_slice())) {
+                self.tell(part.number, "nothing names the file")?;
+            }
+        }
         Ok(())
     }
 

@@ -20,9 +20,10 @@
 //!
 //! First come comment lines, one at least that isn't blank. `-- NAME --` begins a section, which takes the
 //! lines up to the next line that begins with `-- ` or `$ `, byte for byte. Files stand before the commands
-//! that see them: a later command sees a file too, until a section of its name comes again. Behind a
-//! command stands what is expected of it: `out`, `err` and `status`, which are nothing, nothing and 0 where
-//! they aren't there.
+//! that see them: a later command sees a file too, until a section of its name comes again. A command or a
+//! file names it; one that nothing names is told, since a misspelled section would be one. Behind a command
+//! stands what is expected of it: `out`, `err` and `status`, which are nothing, nothing and 0 where they
+//! aren't there.
 //!
 //! The name of a program and the words behind it are parted by single spaces. In a word, in a name of a
 //! section, and in a section that is marked as `-- NAME escaped --`, a backslash begins what stands for

@@ -37,10 +37,10 @@ const WRONG_EXPECTATIONS: [Archive; 11] = [
 ];
 
 #[rattlefmt::skip]
-const WRONG_FORMS: [Archive; 32] = [
+const WRONG_FORMS: [Archive; 34] = [
     Archive { case: "an empty archive", text: "", told: "a.txt:1: the last line has no new-line\na.txt:1: no comment\na.txt:1: no command\n" },
     Archive { case: "a comment alone", text: "Wrong.\n", told: "a.txt:1: no command\n" },
-    Archive { case: "no command", text: "Wrong.\n-- t.c --\n", told: "a.txt:2: no command sees the file\na.txt:1: no command\n" },
+    Archive { case: "no command", text: "Wrong.\n-- t.c --\n", told: "a.txt:2: no command sees the file\na.txt:1: no command\na.txt:2: nothing names the file\n" },
     Archive { case: "a section before any comment", text: "-- t.c --\n$ ksparse t.c\n", told: "a.txt:1: no comment\n" },
     Archive { case: "a command before any comment", text: "$ ksparse t.c\n-- t.c --\n$ ksparse t.c\n", told: "a.txt:1: no comment\na.txt:1: line 1 of err\n  expected \"\"\n  got      \"ksparse: error[1]: no such file: t.c\\n\"\n" },
     Archive { case: "a comment of blank lines", text: "\n \n-- t.c --\n$ ksparse t.c\n", told: "a.txt:1: no comment\n" },
@@ -49,8 +49,10 @@ const WRONG_FORMS: [Archive; 32] = [
     Archive { case: "err is expected twice", text: "Wrong.\n-- t.c --\n$ ksparse t.c\n-- err --\n-- status --\n0\n-- err escaped --\n", told: "a.txt:7: expected twice\n" },
     Archive { case: "a status is expected twice", text: "Wrong.\n-- t.c --\n$ ksparse t.c\n-- status --\n0\n-- status --\n0\n", told: "a.txt:6: expected twice\n" },
     Archive { case: "expected before any command", text: "Wrong.\n-- t.c --\n-- out --\n$ ksparse t.c\n", told: "a.txt:3: expected of no command\n" },
-    Archive { case: "expected behind a file", text: "Wrong.\n-- t.c --\n$ ksparse t.c\n-- u.c --\n-- out --\n$ ksparse t.c\n", told: "a.txt:5: expected of no command\n" },
-    Archive { case: "a file behind the last command", text: "Wrong.\n-- t.c --\n$ ksparse t.c\n-- u.c --\n", told: "a.txt:4: no command sees the file\n" },
+    Archive { case: "expected behind a file", text: "Wrong.\n-- t.c --\n$ ksparse t.c\n-- u.c --\n-- out --\n$ ksparse t.c\n", told: "a.txt:5: expected of no command\na.txt:4: nothing names the file\n" },
+    Archive { case: "a file behind the last command", text: "Wrong.\n-- t.c --\n$ ksparse t.c\n-- u.c --\n", told: "a.txt:4: no command sees the file\na.txt:4: nothing names the file\n" },
+    Archive { case: "a section with a misspelled name", text: "Wrong.\n-- t.c --\n$ ksparse t.c\n-- ouput --\n$ ksparse t.c\n", told: "a.txt:4: nothing names the file\n" },
+    Archive { case: "a header that no file names", text: "Wrong.\n-- d/a.h --\n-- t.c --\n#include <b.h>\n-- d/b.h --\n$ ksparse -Id t.c\n", told: "a.txt:2: nothing names the file\n" },
     Archive { case: "a file twice before a command", text: "Wrong.\n-- t.c --\n\"\n-- t.c --\n$ ksparse t.c\n", told: "a.txt:4: no command saw the file of this name before it\n" },
     Archive { case: "a file twice under two spellings", text: "Wrong.\n-- t.c --\n\"\n-- \\x74.c --\n$ ksparse t.c\n", told: "a.txt:4: no command saw the file of this name before it\n" },
     Archive { case: "a section without its end", text: "Wrong.\n-- t.c --\n-- u.c\n$ ksparse t.c\n", told: "a.txt:3: no section begins so\n" },
@@ -66,10 +68,10 @@ const WRONG_FORMS: [Archive; 32] = [
     Archive { case: "a space behind the words", text: "Wrong.\n-- t.c --\n$ ksparse t.c\n$ ksparse t.c \n", told: "a.txt:4: words that can't be read\n" },
     Archive { case: "a bad escape in a word", text: "Wrong.\n-- t.c --\n$ ksparse t.c\n$ ksparse \\t.c\n", told: "a.txt:4: words that can't be read\n" },
     Archive { case: "a bad escape in a name", text: "Wrong.\n-- t.c --\n-- \\q --\n$ ksparse t.c\n", told: "a.txt:3: a bad escape in the name\n" },
-    Archive { case: "a bad escape in a section", text: "Wrong.\n-- t.c --\n-- u.c escaped --\n\\n\n$ ksparse t.c\n", told: "a.txt:3: a bad escape in the section\n" },
-    Archive { case: "an escape with a digit too few", text: "Wrong.\n-- t.c --\n-- u.c escaped --\n\\xF\n$ ksparse t.c\n", told: "a.txt:3: a bad escape in the section\n" },
-    Archive { case: "a last backslash that isn't the last", text: "Wrong.\n-- t.c --\n-- u.c escaped --\n\\\n\n$ ksparse t.c\n", told: "a.txt:3: a bad escape in the section\n" },
-    Archive { case: "a number that is too large", text: "Wrong.\n-- t.c --\n-- u.c escaped --\n\\*10000000*a\n$ ksparse t.c\n", told: "a.txt:3: a bad escape in the section\n" },
+    Archive { case: "a bad escape in a section", text: "Wrong.\n-- t.c --\n-- u.c escaped --\n\\n\n$ ksparse t.c\n", told: "a.txt:3: a bad escape in the section\na.txt:3: nothing names the file\n" },
+    Archive { case: "an escape with a digit too few", text: "Wrong.\n-- t.c --\n-- u.c escaped --\n\\xF\n$ ksparse t.c\n", told: "a.txt:3: a bad escape in the section\na.txt:3: nothing names the file\n" },
+    Archive { case: "a last backslash that isn't the last", text: "Wrong.\n-- t.c --\n-- u.c escaped --\n\\\n\n$ ksparse t.c\n", told: "a.txt:3: a bad escape in the section\na.txt:3: nothing names the file\n" },
+    Archive { case: "a number that is too large", text: "Wrong.\n-- t.c --\n-- u.c escaped --\n\\*10000000*a\n$ ksparse t.c\n", told: "a.txt:3: a bad escape in the section\na.txt:3: nothing names the file\n" },
 ];
 
 /// Prints of which archives something else is told than should be, and says whether there is none.

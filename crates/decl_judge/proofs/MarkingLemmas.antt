@@ -62,11 +62,6 @@ if_same : {X : Type 0} (test : Bool) (x : X) → (if test then x else x) ≡ x
 if_same true x = refl
 if_same false x = refl
 
-pub added_function : (identity : ℕ) (added : Added) (type_ : TypeTree) → outline_of type_ ≡ outlines.Function → added_to identity added type_ ≡ type_
-added_function identity added (Typed (FunctionTree result parameters variadic) own flags) is =
-    ap (marked no_qualifiers (marks_seen added.marks).flags) (if_same added.marks.is_bitwise (Typed (FunctionTree result parameters variadic) own flags))
-added_function identity added (Typed base own flags) is = cc
-
 -- Qualifiers first, and then flags
 
 level_twice : (base : BaseTree) (own added : Qualifiers) (flags later : Flags)

@@ -34,10 +34,6 @@ pub one_known : (table : TypeTable) (failure : Option Failure) → IfSome failur
 one_known table None known = All-nil (IsKnownFailure table)
 one_known table (Some failure) known = All-cons (IsKnownFailure table) failure [] known (All-nil (IsKnownFailure table))
 
--- nothing was appended
-pub nothing_appended : (table : TypeTable) (found : List Failure) → Appends table found found []
-nothing_appended table found = ([], sym (append-nil found), refl, All-nil (IsKnownFailure table))
-
 module _ (old new : TypeTable) (row : expr.Row) (meant : Row) (is : rows.row_seen new row ≡ told meant) (known : IsKnownRow new row) where
   abbrev table : TypeTable
   table = new

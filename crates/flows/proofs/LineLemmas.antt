@@ -58,19 +58,9 @@ endless (byte ∷ rest) nowhere =
       ap (λ (ends : Bool). if ends then rest else behind_line rest) goes_on ∙ later.1,
     )
 
--- what isn't read isn't read with what follows either
-pub not-read : {X Y : Type 0} (reading : Reading X) (next : X → List ℕ → Reading Y) (why : NoLine) → IsReadingOf reading why → IsReadingOf (reads_on reading next) why
-not-read reading next (no_line.Wrong fault) is = ap (λ (found : Reading _). reads_on found next) is
-not-read reading next no_line.NoMemory is = tt
-
 pub unread : (text : List ℕ) (why : NoLine) → IsReadingOf (line_at text) why → IsFaultOf text why
 unread text (no_line.Wrong fault) is = ap fault_of is
 unread text no_line.NoMemory is = tt
-
-pub lacking : (text : List ℕ) (line : FlowLine) (rest : List ℕ) (number : ℕ) (wrong : Wrong) (left : ℕ) → line_at text ≡ Reads line rest → asked_fault line.graph line.note.enters ≡ Some (number, wrong)
-    → left ≡ slice_index_or line.lefts number 0 → line_fault text ≡ Some (fault_at wrong left)
-lacking text line rest number wrong left read lacks same =
-    ap fault_of read ∙ ap (block_fault_at line.lefts) lacks ∙ ap (λ (k : ℕ). Some (fault_at wrong k)) (sym same)
 
 pub block-unread : (graph : List BasicBlock) (lefts text : List ℕ) (whole : Reading FlowLine) → ReadsBlocksOn graph lefts text whole → (why : NoLine) → IsReadingOf (block_at text) why → IsReadingOf whole why
 block-unread graph lefts text whole on (no_line.Wrong fault) is = no-block graph lefts text whole on fault.wrong fault.left is

@@ -38,7 +38,7 @@ list_refused token start HasLimit = Refuses (PassesLimit ContextStep) token
 
 -- the node of a list in the place of it and of the word below
 abbrev pub attributes_made : State → (word list : Value) → Result Attributes Refusal → ActionOutcome
-attributes_made s word list (Ok attributes) = made s 2 (plain_tree kinds.AttributeList (token_of word) (parts_of list))
+attributes_made s word list (Ok attributes) = made s 2 (Node kinds.AttributeList (token_of word) [] s.next_token (parts_of list))
 attributes_made s word list (Err refusal) = list_refused (token_of word) (list_start s word) refusal
 
 -- Attributes

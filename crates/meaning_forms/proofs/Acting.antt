@@ -14,7 +14,7 @@ use Rattle.vocabulary.specs.declared.node_kind.NodeKind.TheVariants as kinds
 use Rattle.vocabulary.specs.declared.action.Action.{Action}
 use Rattle.vocabulary.specs.declared.action.Action.TheVariants.{Append, AppendAttribute, AppendDeclarator, AppendLeadingAttributes, AwaitBody, BeginAtNext, BeginDeclarators, BeginList, BindDeclarator, BindEnumerator, BindFurtherDeclarator, BindParameter, CloseParameters, CloseScope, CountParameter, DeclareTag, DefineTag, JoinAnyParts, JoinParts, JoinSuffixes, MakeAttributeList, MakeBlockSpecifiers, MakeCharacterConstant, MakeContextStatement, MakeFileSpecifiers, MakeForPart, MakeIntegerConstant, MakeMemberSpecifiers, MakeOptionalDeclarator, MakeParameterSpecifiers, MakeParenthesizedAttributes, MakeStringLiteral, MakeTypeName, MakeTypeNameSpecifiers, NoteFunctionDeclarator, OpenBody, OpenScope, RequireType, RequireTypeOrAttributes, UseName, UseTag, UseTypedefName, WithoutTag}
 use Rattle.meaning_tree.specs.Trees.{SyntaxTree, Node, Parts, NoParts, Part, with_parts}
-use Rattle.meaning_tree.specs.Forms.{PartSort, LeadingLists, SpecifierList, ADeclarator, ADeclaratorPart, AnAttribute, ASpecifier, AnExpression, AConstant, AString, attribute_lists, expressions, optional_expressions, IsOf, Slot, One, Perhaps, Each, slots_of, Fits, nothing, one, left_out, there, no_more, one_more, no_declarator, declarator, no_member, member, nameless_member, IsFormedTree, AreFormedTrees, AStatement}
+use Rattle.meaning_tree.specs.Forms.{PartSort, LeadingLists, SpecifierList, ADeclarator, ADeclaratorPart, AnAttribute, ASpecifier, AnExpression, AConstant, AString, attribute_lists, expressions, optional_expressions, IsOf, Slot, One, Perhaps, Each, slots_of, Fits, nothing, one, left_out, there, no_more, one_more, no_declarator, declarator, no_member, member, IsFormedTree, AreFormedTrees, AStatement}
 use Rattle.meaning_scopes.specs.Scopes.{Found, is_open}
 use Rattle.meaning_attributes.specs.Pieces.{in_parentheses}
 use Rattle.meaning_types.specs.Types.{Space, NoSpace, NumberedSpace, NamedSpace}
@@ -83,7 +83,6 @@ with_number-fits (no_declarator fits) = no_declarator (with_number-fits fits)
 with_number-fits (declarator fits) = declarator (with_number-fits fits)
 with_number-fits (no_member fits) = no_member (with_number-fits fits)
 with_number-fits (member fits) = member (with_number-fits fits)
-with_number-fits (nameless_member fits) = nameless_member (with_number-fits fits)
 
 -- each attribute's node is formed
 
@@ -406,7 +405,7 @@ module _ (begun : Parts (List ℕ)) (s next : State) (rest : List Value) where
   -- a list of attributes that isn't refused
   attributes_made-values :
       (word list : Value) (found : Result Attributes Refusal) → attributes_made s word list found ≡ Goes next
-      → next.values ≡ TreeValue (plain_tree kinds.AttributeList (token_of word) (parts_of list)) ∷ drop 2 s.values
+      → next.values ≡ TreeValue (Node kinds.AttributeList (token_of word) [] s.next_token (parts_of list)) ∷ drop 2 s.values
   attributes_made-values word list (Ok attributes) is = made-values s next 2 _ is
   attributes_made-values word list (Err (HasBad bad index)) is = absurd (cc is)
   attributes_made-values word list (Err HasLimit) is = absurd (cc is)

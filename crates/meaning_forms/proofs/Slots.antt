@@ -6,7 +6,7 @@ use Rattle.vocabulary.specs.declared.role.Role.{Role}
 use Rattle.vocabulary.specs.declared.role.Role.TheVariants.{Evaluated, Condition, TypePart, Unevaluated}
 use Rattle.vocabulary.specs.Roles.{role_tag, role_of}
 use Rattle.meaning_tree.specs.Trees.{Tree, Parts, NoParts, Part, with_parts}
-use Rattle.meaning_tree.specs.Forms.{PartSort, LeadingLists, ADeclarator, AnInitializer, AWidth, attribute_lists, sort_number, is_among_sorts, sort_of_kind, kind_of, IsOf, Slot, One, Perhaps, Each, DeclaratorSlots, MemberSlots, Fits, nothing, one, left_out, there, no_more, one_more, no_declarator, declarator, no_member, member, nameless_member}
+use Rattle.meaning_tree.specs.Forms.{PartSort, LeadingLists, ADeclarator, AnInitializer, AWidth, attribute_lists, sort_number, is_among_sorts, sort_of_kind, kind_of, IsOf, Slot, One, Perhaps, Each, DeclaratorSlots, MemberSlots, Fits, nothing, one, left_out, there, no_more, one_more, no_declarator, declarator, no_member, member}
 
 -- Tests
 
@@ -75,9 +75,7 @@ step (DeclaratorSlots ∷ slots) role sorts =
 step (MemberSlots ∷ slots) role sorts =
     if may_stand TypePart (ADeclarator ∷ []) role sorts
     then Some (Perhaps Unevaluated (AWidth ∷ []) ∷ Each TypePart attribute_lists ∷ MemberSlots ∷ slots)
-    else (if may_stand Unevaluated (AWidth ∷ []) role sorts
-    then Some (Each TypePart attribute_lists ∷ MemberSlots ∷ slots)
-    else step slots role sorts)
+    else step slots role sorts
 
 -- what follows where a test passes, and where it doesn't
 chosen :
@@ -121,9 +119,7 @@ module _ {Spelling : Type 0} (tree : Tree Spelling) (parts : Parts Spelling) whe
   step-fits (MemberSlots ∷ slots) role sorts left found is fits =
       chosen (may_stand TypePart (ADeclarator ∷ []) role sorts) _ _ left found
       (λ may same. stands TypePart role (ADeclarator ∷ []) sorts (MemberSlots ∷ slots) _ left may same (λ i f. member (one i f)) is fits)
-      (λ others. chosen (may_stand Unevaluated (AWidth ∷ []) role sorts) _ _ left others
-      (λ may same. stands Unevaluated role (AWidth ∷ []) sorts (MemberSlots ∷ slots) _ left may same (λ i f. nameless_member (one i f)) is fits)
-      (λ further. no_member (step-fits slots role sorts left further is fits)))
+      (λ further. no_member (step-fits slots role sorts left further is fits))
 
 -- Slots that allow no more than others
 
@@ -234,7 +230,6 @@ module _ {Spelling : Type 0} (others slots : List Slot) (go_on : (parts : Parts 
     more_members (no_member fits) = go_on _ fits
     more_members (member (one is (left_out fits))) = member (one is (left_out (behind_member fits)))
     more_members (member (one is (there width fits))) = member (one is (there width (behind_member fits)))
-    more_members (nameless_member (one is fits)) = nameless_member (one is (behind_member fits))
 
     behind_member :
         {parts : Parts Spelling} → Fits (Each TypePart attribute_lists ∷ MemberSlots ∷ others) parts → Fits (Each TypePart attribute_lists ∷ MemberSlots ∷ slots) parts
@@ -369,4 +364,3 @@ module _ {Spelling : Type 0} where
   behind-fits first others parts more (declarator fits) further = declarator (behind-fits _ others _ more fits further)
   behind-fits first others parts more (no_member fits) further = no_member (behind-fits _ others _ more fits further)
   behind-fits first others parts more (member fits) further = member (behind-fits _ others _ more fits further)
-  behind-fits first others parts more (nameless_member fits) further = nameless_member (behind-fits _ others _ more fits further)

@@ -1,2 +1,3 @@
 -- What is proved of the trees that units derive.
 pub mod Forms
+pub mod NodeCounts

@@ -6,4 +6,4 @@
 
 mod forms;
 
-pub use forms::derived_trees_are_formed;
+pub use forms::{derived_trees_are_formed, forms_make_few_nodes};

@@ -98,7 +98,8 @@ productions FurtherMemberDeclarators =
     (Passed Comma ∷ Nonterminal MemberDeclarator ∷ Nonterminal FurtherMemberDeclarators ∷ [])
     ∷ empty_row ∷ []
 productions MemberDeclarator =
-    (Token Colon ∷ Nonterminal ConditionalExpression ∷ Do (MakeOver kinds.BitFieldWidth Unevaluated) ∷ Do (Append Unevaluated) ∷ Nonterminal AttributeLists ∷ [])
+    (Do BeginAtNext ∷ Do MakeDeclarator ∷ Do (Append TypePart) ∷ Token Colon ∷ Nonterminal ConditionalExpression
+    ∷ Do (MakeOver kinds.BitFieldWidth Unevaluated) ∷ Do (Append Unevaluated) ∷ Nonterminal AttributeLists ∷ [])
     ∷ (Nonterminal Declarator ∷ Do MakeDeclarator ∷ Do (Append TypePart) ∷ Nonterminal OptionalWidth ∷ Nonterminal AttributeLists ∷ []) ∷ []
 productions OptionalWidth =
     (Token Colon ∷ Nonterminal ConditionalExpression ∷ Do (MakeOver kinds.BitFieldWidth Unevaluated) ∷ Do (Append Unevaluated) ∷ [])

@@ -39,10 +39,6 @@ closes_behind_line (b ∷ front) rest inside closes =
 no_new_line-slash : (b : ℕ) → (b == slash) ≡ true → (b == new_line) ≡ false
 no_new_line-slash b is = grind (arith, nat_tests)
 
-empty_text : (text : List SourceByte) → is_empty (bytes_of text) ≡ true → text ≡ []
-empty_text [] empty = refl
-empty_text (b ∷ text) empty = absurd (true≢false (sym empty))
-
 -- a comment ends with a slash
 closes_behind_block : (behind_star : Bool) (front rest : List SourceByte) → ends_block behind_star (bytes_of front) ≡ true → ClosesItsLine (front ++ rest)
     → ClosesItsLine rest

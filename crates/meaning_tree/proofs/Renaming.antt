@@ -6,7 +6,7 @@ use Rattle.vocabulary.specs.declared.role.Role.{Role}
 use Rattle.meaning_tree.specs.Trees.{Tree, Node, Parts, NoParts, Part}
 use Rattle.meaning_tree.specs.Nodes.{TreeNode, NodeList, end_of, StandsFor, StandFor, IsTreeOf, ChildrenStandBefore}
 use Rattle.meaning_tree.specs.Listed.{renamed_node, renamed_list}
-use Rattle.meaning_tree.specs.Forms.{PartSort, IsOf, Slot, One, Perhaps, Each, Fits, nothing, one, left_out, there, no_more, one_more, no_declarator, declarator, no_member, member, nameless_member, IsFormedTree, AreFormedTrees, IsFormed}
+use Rattle.meaning_tree.specs.Forms.{PartSort, IsOf, Slot, One, Perhaps, Each, Fits, nothing, one, left_out, there, no_more, one_more, no_declarator, declarator, no_member, member, IsFormedTree, AreFormedTrees, IsFormed}
 
 -- Elements
 
@@ -85,7 +85,6 @@ module _ {N M : Type 0} (renaming : N → M) where
   fits-named (declarator rest) parts is = declarator (fits-named rest parts is)
   fits-named (no_member rest) parts is = no_member (fits-named rest parts is)
   fits-named (member rest) parts is = member (fits-named rest parts is)
-  fits-named (nameless_member rest) parts is = nameless_member (fits-named rest parts is)
 
   mutual
     formed-named : (tree : Tree N) → IsFormedTree (renamed_tree tree) → IsFormedTree tree

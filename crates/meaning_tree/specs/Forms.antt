@@ -223,12 +223,9 @@ abbrev pub declarator_slots : List Slot
 declarator_slots =
     Perhaps TypePart (LeadingLists ∷ []) ∷ One Evaluated (ADeclarator ∷ []) ∷ Each TypePart attribute_lists ∷ Perhaps Evaluated (AnInitializer ∷ []) ∷ []
 
--- a member with a declarator, and a bit-field without one
+-- a member; the declarator of a bit-field without a name has nothing
 abbrev pub member_slots : List Slot
 member_slots = One TypePart (ADeclarator ∷ []) ∷ Perhaps Unevaluated (AWidth ∷ []) ∷ Each TypePart attribute_lists ∷ []
-
-abbrev pub nameless_slots : List Slot
-nameless_slots = One Unevaluated (AWidth ∷ []) ∷ Each TypePart attribute_lists ∷ []
 
 -- these parts are what may come
 pub data Fits {Spelling : Type 0} : List Slot → Parts Spelling → Type 0 where
@@ -249,8 +246,6 @@ pub data Fits {Spelling : Type 0} : List Slot → Parts Spelling → Type 0 wher
   no_member : {slots : List Slot} {parts : Parts Spelling} → Fits slots parts → Fits (MemberSlots ∷ slots) parts
   member : {slots : List Slot} {parts : Parts Spelling}
       → Fits (member_slots ++ MemberSlots ∷ slots) parts → Fits (MemberSlots ∷ slots) parts
-  nameless_member : {slots : List Slot} {parts : Parts Spelling}
-      → Fits (nameless_slots ++ MemberSlots ∷ slots) parts → Fits (MemberSlots ∷ slots) parts
 
 -- two operands
 abbrev pub two : Role → List Slot

@@ -17,7 +17,7 @@ use Rattle.meaning_typing.specs.Tags.{has_body, is_tagged, tag_attributes}
 -- Members as they stand behind the specifiers of their declaration: declarators, widths, and lists of attributes behind both
 
 pub record MemberEntry : Type 0 where
-  pub declarator : Option ℕ
+  pub declarator : ℕ
   pub width : Option ℕ
   pub lists : List ℕ
 
@@ -30,29 +30,11 @@ pub record PendingMembers : Type 0 where
 abbrev pub nothing_pending : PendingMembers
 nothing_pending = record { width = None; lists = []; entries = [] }
 
--- where no declarator stands in front of a width, it is that of a member without a name
-abbrev pub settled_by : Option ℕ → PendingMembers → PendingMembers
-settled_by None pending = pending
-settled_by (Some width) pending =
-    record { width = None; lists = []; entries = record { declarator = None; width = Some width; lists = pending.lists } ∷ pending.entries }
-
-abbrev pub settled_members : PendingMembers → PendingMembers
-settled_members pending = settled_by pending.width pending
-
-abbrev pub with_list : (handle : ℕ) → PendingMembers → PendingMembers
-with_list handle settled = record settled { lists = handle ∷ settled.lists }
-
-abbrev pub with_width : (handle : ℕ) → PendingMembers → PendingMembers
-with_width handle settled = record settled { width = Some handle }
-
-abbrev pub with_declarator : (handle : ℕ) → PendingMembers → PendingMembers
-with_declarator handle pending =
-    record { width = None; lists = []; entries = record { declarator = Some handle; width = pending.width; lists = pending.lists } ∷ pending.entries }
-
 abbrev pub pending_with : NodeKind → (handle : ℕ) → PendingMembers → PendingMembers
-pending_with kinds.AttributeList handle pending = with_list handle (settled_members pending)
-pending_with kinds.BitFieldWidth handle pending = with_width handle (settled_members pending)
-pending_with kinds.Declarator handle pending = with_declarator handle pending
+pending_with kinds.AttributeList handle pending = record pending { lists = handle ∷ pending.lists }
+pending_with kinds.BitFieldWidth handle pending = record pending { width = Some handle }
+pending_with kinds.Declarator handle pending =
+    record { width = None; lists = []; entries = record { declarator = handle; width = pending.width; lists = pending.lists } ∷ pending.entries }
 pending_with kind handle pending = pending
 
 abbrev pub pending_from : UnitNodes → (handles : List ℕ) → PendingMembers
@@ -60,7 +42,7 @@ pending_from nodes [] = nothing_pending
 pending_from nodes (handle ∷ handles) = pending_with (kind_at nodes handle) handle (pending_from nodes handles)
 
 abbrev pub member_entries : UnitNodes → (declaration : ℕ) → List MemberEntry
-member_entries nodes declaration = (settled_members (pending_from nodes (children_from nodes declaration 1))).entries
+member_entries nodes declaration = (pending_from nodes (children_from nodes declaration 1)).entries
 
 -- Declarators of members
 
@@ -151,18 +133,20 @@ body_member name width written (Some type_) = record { declared = record { name 
 abbrev pub specified_type : Option SpecifiedFact → Option TypeTree
 specified_type specifiers = option_map (λ specified. specified.type_) specifiers
 
--- by its declarator, or without one a bit-field of the specified type; of what isn't known there is none
-abbrev pub entry_member : UnitNodes → List Fact → (declaration : ℕ) → MemberEntry → Option ℕ → List BodyMember
-entry_member nodes facts declaration entry None =
-    body_member None (width_said facts entry.width) (member_alignment nodes declaration entry.lists)
-    (specified_type (specifiers_of nodes facts declaration))
-entry_member nodes facts declaration entry (Some declarator) =
-    body_member (Some (node_at nodes declarator).name) (width_said facts entry.width) (member_alignment nodes declaration entry.lists)
-    (type_declared (fact_at facts declarator))
-
 abbrev pub is_empty : List ℕ → Bool
 is_empty [] = true
 is_empty (byte ∷ bytes) = false
+
+-- a declarator that has no name is that of a bit-field
+abbrev pub name_said : (name : List ℕ) → Option (List ℕ)
+name_said [] = None
+name_said (byte ∷ bytes) = Some (byte ∷ bytes)
+
+-- of what isn't known there is none
+abbrev pub entry_member : UnitNodes → List Fact → (declaration : ℕ) → MemberEntry → List BodyMember
+entry_member nodes facts declaration entry =
+    body_member (name_said (node_at nodes entry.declarator).name) (width_said facts entry.width) (member_alignment nodes declaration entry.lists)
+    (type_declared (fact_at facts entry.declarator))
 
 -- a structure or union without a tag is a member without a declarator (p13)
 abbrev pub is_tagless : UnitNodes → (handle : ℕ) → NodeKind → Bool
@@ -179,11 +163,11 @@ nameless_member nodes facts declaration =
     then body_member None None (member_alignment nodes declaration []) (specified_type (specifiers_of nodes facts declaration))
     else []
 
--- without declarators and widths nothing else is one
+-- without declarators nothing else is one
 abbrev pub members_by : UnitNodes → List Fact → (declaration : ℕ) → List MemberEntry → List BodyMember
 members_by nodes facts declaration [] = nameless_member nodes facts declaration
 members_by nodes facts declaration (entry ∷ entries) =
-    flat_map (λ member. entry_member nodes facts declaration member member.declarator) (entry ∷ entries)
+    flat_map (λ member. entry_member nodes facts declaration member) (entry ∷ entries)
 
 abbrev pub members_of_part : UnitNodes → List Fact → NodeKind → (handle : ℕ) → List BodyMember
 members_of_part nodes facts kinds.MemberDeclaration handle = members_by nodes facts handle (member_entries nodes handle)

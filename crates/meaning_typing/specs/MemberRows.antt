@@ -19,12 +19,12 @@ use Rattle.meaning_typing.specs.Units.{UnitNodes, node_at, kind_at, children_at,
 use Rattle.meaning_typing.specs.Surroundings.{Surrounding, surrounding_at}
 use Rattle.meaning_typing.specs.Facts.{Fact, Expression, NamedType, fact_at}
 use Rattle.meaning_typing.specs.Specifiers.{plain_type}
-use Rattle.meaning_typing.specs.Declarators.{is_function, specifiers_of, type_declared}
+use Rattle.meaning_typing.specs.Declarators.{is_function, type_declared}
 use Rattle.meaning_typing.specs.Aggregates.{Bodies, KnownAggregates, aggregates_of}
 use Rattle.meaning_typing.specs.Rows.{Row, nothing, known, breaks_at, breaks_named, fails_with, unless_broken}
 use Rattle.meaning_typing.specs.Operators.{has_no_size}
 use Rattle.meaning_typing.specs.Tags.{is_any_below, tag_broken}
-use Rattle.meaning_typing.specs.MemberDeclarations.{MemberEntry, bodies_at, bodies_before, is_tagless, is_tagless_among, member_declarator_fact, member_entries, specified_type}
+use Rattle.meaning_typing.specs.MemberDeclarations.{MemberEntry, bodies_at, bodies_before, is_empty, is_tagless, is_tagless_among, member_declarator_fact, member_entries}
 
 -- Widths (p4): of a bit-field of this type, with a name or without one, which stands at this token
 
@@ -80,19 +80,18 @@ abbrev pub entry_with_width : (width : ℕ) → List MemberEntry → Option Memb
 entry_with_width width [] = None
 entry_with_width width (entry ∷ entries) = if is_handle width entry.width then Some entry else entry_with_width width entries
 
-abbrev pub declarator_in : Option MemberEntry → Option ℕ
-declarator_in None = None
-declarator_in (Some entry) = entry.declarator
+abbrev pub width_behind : UnitNodes → List Fact → (declarator : ℕ) → (size : Fact) → Row
+width_behind nodes facts declarator size =
+    width_row (node_at nodes declarator).token (not (is_empty (node_at nodes declarator).name)) (type_declared (fact_at facts declarator)) size
 
-abbrev pub width_of_entry : UnitNodes → List Fact → (handle : ℕ) → (declaration : ℕ) → (declarator : Option ℕ) → Row
-width_of_entry nodes facts handle declaration None =
-    width_row (node_at nodes handle).token false (specified_type (specifiers_of nodes facts declaration)) (fact_at facts (child_at nodes handle 0))
-width_of_entry nodes facts handle declaration (Some declarator) =
-    width_row (node_at nodes declarator).token true (type_declared (fact_at facts declarator)) (fact_at facts (child_at nodes handle 0))
+-- a width that stands behind no declarator is none
+abbrev pub width_of_entry : UnitNodes → List Fact → Option MemberEntry → (size : Fact) → Row
+width_of_entry nodes facts None size = known size
+width_of_entry nodes facts (Some entry) size = width_behind nodes facts entry.declarator size
 
 abbrev pub bit_field_row : UnitNodes → List Fact → (handle : ℕ) → Surrounding → Row
 bit_field_row nodes facts handle surrounding =
-    width_of_entry nodes facts handle surrounding.parent (declarator_in (entry_with_width handle (member_entries nodes surrounding.parent)))
+    width_of_entry nodes facts (entry_with_width handle (member_entries nodes surrounding.parent)) (fact_at facts (child_at nodes handle 0))
 
 -- Complete types (p3, p18): an array without a length may be the last member of a structure that has another one
 
@@ -166,7 +165,7 @@ names_same_member nodes surroundings handle other =
 
 abbrev pub name_broken : UnitNodes → List Surrounding → (handle : ℕ) → List Broken
 name_broken nodes surroundings handle =
-    if is_any_below (λ other. names_same_member nodes surroundings handle other) handle
+    if not (is_empty (node_at nodes handle).name) && is_any_below (λ other. names_same_member nodes surroundings handle other) handle
     then breaks_named MemberDeclaredTwice (node_at nodes handle).token (node_at nodes handle).name
     else []
 
@@ -179,12 +178,12 @@ declares_members nodes part =
     && (not (has_no_entry (member_entries nodes part)) || is_tagless_among nodes (children_at nodes (child_at nodes part 0)))
 
 -- one with a name, or an anonymous one; a bit-field without a name is none
-abbrev pub is_other_member : (declarator : ℕ) → MemberEntry → Bool
-is_other_member declarator entry = is_some entry.declarator && not (is_handle declarator entry.declarator)
+abbrev pub is_other_member : UnitNodes → (declarator : ℕ) → MemberEntry → Bool
+is_other_member nodes declarator entry = not (is_empty (node_at nodes entry.declarator).name) && not (nat_eq declarator entry.declarator)
 
 abbrev pub has_other_member : UnitNodes → (declarator part : ℕ) → List MemberEntry → Bool
 has_other_member nodes declarator part [] = is_tagless_among nodes (children_at nodes (child_at nodes part 0))
-has_other_member nodes declarator part (entry ∷ entries) = list_any (λ other. is_other_member declarator other) (entry ∷ entries)
+has_other_member nodes declarator part (entry ∷ entries) = list_any (λ other. is_other_member nodes declarator other) (entry ∷ entries)
 
 abbrev pub is_among_others : UnitNodes → (declarator list : ℕ) → Bool
 is_among_others nodes declarator list =
@@ -192,7 +191,7 @@ is_among_others nodes declarator list =
 
 abbrev pub is_last_entry : (declarator : ℕ) → List MemberEntry → Bool
 is_last_entry declarator [] = false
-is_last_entry declarator (entry ∷ []) = is_handle declarator entry.declarator
+is_last_entry declarator (entry ∷ []) = nat_eq declarator entry.declarator
 is_last_entry declarator (entry ∷ other ∷ entries) = is_last_entry declarator (other ∷ entries)
 
 abbrev pub is_last_member : UnitNodes → (declarator : ℕ) → Surrounding → (declaration : ℕ) → Bool
@@ -215,7 +214,7 @@ may_be_flexible nodes surroundings declarator declaration =
 abbrev pub entry_with_declarator : (declarator : ℕ) → List MemberEntry → Option MemberEntry
 entry_with_declarator declarator [] = None
 entry_with_declarator declarator (entry ∷ entries) =
-    if is_handle declarator entry.declarator then Some entry else entry_with_declarator declarator entries
+    if nat_eq declarator entry.declarator then Some entry else entry_with_declarator declarator entries
 
 abbrev pub has_width : Option MemberEntry → Bool
 has_width None = false

@@ -79,29 +79,18 @@ is_any_below test (suc count) = is_any_below test count || test count
 abbrev pub is_defined_again : UnitNodes → (handle : ℕ) → Bool
 is_defined_again nodes handle = has_body nodes handle && is_any_below (λ other. is_earlier_body nodes handle other) (length nodes)
 
--- The token of the tag is the one behind the keyword, or behind the attributes that stand between: then it is told by the brace or the
--- enumerator behind it. Of attributes without a body the tree doesn't say where they end.
+-- The token of the tag is the one behind the keyword, or behind the last list of attributes that stands between.
 abbrev pub is_list : NodeKind → Bool
 is_list kinds.AttributeList = true
 is_list kind = false
 
-abbrev pub has_lists : UnitNodes → List ℕ → Bool
-has_lists nodes handles = list_any (λ handle. is_list (kind_at nodes handle)) handles
-
-abbrev pub before_body : (token : ℕ) → NodeKind → (otherwise : ℕ) → ℕ
-before_body token kinds.MemberList otherwise = token - 1
-before_body token kinds.Enumerator otherwise = token - 2
-before_body token kind otherwise = otherwise
-
-abbrev pub behind_lists : (keyword : ℕ) → UnitNodes → List ℕ → ℕ
-behind_lists keyword nodes [] = keyword + 1
-behind_lists keyword nodes (handle ∷ handles) =
-    before_body (node_at nodes handle).token (kind_at nodes handle) (behind_lists keyword nodes handles)
+abbrev pub behind_lists : UnitNodes → (before : ℕ) → (handles : List ℕ) → ℕ
+behind_lists nodes before [] = before
+behind_lists nodes before (handle ∷ handles) =
+    if is_list (kind_at nodes handle) then behind_lists nodes (node_at nodes handle).number handles else before
 
 abbrev pub tag_token : UnitNodes → (handle : ℕ) → ℕ
-tag_token nodes handle =
-    if has_lists nodes (children_at nodes handle) then behind_lists (node_at nodes handle).token nodes (children_at nodes handle)
-    else (node_at nodes handle).token + 1
+tag_token nodes handle = behind_lists nodes ((node_at nodes handle).token + 1) (children_at nodes handle)
 
 abbrev pub tag_broken : UnitNodes → (handle : ℕ) → List Broken
 tag_broken nodes handle =

@@ -74,6 +74,7 @@ number_use kinds.AddressSpaceAttribute = OwnWithoutName
 number_use kinds.StructSpecifier = OfToken
 number_use kinds.UnionSpecifier = OfToken
 number_use kinds.EnumSpecifier = OfToken
+number_use kinds.AttributeList = OfToken
 number_use kinds.CompoundStatement = OfToken
 number_use kinds.DoStatement = OfToken
 number_use kinds.TypedefName = OfNode

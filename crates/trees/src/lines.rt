@@ -41,6 +41,7 @@ fn number_use(kind: NodeKind) -> NumberUse
         NodeKind::StructSpecifier
         | NodeKind::UnionSpecifier
         | NodeKind::EnumSpecifier
+        | NodeKind::AttributeList
         | NodeKind::CompoundStatement
         | NodeKind::DoStatement => NumberUse::OfToken,
         NodeKind::TypedefName | NodeKind::Name => NumberUse::OfNode,

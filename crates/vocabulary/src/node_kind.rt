@@ -90,8 +90,8 @@ pub enum NodeKind {
     /// The members of a structure or union between braces (the `{`): t each `MemberDeclaration`, `EmptyDeclaration`
     /// or `StaticAssertion`.
     MemberList,
-    /// The declaration of members (its first token): t `Specifiers`, then for each member t `Declarator` where it
-    /// has one, u `BitFieldWidth` where it is a bit-field, t each `AttributeList` behind it.
+    /// The declaration of members (its first token): t `Specifiers`, then for each member t `Declarator`, which has
+    /// nothing where a bit-field has no name, u `BitFieldWidth` where it is a bit-field, t each `AttributeList` behind it.
     MemberDeclaration,
     /// The width of a bit-field (the `:`): u the expression.
     BitFieldWidth,
@@ -122,7 +122,8 @@ pub enum NodeKind {
     TypeName,
 
     // Attributes
-    /// `__attribute__` and its words in order (the keyword): t each that means something here.
+    /// `__attribute__` and its words in order (the keyword): the index of the token behind it; t each that means
+    /// something here.
     AttributeList,
     /// `noderef` (the word).
     NoderefAttribute,

@@ -35,17 +35,6 @@ pub counted :
     → second ≡ text ++ (k ++ n ++ m ++ (w ++ a ++ i ++ b ++ p))
 counted text first second k n m w a i b p is_first is_second = rw (is_second, is_first) (simp append_assoc)
 
--- what is told of a cast, by whether its operand is restricted
-pub cast-restricted :
-    (shown : ShownUnit) (operand : TypeTree) (to : Option TypeTree) → is_restricted_type operand ≡ true
-    → cast_text shown operand to ≡ codes "cast of restricted " ++ restricted_name shown operand
-cast-restricted shown operand to is = rw is refl
-
-pub cast-plain :
-    (shown : ShownUnit) (operand : TypeTree) (to : Option TypeTree) → is_restricted_type operand ≡ false
-    → cast_text shown operand to ≡ codes "cast to restricted " ++ of_type (restricted_name shown) to
-cast-plain shown operand to is = rw is refl
-
 pub appended_twice : (text first second a b : List ℕ) → first ≡ text ++ a → second ≡ first ++ b → second ≡ text ++ (a ++ b)
 appended_twice text first second a b is_first is_second = rw (is_second, is_first) (simp append_assoc)
 

@@ -56,12 +56,12 @@ pub(crate) static FURTHER_MEMBER_DECLARATORS: [Production; 2] = [
     Production { symbol: FurtherMemberDeclarators, items: &[] },
 ];
 
-/// A member, or a bit-field without a name.
+/// A member, or a bit-field without a name, whose declarator has nothing.
 #[rattlefmt::skip]
 pub(crate) static MEMBER_DECLARATOR: [Production; 2] = [
     Production { symbol: MemberDeclarator, items: &[
-        Token(Colon), Nonterminal(ConditionalExpression), Do(MakeOver(NodeKind::BitFieldWidth, Unevaluated)),
-        Do(Append(Unevaluated)), Nonterminal(AttributeLists),
+        Do(BeginAtNext), Do(MakeDeclarator), Do(Append(TypePart)), Token(Colon), Nonterminal(ConditionalExpression),
+        Do(MakeOver(NodeKind::BitFieldWidth, Unevaluated)), Do(Append(Unevaluated)), Nonterminal(AttributeLists),
     ] },
     Production { symbol: MemberDeclarator, items: &[
         Nonterminal(Declarator), Do(MakeDeclarator), Do(Append(TypePart)), Nonterminal(OptionalWidth),

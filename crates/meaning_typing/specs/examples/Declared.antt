@@ -149,8 +149,13 @@ abbrev pub long_array : (token length : ℕ) → SyntaxTree
 long_array token length =
     Node kinds.ArrayDeclarator token [] 0 (Part Unevaluated (Node (kinds.IntegerConstant integers.Long) (token + 1) [] length NoParts) NoParts)
 
+-- `__attribute__((WORD))`, and behind it a token
 abbrev pub word : NodeKind → (token number : ℕ) → SyntaxTree
-word kind token number = type_over kinds.AttributeList token (Node kind (token + 3) [] number NoParts ∷ [])
+word kind token number = Node kinds.AttributeList token [] (token + 6) (parts_of TypePart (Node kind (token + 3) [] number NoParts ∷ []))
+
+-- `__attribute__((WORD(NUMBER)))`
+abbrev pub numbered_word : NodeKind → (token number : ℕ) → SyntaxTree
+numbered_word kind token number = Node kinds.AttributeList token [] (token + 9) (parts_of TypePart (Node kind (token + 3) [] number NoParts ∷ []))
 
 -- `struct m { .. };` or `union m { .. };`, whose members begin at token 3
 abbrev pub body_of : NodeKind → List SyntaxTree → UnitNodes
@@ -199,22 +204,28 @@ pub record MemberListExamples : Type 0 where
   pub last_of_two : breaking (structure_of (ints 3 (called 4 (codes "n") ∷ declarator 6 (codes "k") (unbounded ∷ []) ∷ []) ∷ [])) ≡ []
   -- `{ int a : 33; int : 40; int b : 0; }`
   pub widths :
-      breaking (structure_of (ints 3 (called 4 (codes "a") ∷ bits 5 33 ∷ []) ∷ ints 8 (bits 9 40 ∷ []) ∷ ints 12 (called 13 (codes "b") ∷ bits 14 0 ∷ []) ∷ []))
+      breaking (structure_of (ints 3 (called 4 (codes "a") ∷ bits 5 33 ∷ []) ∷ ints 8 (called 9 [] ∷ bits 9 40 ∷ []) ∷ ints 12 (called 13 (codes "b") ∷ bits 14 0 ∷ []) ∷ []))
       ≡ breaks_at BadBitField 4 ++ breaks_at BadBitField 9 ++ breaks_at BadBitField 13
+  -- `{ int a, : 3; }`, whose width is none of a's, and `{ int : 3, : 3; }`, whose members have no name twice
+  pub width_of_another : breaking (structure_of (members 3 (leaf kinds.CharSpecifier 3 ∷ []) (called 4 (codes "a") ∷ called 6 [] ∷ bits 6 9 ∷ []) ∷ [])) ≡ breaks_at BadBitField 6
+  pub nameless_twice : breaking (structure_of (ints 3 (called 4 [] ∷ bits 4 3 ∷ called 7 [] ∷ bits 7 3 ∷ []) ∷ [])) ≡ []
+  -- `{ struct m : 3; }`, where no member is incomplete
+  pub nameless_structure :
+      breaking (structure_of (members 3 (tagged kinds.StructSpecifier 3 (codes "m") 0 ∷ []) (called 5 [] ∷ bits 5 3 ∷ []) ∷ [])) ≡ breaks_at BadBitField 5
 
 -- Layouts of bodies
 
 pub record BodyExamples : Type 0 where
   -- `{ int a : 32, : 0, : 5; int b; }`
   pub fields :
-      layout_in (structure_of (ints 3 (called 4 (codes "a") ∷ bits 5 32 ∷ bits 8 0 ∷ bits 11 5 ∷ []) ∷ ints 14 (called 15 (codes "b") ∷ []) ∷ [])) 0 false
+      layout_in (structure_of (ints 3 (called 4 (codes "a") ∷ bits 5 32 ∷ called 8 [] ∷ bits 8 0 ∷ called 11 [] ∷ bits 11 5 ∷ []) ∷ ints 14 (called 15 (codes "b") ∷ []) ∷ [])) 0 false
       ≡ laid (0 ∷ 32 ∷ 32 ∷ 64 ∷ []) 12 4
   -- `{ char c; int a __attribute__((aligned(8))); }`, and an alignment behind a width
   pub aligned_member :
-      layout_in (structure_of (members 3 (leaf kinds.CharSpecifier 3 ∷ []) (called 4 (codes "c") ∷ []) ∷ ints 6 (called 7 (codes "a") ∷ word kinds.AlignedAttribute 8 8 ∷ []) ∷ [])) 0 false
+      layout_in (structure_of (members 3 (leaf kinds.CharSpecifier 3 ∷ []) (called 4 (codes "c") ∷ []) ∷ ints 6 (called 7 (codes "a") ∷ numbered_word kinds.AlignedAttribute 8 8 ∷ []) ∷ [])) 0 false
       ≡ laid (0 ∷ 64 ∷ []) 16 8
   pub aligned_field :
-      layout_in (structure_of (members 3 (leaf kinds.CharSpecifier 3 ∷ []) (called 4 (codes "c") ∷ []) ∷ ints 6 (called 7 (codes "a") ∷ bits 8 3 ∷ word kinds.AlignedAttribute 10 8 ∷ []) ∷ [])) 0 false
+      layout_in (structure_of (members 3 (leaf kinds.CharSpecifier 3 ∷ []) (called 4 (codes "c") ∷ []) ∷ ints 6 (called 7 (codes "a") ∷ bits 8 3 ∷ numbered_word kinds.AlignedAttribute 10 8 ∷ []) ∷ [])) 0 false
       ≡ laid (0 ∷ 64 ∷ []) 16 8
   -- `struct m { char c; int a; } __attribute__((packed));`, and `struct __attribute__((packed)) m { char c; int a; };`
   pub packed_behind :
@@ -279,10 +290,13 @@ pub record TagExamples : Type 0 where
   pub named_again : breaking (behind_pair (tagged kinds.StructSpecifier 7 (codes "pair") 0)) ≡ []
   -- `struct pair { int a; }` in an inner scope, where its tag has a number of its own
   pub in_other_scope : breaking (behind_pair (aggregate kinds.StructSpecifier 7 (codes "pair") 7 9 (ints 10 (called 11 (codes "a") ∷ []) ∷ []))) ≡ []
-  -- `struct __attribute__((aligned(8))) pair { int a; }`
+  -- `struct __attribute__((aligned(8))) pair { int a; }`, and `union __attribute__((packed)) __attribute__((packed)) pair`
   pub behind_attributes :
-      breaking (behind_pair (Node kinds.StructSpecifier 7 (codes "pair") 0 (parts_of TypePart (word kinds.AlignedAttribute 8 8 ∷ type_over kinds.MemberList 18 [] ∷ []))))
+      breaking (behind_pair (Node kinds.StructSpecifier 7 (codes "pair") 0 (parts_of TypePart (numbered_word kinds.AlignedAttribute 8 8 ∷ type_over kinds.MemberList 18 [] ∷ []))))
       ≡ breaks_named TagRedeclared 17 (codes "pair")
+  pub behind_more_attributes :
+      breaking (behind_pair (Node kinds.UnionSpecifier 7 (codes "pair") 0 (parts_of TypePart (word kinds.PackedAttribute 8 0 ∷ word kinds.PackedAttribute 14 0 ∷ []))))
+      ≡ breaks_named TagRedeclared 20 (codes "pair")
   -- `struct m { int a; } BITWISE;` and `enum BITWISE e { E };`
   pub bitwise_structure :
       breaking (nodes_of (declaration 0 (aggregate kinds.StructSpecifier 0 (codes "m") 0 2 (ints 3 (called 4 (codes "a") ∷ []) ∷ []) ∷ word kinds.BitwiseAttribute 7 0 ∷ []) [] ∷ []))

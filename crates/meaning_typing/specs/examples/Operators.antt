@@ -8,6 +8,7 @@ use Rattle.vocabulary.specs.declared.int_kind.IntKind.TheVariants as integers
 use Rattle.meaning_typing.specs.Facts.{Fact, Unknown, Expression, NamedType, Addressed, NotAddress, ConstantAddress, place, value}
 use Rattle.meaning_typing.specs.Declarators.{array_type, nothing_told}
 use Rattle.meaning_typing.specs.Rows.{breaks_at, fails_with}
+use Rattle.meaning_typing.specs.Expressions.{assignment_row}
 use Rattle.meaning_typing.specs.Operators.{comma_row, integer, logical_row, not_row, statement_expression_row}
 use Rattle.meaning_typing.specs.Casts.{cast_row, expect_row, is_forced, sizeof_row, truncation}
 use Rattle.meaning_typing.specs.Changes.{compound_row}
@@ -77,6 +78,8 @@ pub record TypeExamples : Type 0 where
       (not_row 2 3 (Expression p) ∷ logical_row operators.LogicalAnd 2 1 3 (Expression p) (Expression p) ∷ sizeof_row nothing_told 2 (Expression i)
       ∷ expect_row 1 3 (Expression i) (Expression (number (pos 1))) ∷ [])
       ≡ plain int ∷ plain int ∷ plain unsigned_long ∷ plain long ∷ []
+  -- `(~h, i)`, and `h = ~h2`
+  pub unfouled : map gives (comma_row (Expression i) ∷ assignment_row 2 3 (Expression h) (Expression fouled_h) ∷ []) ≡ plain int ∷ plain le16 ∷ []
   -- an unsigned bit-field of 3 bits behind `++` gives an int, and before it an unsigned int
   pub bit_fields :
       map gives

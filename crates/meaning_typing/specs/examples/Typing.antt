@@ -3,6 +3,8 @@ use Rattle.std.specs.Prelude.{◌≡◌, ℕ, Bool, true, false, List, [], ◌�
 use Rattle.vocabulary.specs.declared.node_kind.NodeKind.TheVariants as kinds
 use Rattle.meaning_types.specs.Types.{TypeTree, Typed, IntegerTree, no_flags, pointer_to}
 use Rattle.vocabulary.specs.declared.int_kind.IntKind.TheVariants as integers
+use Rattle.vocabulary.specs.declared.role.Role.TheVariants.{Evaluated}
+use Rattle.meaning_tree.specs.Trees.{SyntaxTree, Node, NoParts, Part}
 use Rattle.meaning_typing.specs.Units.{UnitNodes, node_at}
 use Rattle.meaning_typing.specs.Surroundings.{Surrounding, Want, ForValue, ForStore, ForPlace, ForEffect, ForNothing, surrounding_at}
 use Rattle.meaning_typing.specs.Facts.{Fact, Expression, Declared, fact_at}
@@ -10,7 +12,8 @@ use Rattle.meaning_typing.specs.Declarators.{array_type}
 use Rattle.meaning_typing.specs.Typing.{is_accessed}
 use Rattle.meaning_typing.specs.Evaluation.{evaluated_parts}
 use Rattle.meaning_typing.specs.Building.{surroundings_of, facts_of}
-use Rattle.meaning_typing.specs.examples.Drawn.{nodes_of, leaf, over, type_over, named, declarator, array, declaration, parameter, function, in_body, int, user_int, u, i, statement, star, address, assignment, parenthesized}
+use Rattle.meaning_typing.specs.examples.Drawn.{nodes_of, leaf, over, type_over, named, declarator, array, declaration, parameter, function, in_body, int, user_int, u, i, none, statement, star, address, assignment, parenthesized}
+use Rattle.meaning_typing.specs.examples.Values.{char, nothing_from_nothing}
 
 abbrev pub fact_in : UnitNodes → (handle : ℕ) → Fact
 fact_in nodes handle = fact_at (facts_of nodes (surroundings_of nodes)) handle
@@ -106,6 +109,21 @@ twice_declared =
     (over kinds.CompoundStatement 14 (statement (named kinds.Name 15 (codes "i") 9) ∷ []))
     ∷ [])
 
+-- the type of such an expression statement, and whether it is a place
+abbrev pub stated : SyntaxTree → (handle : ℕ) → List (Option TypeTree)
+stated expression handle = types_at (in_body (statement expression ∷ [])) (handle ∷ [])
+
+abbrev pub is_place_in : Fact → Bool
+is_place_in (Expression expression) = expression.is_place
+is_place_in fact = false
+
+abbrev pub is_stated_place : SyntaxTree → (handle : ℕ) → Bool
+is_stated_place expression handle = is_place_in (fact_in (in_body (statement expression ∷ [])) handle)
+
+-- `"ab"`
+abbrev pub two_characters : SyntaxTree
+two_characters = Node kinds.StringLiteral 33 [] 3 (Part Evaluated (named kinds.StringPiece 33 (codes "\"ab\"") 0) NoParts)
+
 pub record FactExamples : Type 0 where
   -- the names of what is declared stand where their uses say
   pub names : map (λ handle. (node_at (in_body []) handle).name) (4 ∷ 13 ∷ 18 ∷ 26 ∷ 34 ∷ 42 ∷ []) ≡ map codes ("p" ∷ "u" ∷ "i" ∷ "one" ∷ "none" ∷ "f" ∷ [])
@@ -113,6 +131,14 @@ pub record FactExamples : Type 0 where
   pub through : types_at around_user (43 ∷ 44 ∷ 45 ∷ []) ≡ Some (pointer_to user_int) ∷ Some user_int ∷ Some (pointer_to user_int) ∷ []
   -- `*i` breaks a constraint, so nothing is known of it; `i = *i` has the type of i
   pub unknown : types_at (in_body (statement (assignment 34 (i 33) (star 35 (i 36))) ∷ [])) (43 ∷ 44 ∷ 45 ∷ 46 ∷ []) ≡ Some int ∷ Some int ∷ None ∷ Some int ∷ []
+  -- `'a'`, `"ab"`, `*none`, `&none`
+  pub character : stated (Node (kinds.CharacterConstant integers.Int) 33 [] 97 NoParts) 43 ≡ Some int ∷ []
+  pub string : stated two_characters 44 ≡ Some (array_type char (Some 3)) ∷ []
+  pub string_place : is_stated_place two_characters 44 ≡ true
+  pub through_function : stated (star 33 (none 34)) 44 ≡ Some nothing_from_nothing ∷ []
+  pub function_place : is_stated_place (star 33 (none 34)) 44 ≡ true
+  pub function_address : stated (address 33 (none 34)) 44 ≡ Some (pointer_to nothing_from_nothing) ∷ []
+  pub no_place : map (λ expression. is_stated_place expression 44) (address 33 (none 34) ∷ over kinds.Negation 33 (i 34 ∷ []) ∷ []) ≡ false ∷ false ∷ []
   -- a local object hides a parameter up to the end of its block
   pub inner : types_at hidden (13 ∷ 16 ∷ []) ≡ Some int ∷ Some (pointer_to int) ∷ []
   -- a length counts for the uses behind it, in whatever scope it stands

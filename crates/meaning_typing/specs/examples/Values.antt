@@ -72,7 +72,7 @@ abbrev pub c : ExpressionFact
 c = place char
 
 abbrev pub t : ExpressionFact
-t = place (integer integers.Short)
+t = place (integer integers.Bool)
 
 abbrev pub i : ExpressionFact
 i = place int

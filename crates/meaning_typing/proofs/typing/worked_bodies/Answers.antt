@@ -33,6 +33,9 @@ returns-clause-members c = record {
   last = refl;
   last_of_two = refl;
   widths = refl;
+  width_of_another = refl;
+  nameless_twice = refl;
+  nameless_structure = refl;
 }
 
 pub returns-clause-layouts : goal.returns-clause-layouts
@@ -56,6 +59,7 @@ returns-clause-tags c = record {
   named_again = refl;
   in_other_scope = refl;
   behind_attributes = refl;
+  behind_more_attributes = refl;
   bitwise_structure = refl;
   bitwise_enumeration = refl;
   named_before = refl;

@@ -14,6 +14,7 @@ returns-clause-types c = record {
   last = refl;
   stored = refl;
   others = refl;
+  unfouled = refl;
   bit_fields = refl;
 }
 

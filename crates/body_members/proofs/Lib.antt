@@ -1,0 +1,4 @@
+pub mod AlignmentLemmas
+pub mod EntryLemmas
+pub mod MemberLemmas
+pub mod PackedLemmas

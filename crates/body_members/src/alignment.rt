@@ -6,9 +6,8 @@ ghost use Rattle.meaning_typing.specs.Specifiers.{attributes_among, attributes_o
 ghost use Rattle.meaning_typing.specs.Units.{children_at, kind_at as kind_of, node_at as node_of_unit};
 ghost use Rattle.decl_judge.specs.Units.{handles_of, nodes_of};
 
-use crate::attributes::attributes_at;
 use c_tree::{Handle, Node, Unit};
-use decl_judge::node_at;
+use decl_judge::{attributes_at, node_at};
 use sparse_model::NodeKind;
 use tag_list::TagList;
 

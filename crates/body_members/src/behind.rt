@@ -1,19 +1,16 @@
 // The attributes directly behind a body, which are of its structure or union: nodes in, whether it is packed and the alignment
 // that is written out. Members aren't known here.
 ghost use Rattle.std.specs.Prelude.{◌≡◌, ◌+◌, ◌||◌, max};
-ghost use Rattle.std.specs.List.{list_any};
 ghost use Rattle.meaning_typing.specs.Declarators.{lists_behind};
 ghost use Rattle.meaning_typing.specs.MemberDeclarations as meaning;
 ghost use Rattle.meaning_typing.specs.Specifiers.{attributes_among};
-ghost use Rattle.meaning_typing.specs.Units.{kind_at as kind_of};
 ghost use Rattle.decl_judge.specs.Seen.{lists_from};
 ghost use Rattle.decl_judge.specs.Units.{handles_of, nodes_of};
 ghost use Rattle.body_members.specs.Seen.{are_packed};
 
 use crate::alignment::alignment_among;
-use crate::attributes::attributes_at;
 use c_tree::{Handle, Unit};
-use decl_judge::{kind_at, node_at};
+use decl_judge::{attributes_at, kind_at, node_at};
 use sparse_model::NodeKind;
 use tag_list::TagList;
 

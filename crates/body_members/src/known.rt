@@ -3,36 +3,24 @@ ghost use Rattle.std.specs.Prelude.{◌≡◌, All, IfOk, Some, option_map};
 ghost use Rattle.meaning_typing.specs.Declarators as meaning;
 ghost use Rattle.meaning_typing.specs.MemberDeclarations as members;
 ghost use Rattle.node_facts.specs.Facts.{IsKnownNodeFact, node_seen, nodes_seen};
-ghost use Rattle.decl_judge.specs.Asked.{declared_in, kept_at, specifiers_kept};
+ghost use Rattle.decl_judge.specs.Asked.{specifiers_kept};
 ghost use Rattle.decl_judge.specs.Units.{nodes_of};
 
 use c_tree::{Handle, Unit};
 use c_types::Types;
 use const_fold::part_of;
-use decl_judge::child_at;
+use decl_judge::specifiers_of;
 use node_facts::{NodeFact, NodeFacts};
 use sparse_model::TypeId;
 use std::alloc::AllocError;
-
-/// The type that a declarator declares, if it is known.
-pub fn declared_type_at(facts: &NodeFacts, handle: Handle) -> Option<TypeId>
-    ensures { result ≡ declared_in (kept_at facts.now handle) }
-{
-    match facts.at(handle) {
-        NodeFact::Declared(declaration) => Some(declaration.of),
-        _ => None,
-    }
-}
 
 /// The type that the specifiers of a declaration name, if it is known: they are its first part.
 pub fn specified_type(unit: &Unit, facts: &NodeFacts, declaration: Handle) -> Option<TypeId>
     requires { unit.now.first ≡ 0 }
     ensures { result ≡ option_map (λ said. said.of) (specifiers_kept (nodes_of unit.now) facts.now declaration) }
 {
-    match facts.at(child_at(unit, declaration, 0)) {
-        NodeFact::Specified(specifiers) => Some(specifiers.of),
-        _ => None,
-    }
+    let specifiers = specifiers_of(unit, facts, declaration)?;
+    Some(specifiers.of)
 }
 
 // The bits that a number gives, if it isn't below 0. A width that is known is no more than its type has bits, so one of more

@@ -7,7 +7,6 @@
 #![tactic(auto)]
 
 mod alignment;
-mod attributes;
 mod behind;
 mod bodies;
 mod entries;

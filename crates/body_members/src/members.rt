@@ -4,17 +4,17 @@ ghost use Rattle.std.specs.Prelude.{◌≡◌, ◌++◌, [], None, All, IfOk, If
 ghost use Rattle.std.specs.List.{cons_option, flat_map};
 ghost use Rattle.meaning_typing.specs.MemberDeclarations as meaning;
 ghost use Rattle.meaning_typing.specs.Units as units;
-ghost use Rattle.c_types.specs.Table.{IsTypeId, type_at};
+ghost use Rattle.c_types.specs.Table.{type_at};
 ghost use Rattle.node_facts.specs.Facts.{IsKnownNodeFact, name_seen, nodes_seen};
 ghost use Rattle.decl_judge.specs.Units.{nodes_of};
 ghost use Rattle.body_members.specs.Seen.{IsMemberOver, member_by, member_seen, member_with, members_if, members_seen};
 
 use crate::entries::{Entry, entries_of};
-use crate::known::{declared_type_at, specified_type, width_said};
+use crate::known::{specified_type, width_said};
 use crate::specifiers::{has_tagless, specified_alignment};
 use c_tree::{Handle, Unit};
 use c_types::{Member, MemberList, Types};
-use decl_judge::node_at;
+use decl_judge::{declared_type_at, node_at};
 use node_facts::NodeFacts;
 use sparse_model::{NameId, TypeId};
 use std::alloc::{AllocError, Global};

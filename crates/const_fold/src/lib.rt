@@ -25,4 +25,6 @@ pub use folding::{fold, fold_measured};
 pub use known::{loaded_kind, part_of};
 pub use measured::measuring_is_enough;
 pub use number::{converted, wrapped};
+pub use offset::element_of;
 pub use part::{Part, PartType};
+pub use sized::asked_size;

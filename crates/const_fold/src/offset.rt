@@ -123,8 +123,8 @@ fn element_spot(types: &Types, bytes: u64, element: TypeId, index: u128) -> Opti
     spot_within(types, u128::from(bytes) + index * u128::from(size), element)
 }
 
-// The element of an array.
-fn element_of(types: &Types, t: TypeId) -> Option<TypeId>
+/// The element of an array.
+pub fn element_of(types: &Types, t: TypeId) -> Option<TypeId>
     requires { IsTypeId types.now t }
     ensures element { option_map (type_at types.now) result ≡ element_in (type_at types.now t) }
     ensures known { IfSome result (IsTypeId types.now) }

@@ -16,9 +16,10 @@ mod parts;
 mod specifiers;
 mod words;
 
+pub use asked::{declared_type_at, specifiers_of};
 pub use declared::{DeclaratorPlace, declarator_fact, parameter_fact, parameter_type};
 pub use force::is_forced;
-pub use marks::{Marks, marks_among, own_marks};
+pub use marks::{Marks, attributes_at, marks_among, own_marks};
 pub use names::{name_fact, typeof_fact};
 pub use nodes::{child_at, kind_at, node_at, token_at};
 pub use parts::derived;

@@ -4,7 +4,6 @@ use Rattle.meaning_types.specs.Types.{TypeTree, Typed, VoidTree, IntegerTree, Re
 use Rattle.c_types.specs.Outlines.{outline_of}
 use Rattle.expression_rows.specs.Values.{value_in}
 use Rattle.enum_rows.specs.Integers.{integer_in, integer_with}
-pub use Rattle.expression_rows.proofs.OperandLemmas.{number_told}
 
 pub type_told : (type_ : TypeTree) → integer_with None (outline_of type_) ≡ integer_in type_
 type_told (Typed VoidTree _ _) = refl

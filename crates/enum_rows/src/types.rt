@@ -12,7 +12,6 @@ ghost use Rattle.enum_rows.specs.Values.{IsKept};
 use crate::integers::IntegerType;
 use crate::values::EnumeratorValue;
 use c_types::{NodeType, NodeValue, ShapeBase, TypeShape, Types};
-use const_fold::part_of;
 use node_facts::{ExpressionFact, ExpressionMarks, NodeFact};
 use sparse_model::{Space, TypeId};
 use std::alloc::AllocError;
@@ -33,15 +32,6 @@ pub fn integer_of_type(types: &Types, fact: ExpressionFact) -> Option<IntegerTyp
     ensures { result ≡ integer_in (type_at types.now fact.node.of) }
 {
     IntegerType::loaded(None, types.outline(fact.node.of))
-}
-
-/// The number of the constant of an expression.
-#[tactic(auto, using(crate::proofs::IntegerLemmas::number_told))]
-pub fn number_of(types: &Types, fact: ExpressionFact) -> Option<i128>
-    requires { IsKnownFact types.now fact }
-    ensures { result ≡ (fact_seen types.now fact).constant }
-{
-    part_of(types, fact.node).number
 }
 
 /// The type itself.

@@ -7,9 +7,10 @@ ghost use Rattle.enum_rows.specs.Integers.{integer_in};
 ghost use Rattle.enum_rows.specs.Values.{IsKept, counted, kind_settled, next, settled, type_settled, value_by, value_seen};
 
 use crate::integers::{IntegerType, Span};
-use crate::types::{integer_of_type, integer_of_value, number_of};
+use crate::types::{integer_of_type, integer_of_value};
 use c_types::Types;
 use const_fold::converted;
+use expression_rows::number_of;
 use node_facts::{ExpressionFact, NodeFact};
 use sparse_model::{IntKind, Restrict};
 

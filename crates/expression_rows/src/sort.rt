@@ -12,7 +12,7 @@ ghost use Rattle.expression_rows.specs.Sorts.{first_of, sort_in, sort_seen};
 use crate::operand::{is_function, is_void};
 use crate::row::{Broken, broken_at, lesser};
 use crate::value::Valued;
-use c_types::{LayoutFault, Outline, Types};
+use c_types::{Extent, LayoutFault, Outline, Types};
 use sparse_model::{ErrorKind, IntKind, TypeId};
 
 /// Where an operator with two operands stands, and these.
@@ -114,7 +114,8 @@ pub fn not_taken(
     )
 }
 
-fn is_incomplete(extent: Result<c_types::Extent, LayoutFault>) -> bool
+/// Whether a type has no size since it isn't complete, by what its layout was told to be.
+pub fn is_incomplete(extent: Result<Extent, LayoutFault>) -> bool
     ensures { result ≡ meaning.is_incomplete (extent_seen extent) }
 {
     match extent {

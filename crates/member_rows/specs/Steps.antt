@@ -16,8 +16,6 @@ use Rattle.meaning_typing.specs.Facts.{Fact, Unknown, Expression, ExpressionFact
 use Rattle.meaning_typing.specs.OffsetRows as meaning
 use Rattle.meaning_typing.specs.Rows.{breaks_at, void_used}
 use Rattle.meaning_typing.specs.Operators.{integer}
-use Rattle.c_types.specs.declared.outline.Outline.{Outline}
-use Rattle.c_types.specs.declared.outline.Outline.TheVariants as outlines
 use Rattle.c_types.specs.Table.{TypeTable, IsTypeId, integer_kind, type_at}
 use Rattle.expression_rows.specs.declared.row.Broken.{Broken}
 use Rattle.expression_rows.specs.Parts.{unless}
@@ -85,12 +83,6 @@ abbrev pub element_reached : Reached → (element : TypeId) → (bytes : Option 
 element_reached reached element bytes is_known = record { of = element; width = None; bytes = bytes; is_known = reached.is_known && is_known }
 
 -- Elements
-
--- void and functions have one byte, as in GNU C
-abbrev pub has_one_byte : Outline → Bool
-has_one_byte outlines.Void = true
-has_one_byte outlines.Function = true
-has_one_byte outline = false
 
 -- so many bytes lie before an element, where so many lie before its array
 abbrev pub bytes_to_element : Told → (element : TypeTree) → (index : ℕ) → ℕ → Option ℕ

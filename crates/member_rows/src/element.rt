@@ -7,10 +7,11 @@ ghost use Rattle.meaning_typing.specs.OffsetRows as meaning;
 ghost use Rattle.c_types.specs.Layouts.{told_in};
 ghost use Rattle.c_types.specs.Table.{IsTypeId, type_at};
 ghost use Rattle.member_rows.specs.Aggregates.{aggregates_in, bytes_in, bytes_within};
-ghost use Rattle.member_rows.specs.Steps.{bytes_to_element, has_one_byte};
+ghost use Rattle.member_rows.specs.Steps.{bytes_to_element};
 ghost use Rattle.node_facts.specs.Facts.{name_seen};
 
-use c_types::{Outline, Types};
+use c_types::Types;
+use const_fold::asked_size;
 use sparse_model::{NameId, TypeId};
 
 /// The most bytes that an object may have: 2^40.
@@ -47,31 +48,6 @@ pub fn bytes_to_member(types: &Types, name: NameId, of: TypeId, bytes: Option<u6
     match bytes {
         None => None,
         Some(bytes) => bytes_in(types, name, of, bytes),
-    }
-}
-
-// Void and functions have one byte, as in GNU C.
-fn has_one_byte(outline: Outline) -> bool
-    ensures { result ≡ has_one_byte outline }
-{
-    match outline {
-        Outline::Void => true,
-        Outline::Function => true,
-        _ => false,
-    }
-}
-
-// The size of a type, as `sizeof` asks for it.
-fn asked_size(types: &Types, t: TypeId) -> Option<u64>
-    requires { IsTypeId types.now t }
-    ensures { result ≡ sizes.asked_size (told_in types.now) (type_at types.now t) }
-{
-    if has_one_byte(types.outline(t)) {
-        return Some(1);
-    }
-    match types.extent(t) {
-        Ok(extent) => Some(extent.size),
-        Err(_) => None,
     }
 }
 

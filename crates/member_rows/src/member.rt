@@ -14,12 +14,12 @@ ghost use Rattle.member_rows.specs.Selections.{IsKnownSelection, selection_seen}
 ghost use Rattle.node_facts.specs.Facts.{IsKnownFact, fact_seen, name_seen};
 ghost use Rattle.node_facts.specs.Growing.{TypesJoin};
 
-use crate::broken::{broken_at, broken_named, void_used, void_value_used};
+use crate::broken::{broken_named, void_value_used};
 use crate::marks::PlaceMarks;
 use crate::selection::{Selection, selection_of};
 use crate::typed::{loaded_type, type_of_member};
-use c_types::{FoundMember, NodeType, NodeValue, Outline, Types};
-use expression_rows::{Broken, Row, RowFailures, Valued, lesser};
+use c_types::{FoundMember, NodeType, NodeValue, Types};
+use expression_rows::{Broken, Row, RowFailures, Valued, broken_at, is_array, lesser, void_used};
 use node_facts::{Addressed, ExpressionFact, ExpressionMarks};
 use sparse_model::{ErrorKind, NameId, TypeId};
 use std::alloc::AllocError;
@@ -85,17 +85,6 @@ fn member_of_place(
         aggregate.marks.is_register,
         aggregate.marks.address,
     )))
-}
-
-// Whether a type is one of arrays.
-fn is_array(types: &Types, t: TypeId) -> bool
-    requires { IsTypeId types.now t }
-    ensures { result ≡ is_array (type_at types.now t) }
-{
-    match types.outline(t) {
-        Outline::Array => true,
-        _ => false,
-    }
 }
 
 // A member of a value is one, so it is no array.

@@ -10,11 +10,10 @@ ghost use Rattle.expression_rows.specs.Rows.{IsKnownRow, broken_seen, row_seen, 
 ghost use Rattle.member_rows.specs.Steps.{IsWalked, broken_by_width, offset_with, reached_seen};
 ghost use Rattle.node_facts.specs.Growing.{TypesJoin};
 
-use crate::broken::broken_at;
 use crate::reached::Reached;
 use crate::typed::make;
 use c_types::{ShapeBase, TypeShape, Types};
-use expression_rows::{Broken, Row, RowFailures, lesser};
+use expression_rows::{Broken, Row, RowFailures, broken_at, lesser};
 use node_facts::ExpressionFact;
 use sparse_model::{ErrorKind, IntKind, Space, TypeId};
 use std::alloc::AllocError;

@@ -2,7 +2,7 @@
 ghost use Rattle.std.specs.Prelude.{◌≡◌, Some, false};
 ghost use Rattle.meaning_typing.specs.Members as meaning;
 ghost use Rattle.meaning_typing.specs.Operators.{is_incomplete};
-ghost use Rattle.c_types.specs.Layouts.{extent_seen, told_in};
+ghost use Rattle.c_types.specs.Layouts.{told_in};
 ghost use Rattle.c_types.specs.Outlines.{aggregate_in, outline_of};
 ghost use Rattle.c_types.specs.Table.{IsTypeId, type_at};
 ghost use Rattle.meaning_layout.specs.Sizes.{extent_of};
@@ -11,7 +11,8 @@ ghost use Rattle.member_rows.specs.Selections.{IsKnownSelection, selection_seen}
 ghost use Rattle.node_facts.specs.Facts.{name_seen};
 
 use crate::marks::PlaceMarks;
-use c_types::{Extent, FoundMember, LayoutFault, Types};
+use c_types::{FoundMember, Types};
+use expression_rows::is_incomplete;
 use sparse_model::{NameId, TypeId};
 
 /// What a name names in an aggregate of a type.
@@ -23,16 +24,6 @@ pub enum Selection {
     NotComplete,
     /// In a place with these marks, if there is such a member.
     Selected(PlaceMarks, Option<FoundMember>),
-}
-
-fn is_incomplete(extent: Result<Extent, LayoutFault>) -> bool
-    ensures { result ≡ is_incomplete (extent_seen extent) }
-{
-    match extent {
-        Ok(_) => false,
-        Err(LayoutFault::Incomplete) => true,
-        Err(LayoutFault::TooLarge) => false,
-    }
 }
 
 // In a complete aggregate.

@@ -11,16 +11,15 @@ ghost use Rattle.expression_rows.specs.Rows.{IsKnownFailure, failure_listed};
 ghost use Rattle.member_rows.specs.Aggregates.{aggregates_in};
 ghost use Rattle.member_rows.specs.Selections.{IsKnownSelection, selection_seen};
 ghost use Rattle.member_rows.specs.Steps.{IsKnownReached, IsKnownOffsetStep, element_at_index, element_at_number, element_reached, member_reached, reached_seen, step_seen, to_element_if, to_element_of, walk_told};
-ghost use Rattle.node_facts.specs.Facts.{IsKnownFact, fact_seen, name_seen};
+ghost use Rattle.node_facts.specs.Facts.{name_seen};
 
-use crate::broken::{broken_at, broken_named, void_used};
+use crate::broken::broken_named;
 use crate::element::{bytes_to_element, bytes_to_member};
 use crate::reached::{OffsetStep, Reached};
 use crate::selection::{Selection, selection_of};
-use crate::typed::element_of;
 use c_types::{FoundMember, Types};
-use const_fold::part_of;
-use expression_rows::{Valued, lesser};
+use const_fold::element_of;
+use expression_rows::{Valued, broken_at, lesser, number_of, void_used};
 use node_facts::ExpressionFact;
 use sparse_model::{ErrorKind, Failure, NameId, RuleCode, TypeId};
 
@@ -173,15 +172,6 @@ fn numbered_element(
     }
     let bytes = bytes_to_element(types, element, number.unsigned_abs(), reached.bytes);
     led_to(types, token, failure, reached, element, bytes)
-}
-
-// The number of its constant.
-#[tactic(auto, using(expression_rows::proofs::OperandLemmas::number_told))]
-fn number_of(types: &Types, fact: ExpressionFact) -> Option<i128>
-    requires { IsKnownFact types.now fact }
-    ensures { result ≡ (fact_seen types.now fact).constant }
-{
-    part_of(types, fact.node).number
 }
 
 // An index of which something is known is of an integer type.

@@ -1,5 +1,5 @@
 // Types of members in a place with qualifiers and flags, and of members that are loaded (C11 6.5.2.3 p3, 6.3.2.1 p2).
-ghost use Rattle.std.specs.Prelude.{◌≡◌, IfOk, IfSome, None, OnOk, false, option_map, true};
+ghost use Rattle.std.specs.Prelude.{◌≡◌, IfOk, None, OnOk, false, true};
 ghost use Rattle.meaning_constants.specs.Nodes.{loaded_type};
 ghost use Rattle.meaning_types.specs.Marks.{both, later_space, member_type};
 ghost use Rattle.meaning_types.specs.Types.{TypeTrees, value_type};
@@ -9,7 +9,6 @@ ghost use Rattle.meaning_typing.specs.Facts.{decays};
 ghost use Rattle.meaning_typing.specs.Members.{type_of_member};
 ghost use Rattle.meaning_typing.specs.OffsetRows.{element_in};
 ghost use Rattle.c_types.specs.Members.{found_seen};
-ghost use Rattle.c_types.specs.Rows.{type_numbered};
 ghost use Rattle.c_types.specs.Table.{IsOuterOver, IsShapeOver, IsTypeId, flags_of_shape, qualifiers_of_shape, space_of, type_at, type_of_outer, type_of_shape, types_in};
 ghost use Rattle.member_rows.specs.Marks.{base_of_level, flags_in_place, flags_seen, innermost_space, is_plain_level, marks_of_level, place_with, qualifiers_seen, space_in_place, space_over};
 ghost use Rattle.node_facts.specs.Growing.{TypesJoin};
@@ -18,6 +17,7 @@ use crate::marks::{PlaceMarks, later_space};
 use c_types::{
     FoundMember, NodeType, NodeValue, OuterBase, OuterShape, Outline, ShapeBase, TypeShape, Types,
 };
+use const_fold::element_of;
 use expression_rows::type_of_value;
 use node_facts::{ExpressionFact, ExpressionMarks};
 use sparse_model::{Space, TypeId};
@@ -32,29 +32,6 @@ pub fn make(types: &mut Types, shape: TypeShape) -> Result<TypeId, AllocError>
 {
     let id = types.make(shape)?;
     Ok(id)
-}
-
-/// The element of an array.
-pub fn element_of(types: &Types, t: TypeId) -> Option<TypeId>
-    requires { IsTypeId types.now t }
-    ensures element { option_map (type_at types.now) result ≡ element_in (type_at types.now t) }
-    ensures known { IfSome result (IsTypeId types.now) }
-{
-    match types.outline(t) {
-        Outline::Array => array_element(types, t),
-        _ => None,
-    }
-}
-
-fn array_element(types: &Types, t: TypeId) -> Option<TypeId>
-    requires { IsTypeId types.now t }
-    ensures element { option_map (type_at types.now) result ≡ element_in (type_at types.now t) }
-    ensures known { IfSome result (IsTypeId types.now) }
-{
-    match types.shape(t).base {
-        OuterBase::Array(element, _) => Some(element),
-        _ => None,
-    }
 }
 
 // The own space of a type that is no array.

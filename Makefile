@@ -108,11 +108,14 @@ headers: $(PROGRAM)
 
 smoke: $(PROGRAM) $(FLOWS) $(WORKBENCH) build/judged
 	$(PYTHON) scripts/smoke.py $(PROGRAM)
+	$(PYTHON) scripts/smoke_cc.py $(PROGRAM)
 	$(PYTHON) scripts/smoke_large.py $(FLOWS) $(WORKBENCH) $(PROGRAM) build/judged
 
 install: $(PROGRAM)
 	install -D -m 755 $(PROGRAM) $(DESTDIR)$(PREFIX)/bin/ksparse
+	install -D -m 755 bin/ksparse-cc $(DESTDIR)$(PREFIX)/bin/ksparse-cc
 	install -D -m 644 man/ksparse.1 $(DESTDIR)$(PREFIX)/share/man/man1/ksparse.1
+	install -D -m 644 man/ksparse-cc.1 $(DESTDIR)$(PREFIX)/share/man/man1/ksparse-cc.1
 
 clean:
 	rm -rf build crates/*/out

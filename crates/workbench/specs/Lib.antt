@@ -1,4 +1,3 @@
 pub mod Asked
 pub mod Definitions
-pub mod Folding
 pub mod Shown

@@ -2,11 +2,11 @@
 ghost use Rattle.std.specs.Prelude.{◌^◌, ◌<◌, length};
 
 use crate::lines::first_line;
-use crate::scopes::word_of;
 use c_attrs::{AttrFault, Attrs, ChangeFault, context_change, read_attrs};
 use c_tokens::{LexFault, Names, Token, lex};
 use sparse_model::{ContextEntry, Space};
 use std::alloc::{AllocError, Global};
+use type_workbench::word_of;
 
 /// What the tokens of a line are taken as, which stand between parentheses.
 #[derive(Clone, Copy)]

@@ -8,27 +8,19 @@
 mod asked;
 mod attributes;
 mod command;
-mod constant_words;
-mod constants;
 mod definitions;
 mod expansions;
-mod extents;
 mod lines;
 mod scopes;
-mod shown_types;
 mod texts;
 mod tool;
-mod types;
 mod units;
 mod values;
-mod words;
 
 pub use asked::Asked;
 pub use attributes::{Between, attribute_lines};
 pub use command::{Stop, workbench};
-pub use constants::constant_answers;
 pub use expansions::expand_text;
 pub use scopes::scope_answers;
 pub use tool::Tool;
-pub use types::type_answers;
 pub use values::{Shown, answer_line, if_values};

@@ -6,6 +6,7 @@ use c_tokens::{Names, lex};
 use itoa::Buffer;
 use sparse_model::NameId;
 use std::alloc::{AllocError, Global};
+use type_workbench::word_of;
 
 /// What a word wants of the name behind it.
 #[derive(Clone, Copy)]
@@ -53,15 +54,6 @@ pub fn scope_answers(alloc: Global, text: &[u8]) -> Result<Vec<u8>, AllocError>
         index = index.wrapping_add(1);
     }
     Ok(session.shown)
-}
-
-/// The spelling of a name of the table, and nothing for another one.
-pub(crate) fn word_of(names: &Names, name: NameId) -> &[u8] {
-    if (name.0 as usize) < names.len() {
-        names.spelling(name)
-    } else {
-        &[]
-    }
 }
 
 impl Session {

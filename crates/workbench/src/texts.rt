@@ -1,7 +1,4 @@
 // Types, failures and errors under commands, and their texts.
-use crate::scopes::word_of;
-use crate::types::Session;
-use crate::words::with_number;
 use c_preproc::UnitTokens;
 use c_tokens::Names;
 use c_types::Named;
@@ -9,6 +6,7 @@ use sparse_model::{
     Class, ClassSet, ErrorKind, Failure, FailureList, NameId, Place, Restrict, RuleCode, Space,
 };
 use std::alloc::{AllocError, Global};
+use type_workbench::{Session, with_number, word_of};
 use warn_print::{Show, error_text, print_all, type_text, warning_text};
 
 /// The id that no name has: it is spelled as nothing.

@@ -4,13 +4,12 @@ ghost use Rattle.workbench.specs.Asked.{MayRun};
 
 use crate::asked::Asked;
 use crate::attributes::{Between, attribute_lines};
-use crate::constants::constant_answers;
 use crate::expansions::expand_text;
 use crate::scopes::scope_answers;
-use crate::types::type_answers;
 use crate::values::if_values;
 use sparse_outside::Words;
 use std::alloc::{AllocError, Global};
+use type_workbench::{constant_answers, type_answers};
 
 /// A call of a library over a text.
 #[derive(Clone, Copy)]

@@ -5,13 +5,13 @@ ghost use Rattle.meaning_outside.specs.Faults.{Told};
 ghost use Rattle.c_tokens.specs.Seen.{IsKnown};
 
 use crate::command::Stop;
-use crate::scopes::word_of;
 use crate::texts::texts_of;
 use c_preproc::{PreFault, UnitTokens, preprocess};
 use c_tokens::{Names, Token};
 use sparse_model::{Bytes, ClassSet, ErrorKind, Options, PathList, Place};
 use sparse_outside::Files;
 use std::alloc::{AllocError, Global};
+use type_workbench::word_of;
 
 /// What is shown of a unit.
 #[derive(Clone, Copy)]

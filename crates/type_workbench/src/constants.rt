@@ -1,11 +1,11 @@
 // Nodes of a unit under commands, and the constant of each.
 ghost use Rattle.std.specs.Prelude.{◌≡◌, ◌^◌, ◌<◌, ◌++◌, ◌∷◌, [], IfOk, IfSome, length};
-ghost use Rattle.workbench.specs.Folding.{AreHandlesIn, IsFolding, IsHandleIn};
+ghost use Rattle.type_workbench.specs.Folding.{AreHandlesIn, IsFolding, IsHandleIn};
 
 use crate::constant_words::{Chain, Verb, verb_of};
-use crate::scopes::word_of;
 use crate::shown_types::kind_word;
 use crate::types::Session;
+use crate::words::word_of;
 use c_tokens::{Names, Token, lex};
 use c_tree::{Handle, Node, Unit};
 use c_types::{NodeType, NodeTypes, NodeValue, Outline, Types, bits, has_sign};

@@ -4,8 +4,8 @@ ghost use Rattle.meaning_types.specs.Types.{TypeTree};
 ghost use Rattle.c_types.specs.Table.{IsShapeOver, IsTypeId, types_in};
 
 use crate::extents::{push_extent, push_layout};
-use crate::scopes::word_of;
 use crate::shown_types::{push_base, push_marks};
+use crate::words::word_of;
 use c_layout::size_of;
 use c_tokens::{Names, lex};
 use c_types::{
@@ -18,7 +18,7 @@ use std::str;
 
 /// Qualifiers and flags that wait for the next type.
 #[derive(Clone, Copy)]
-pub(crate) struct Waiting {
+pub struct Waiting {
     pub is_const: bool,
     pub is_volatile: bool,
     pub noderef: bool,
@@ -34,7 +34,7 @@ const NONE_WAITING: Waiting = Waiting {
 
 /// What is written at the next member, or at the next aggregate that is told.
 #[derive(Clone, Copy)]
-pub(crate) struct Written {
+pub struct Written {
     packed: bool,
     /// The alignment, or 1.
     align: u32,
@@ -48,7 +48,7 @@ const NOTHING_WRITTEN: Written = Written {
 /// Types under commands: those that were made and not taken yet, the last one at the end, the members that
 /// no aggregate has yet, and what was answered.
 #[derive(Drop)]
-pub(crate) struct Session {
+pub struct Session {
     pub alloc: Global,
     pub types: Types,
     pub made: Vec<TypeId>,

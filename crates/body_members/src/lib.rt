@@ -16,3 +16,4 @@ mod specifiers;
 
 pub use bodies::{members_of_list, specifier_body};
 pub use entries::{Entry, entries_of};
+pub use specifiers::{has_body, is_tagged};

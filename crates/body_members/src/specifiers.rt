@@ -14,7 +14,8 @@ use decl_judge::{child_at, kind_at, node_at};
 use sparse_model::NodeKind;
 use tag_list::TagList;
 
-fn is_tagged(kind: NodeKind) -> bool
+/// Whether a specifier of this kind is that of a structure, a union or an enumeration.
+pub fn is_tagged(kind: NodeKind) -> bool
     ensures { result ≡ tags.is_tagged kind }
 {
     match kind {
@@ -48,7 +49,8 @@ fn is_body_among(unit: &Unit, children: &TagList) -> bool
     false
 }
 
-fn has_body(unit: &Unit, handle: Handle) -> bool
+/// Whether members or enumerators stand between the braces of a specifier. It takes a step for each of its parts.
+pub fn has_body(unit: &Unit, handle: Handle) -> bool
     requires { unit.now.first ≡ 0 }
     ensures { result ≡ tags.has_body (nodes_of unit.now) handle }
 {

@@ -91,7 +91,7 @@ abbrev pub said_by : UnitNodes → List meaning.Fact → specifiers.Words → Op
 said_by nodes facts words None = Some (specifiers.type_of_words words)
 said_by nodes facts words (Some handle) = specifiers.type_named (meaning.fact_at facts handle)
 
-said_if : (nodes : UnitNodes) (facts : List meaning.Fact) (words : specifiers.Words) (names : Bool) (handle : ℕ) (others : Option ℕ)
+pub said_if : (nodes : UnitNodes) (facts : List meaning.Fact) (words : specifiers.Words) (names : Bool) (handle : ℕ) (others : Option ℕ)
     → (if names then specifiers.type_named (meaning.fact_at facts handle) else said_by nodes facts words others)
     ≡ said_by nodes facts words (if names then Some handle else others)
 said_if nodes facts words true handle others = refl

@@ -14,7 +14,7 @@ use Rattle.decl_judge.specs.Seen.{is_list, list_marks, lists_from, marks_over}
 use Rattle.decl_judge.specs.Units.{handles_of}
 
 module _ (nodes : UnitNodes) where
-  behind_append : (marks : meaning.Marks) (front back : List ℕ)
+  pub behind_append : (marks : meaning.Marks) (front back : List ℕ)
       → meaning.marks_behind nodes marks (front ++ back) ≡ meaning.marks_behind nodes (meaning.marks_behind nodes marks front) back
   behind_append marks [] back = refl
   behind_append marks (handle ∷ front) back = behind_append (meaning.marked_by (node_at nodes handle) (kind_at nodes handle) marks) front back

@@ -41,7 +41,8 @@ fn is_parameter(kind: NodeKind) -> bool
     }
 }
 
-fn is_unit(kind: NodeKind) -> bool
+/// Whether a node of this kind is a unit.
+pub fn is_unit(kind: NodeKind) -> bool
     ensures { result ≡ meaning.is_unit kind }
 {
     match kind {

@@ -16,12 +16,14 @@ mod parts;
 mod specifiers;
 mod words;
 
-pub use asked::{declared_type_at, specifiers_of};
-pub use declared::{DeclaratorPlace, declarator_fact, parameter_fact, parameter_type};
+pub use asked::{declared_type_at, named_type_at, specifiers_of};
+pub use declared::{DeclaratorPlace, declarator_fact, is_unit, parameter_fact, parameter_type};
 pub use force::is_forced;
-pub use marks::{Marks, attributes_at, marks_among, own_marks};
+pub use marking::Added;
+pub use marks::{Marks, attributes_at, marks_among, marks_with_list, marks_with_lists, own_marks};
 pub use names::{name_fact, typeof_fact};
 pub use nodes::{child_at, kind_at, node_at, token_at};
+pub use parameters::is_void_list;
 pub use parts::derived;
-pub use specifiers::specified;
+pub use specifiers::{names_type, specified, specified_as, type_of_words};
 pub use words::{Words, words_of};

@@ -118,8 +118,8 @@ pub fn attributes_at(unit: &Unit, handle: Handle) -> Option<&TagList>
     }
 }
 
-// With the attributes of a node, if it is a list of them.
-fn marks_with_list(unit: &Unit, marks: Marks, handle: Handle) -> Result<Marks, AllocError>
+/// With the attributes of a node, if it is a list of them.
+pub fn marks_with_list(unit: &Unit, marks: Marks, handle: Handle) -> Result<Marks, AllocError>
     requires { unit.now.first ≡ 0 }
     ensures { IfOk result (λ after. marks_seen after ≡ list_marks (nodes_of unit.now) (marks_seen marks) handle) }
 {
@@ -129,16 +129,24 @@ fn marks_with_list(unit: &Unit, marks: Marks, handle: Handle) -> Result<Marks, A
     }
 }
 
+/// With the attributes of all lists among children.
+pub fn marks_with_lists(unit: &Unit, marks: Marks, children: &TagList) -> Result<Marks, AllocError>
+    requires { unit.now.first ≡ 0 }
+    ensures { IfOk result (λ after. marks_seen after ≡ marks_over (nodes_of unit.now) (marks_seen marks) (handles_of children.now)) }
+{
+    let mut after = marks;
+    for (child, _) in children.iter() {
+        after = marks_with_list(unit, after, child)?;
+    }
+    Ok(after)
+}
+
 /// What the attributes of all lists among children add.
 pub fn marks_among(unit: &Unit, children: &TagList) -> Result<Marks, AllocError>
     requires { unit.now.first ≡ 0 }
     ensures { IfOk result (λ marks. marks_seen marks ≡ meaning.marks_among (nodes_of unit.now) (handles_of children.now)) }
 {
-    let mut marks = Marks::none();
-    for (child, _) in children.iter() {
-        marks = marks_with_list(unit, marks, child)?;
-    }
-    Ok(marks)
+    marks_with_lists(unit, Marks::none(), children)
 }
 
 // With the attributes of the lists that stand one behind the other, directly behind this place.

@@ -141,8 +141,8 @@ fn only_child(children: &TagList) -> Option<Handle>
     }
 }
 
-// Whether parameters are `(void)`.
-fn is_void_list(
+/// Whether parameters are `(void)`.
+pub fn is_void_list(
     unit: &Unit,
     facts: &NodeFacts,
     types: &Types,

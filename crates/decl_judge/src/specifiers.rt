@@ -37,8 +37,8 @@ impl Words {
     }
 }
 
-// The type that words name.
-fn type_of_words(types: &mut Types, words: Words) -> Result<TypeId, AllocError>
+/// The type that words name.
+pub fn type_of_words(types: &mut Types, words: Words) -> Result<TypeId, AllocError>
     ensures made { IfOk result (λ id. type_at types.new id ≡ meaning.type_of_words (words_seen words)) }
     ensures known { IfOk result (IsTypeId types.new) }
     ensures keeps { OnOk result (TypesJoin types.old types.new) }
@@ -46,7 +46,8 @@ fn type_of_words(types: &mut Types, words: Words) -> Result<TypeId, AllocError>
     make_plain(types, words.base())
 }
 
-fn names_type(kind: NodeKind) -> bool
+/// Whether a specifier of this kind names a type, so that no words do (C11 6.7.2 p2).
+pub fn names_type(kind: NodeKind) -> bool
     ensures { result ≡ meaning.names_type kind }
 {
     match kind {
@@ -90,8 +91,8 @@ fn type_said(
     }
 }
 
-// This type with what is added to it, and a storage class.
-fn specified_as(
+/// What is known of specifiers that say this type with what is added to it, and a storage class.
+pub fn specified_as(
     types: &mut Types,
     token: u32,
     added: Added,

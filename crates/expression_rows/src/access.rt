@@ -17,8 +17,8 @@ use node_facts::ExpressionFact;
 use space_rules::access_rule;
 use sparse_model::{Failure, TypeId};
 
-// A place whose value is loaded where it is wanted.
-fn is_loaded(types: &Types, expression: ExpressionFact) -> bool
+/// Whether it is a place whose value is loaded where it is wanted.
+pub fn is_loaded(types: &Types, expression: ExpressionFact) -> bool
     requires { IsKnownFact types.now expression }
     ensures { result ≡ facts.is_loaded (fact_seen types.now expression) }
 {

@@ -57,8 +57,8 @@ fn function_of(types: &Types, target: Option<TypeId>) -> Option<TypeId>
     }
 }
 
-// The function to which a value points, if it does.
-fn called_function(types: &Types, callee: Valued) -> Option<TypeId>
+/// The function to which a value points, if it does.
+pub fn called_function(types: &Types, callee: Valued) -> Option<TypeId>
     requires { IsValued types.now callee }
     ensures function { option_map (type_at types.now) result ≡ function_through (pointed_at (type_of_value (valued_seen types.now callee))) }
     ensures known { IfSome result (IsTypeId types.now) }
@@ -209,8 +209,8 @@ fn result_at(types: &Types, function: TypeId, count: usize) -> Option<TypeId>
     result_by(types, types.shape(function).base, count)
 }
 
-// The result of a function, if it takes so many arguments: a step for each of them.
-fn result_with(types: &Types, function: TypeId, count: usize) -> Option<TypeId>
+/// The result of a function, if it takes so many arguments: a step for each of them.
+pub fn result_with(types: &Types, function: TypeId, count: usize) -> Option<TypeId>
     requires known { IsTypeId types.now function }
     requires function { is_function (type_at types.now function) ≡ true }
     ensures answer { option_map (type_at types.now) result ≡ result_with count (type_at types.now function) }

@@ -24,8 +24,8 @@ use sparse_model::{ErrorKind, Failure};
 use std::alloc::AllocError;
 use vocabulary::Operator;
 
-// Only a place that can be written is changed.
-fn place_broken(types: &Types, token: u32, of: Valued) -> Option<Broken>
+/// Only a place that can be written is changed.
+pub fn place_broken(types: &Types, token: u32, of: Valued) -> Option<Broken>
     requires { IsValued types.now of }
     ensures { option_map broken_seen result ≡ least_broken (meaning.place_broken token (valued_seen types.now of)) }
 {

@@ -9,7 +9,7 @@ ghost use Rattle.decl_judge.specs.Units.{nodes_of};
 ghost use Rattle.node_facts.specs.Facts.{IsKnownNodeFact, node_seen, nodes_seen};
 ghost use Rattle.node_facts.specs.Growing.{TypesJoin};
 ghost use Rattle.expression_rows.specs.Arguments.{Appends};
-ghost use Rattle.expr_judge.specs.Judging.{IsRefusedFor};
+ghost use Rattle.expr_judge.specs.Judging.{IsRefusedFor, KeepsTypes};
 ghost use Rattle.expr_judge.specs.Rows.{Tells, is_of_declaration};
 ghost use Rattle.expr_judge.specs.Whole.{IsWhole};
 
@@ -83,8 +83,8 @@ fn append_all(found: &mut FailureList, failures: &FailureList) -> Result<(), All
 /// It takes a few steps, and one for each part; a name with linkage takes a step for each node before it.
 ///
 /// # Errors
-/// `Constraint` where the expression breaks one: the least, by its token and then by its number. Want of memory. After
-/// either nothing was appended.
+/// `Constraint` where the expression breaks one: the least, by its token and then by its number; types may have joined the
+/// table. Want of memory. After either nothing was appended.
 pub fn judge_expr(
     alloc: Global,
     unit: &Unit,
@@ -106,6 +106,7 @@ pub fn judge_expr(
     ensures refused { (surroundings : List Surrounding) → IfErr result (IsRefusedFor (row_at (nodes_of unit.now) surroundings (nodes_seen types.old facts.now) e)) }
     ensures as_before { OnErr result (found.new ≡ found.old) }
     ensures keeps { OnOk result (TypesJoin types.old types.new) }
+    ensures kept { IfErr result (KeepsTypes types.old types.new) }
 {
     let mut failures = FailureList::new(alloc);
     let row = row_of(alloc, unit, types, facts, e, &mut failures)?;

@@ -16,11 +16,11 @@ use Rattle.linked_names.proofs.FormLemmas.{same-itself}
 use Rattle.linked_names.proofs.PassingLemmas.{passing-more, passing-none}
 use Rattle.linked_names.proofs.WitnessLemmas.{and-left}
 
-map-option_or : {X Y : Type 0} (f : X → Y) (one other : Option X) → option_map f (option_or one other) ≡ option_or (option_map f one) (option_map f other)
+pub map-option_or : {X Y : Type 0} (f : X → Y) (one other : Option X) → option_map f (option_or one other) ≡ option_or (option_map f one) (option_map f other)
 map-option_or f (Some one) other = refl
 map-option_or f None other = refl
 
-option_or-none : {X : Type 0} (one : Option X) → option_or one None ≡ one
+pub option_or-none : {X : Type 0} (one : Option X) → option_or one None ≡ one
 option_or-none (Some one) = refl
 option_or-none None = refl
 

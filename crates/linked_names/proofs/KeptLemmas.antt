@@ -11,11 +11,11 @@ use Rattle.linked_names.specs.declared.witnesses.Witnesses.{Witnesses}
 use Rattle.linked_names.proofs.GrowthLemmas.{id-later, type-later}
 
 module _ (old new : TypeTable) (extends : Extends old new) where
-  placed-later : (placed : Option Placed) → IsPlacedId old placed → option_map (placed_in new) placed ≡ option_map (placed_in old) placed
+  pub placed-later : (placed : Option Placed) → IsPlacedId old placed → option_map (placed_in new) placed ≡ option_map (placed_in old) placed
   placed-later None known = refl
   placed-later (Some placed) known = λ i. Some (record { place = placed.place; type_ = type-later old new extends placed.of known i })
 
-  placed_id-later : (placed : Option Placed) → IsPlacedId old placed → IsPlacedId new placed
+  pub placed_id-later : (placed : Option Placed) → IsPlacedId old placed → IsPlacedId new placed
   placed_id-later None known = tt
   placed_id-later (Some placed) known = id-later old new extends placed.of known
 

@@ -8,3 +8,6 @@ mod KeptLemmas
 mod DeclarationLemmas
 mod IndexLemmas
 mod TypedefLemmas
+mod CarrierLemmas
+mod CarriedLemmas
+mod CarriedIndexLemmas

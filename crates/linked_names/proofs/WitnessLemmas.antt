@@ -1,5 +1,5 @@
 -- The witnesses tell which declaration is the first that disagrees with a type.
-use Rattle.std.proofs.Common.{◌≡◌, Bool, true, false, ◌&&◌, ◌||◌, not, nat_le, List, [], ◌∷◌, slice_get, Option, Some, None, IfSome, is_some, option_map, if◌then◌else◌, refl, sym, ap, ◌∙◌}
+use Rattle.std.proofs.Common.{◌≡◌, ◌+◌, Bool, true, false, ◌&&◌, ◌||◌, not, nat_le, List, [], ◌∷◌, slice_get, Option, Some, None, IfSome, is_some, option_map, if◌then◌else◌, refl, sym, ap, ◌∙◌}
 use Rattle.std.proofs.lemmas.Bool.{not_from_false}
 use Rattle.std.proofs.lemmas.Option.{none-some, same_Some}
 use Rattle.sparse_model.specs.declared.ids.TypeId.{TypeId}
@@ -74,7 +74,7 @@ module _ (first : TypeTree) (are_open : Bool) (type_ : TypeTree) (types : List T
 
 -- By ids
 
-earlier-placed : (table : TypeTable) (one other : Option Placed) → option_map (placed_in table) (earlier_of one other) ≡ earlier_type (option_map (placed_in table) one) (option_map (placed_in table) other)
+pub earlier-placed : (table : TypeTable) (one other : Option Placed) → option_map (placed_in table) (earlier_of one other) ≡ earlier_type (option_map (placed_in table) one) (option_map (placed_in table) other)
 earlier-placed table None other = refl
 earlier-placed table (Some one) None = refl
 earlier-placed table (Some one) (Some other) = by (nat_le one.place other.place)
@@ -92,7 +92,7 @@ unlike-placed table (Some first) second type_ = by (are_same (type_at table firs
     by true = refl
     by false = refl
 
-type-placed : (table : TypeTable) (found : Option Placed) → option_map (type_at table) (option_map (λ placed. placed.of) found) ≡ option_map (λ (one : PlacedType). one.type_) (option_map (placed_in table) found)
+pub type-placed : (table : TypeTable) (found : Option Placed) → option_map (type_at table) (option_map (λ placed. placed.of) found) ≡ option_map (λ (one : PlacedType). one.type_) (option_map (placed_in table) found)
 type-placed table None = refl
 type-placed table (Some found) = refl
 
@@ -115,21 +115,39 @@ module _ (table : TypeTable) (types : List TypeTree) (witnesses : Witnesses) (ar
   group_by true = group-told table types first type_ true witnesses.open_arrays are.open_arrays
   group_by false = group-told table types first type_ false witnesses.others are.others
 
-  -- a type of the form of the first one
+  -- a type of the form of the first one, with its place
+  pub placed_of_form : have_one_form first type_ ≡ true
+      → option_map (placed_in table) (earlier_of witnesses.foreign (unlike_in_group table (if is_open_array type_ then witnesses.open_arrays else witnesses.others) type_))
+      ≡ first_passing (disagrees type_) 0 types
+  placed_of_form form =
+      earlier-placed table witnesses.foreign (unlike_in_group table (if is_open_array type_ then witnesses.open_arrays else witnesses.others) type_)
+      ∙ (λ i. earlier_type (are.foreign i) (group_by (is_open_array type_) i))
+      ∙ sym (passing-either (is_foreign first) (differs_in_group first (is_open_array type_) type_) 0 types)
+      ∙ sym (passing-alike (disagrees type_) (λ other. is_foreign first other || differs_in_group first (is_open_array type_) type_ other) (λ other. disagrees-either first type_ other form) 0 types)
+
   of_form : have_one_form first type_ ≡ true
       → option_map (type_at table) (option_map (λ placed. placed.of) (earlier_of witnesses.foreign (unlike_in_group table (if is_open_array type_ then witnesses.open_arrays else witnesses.others) type_)))
       ≡ first_unlike type_ types
   of_form form =
       let group = unlike_in_group table (if is_open_array type_ then witnesses.open_arrays else witnesses.others) type_ in
       type-placed table (earlier_of witnesses.foreign group)
-      ∙ ap (option_map (λ (one : PlacedType). one.type_))
-      (earlier-placed table witnesses.foreign group
-      ∙ (λ i. earlier_type (are.foreign i) (group_by (is_open_array type_) i))
-      ∙ sym (passing-either (is_foreign first) (differs_in_group first (is_open_array type_) type_) 0 types)
-      ∙ sym (passing-alike (disagrees type_) (λ other. is_foreign first other || differs_in_group first (is_open_array type_) type_ other) (λ other. disagrees-either first type_ other form) 0 types))
+      ∙ ap (option_map (λ (one : PlacedType). one.type_)) (placed_of_form form)
       ∙ sym (unlike-passing type_ 0 types)
 
   -- a type of another form
+  pub placed_of_another : have_one_form first type_ ≡ false → slice_get types 0 ≡ Some first
+      → Some (record { place = 0; type_ = first }) ≡ first_passing (disagrees type_) 0 types
+  placed_of_another form is = by types is
+    where
+      by : (others : List TypeTree) → slice_get others 0 ≡ Some first → Some (record { place = 0; type_ = first }) ≡ first_passing (disagrees type_) 0 others
+      by [] is = absurd (none-some first is)
+      by (other ∷ others) is =
+          let same = same_Some _ _ is in
+          let agrees : is_some (composite other type_) ≡ false = ap (λ t. is_some (composite t type_)) same ∙ composite-agree first type_ ∙ (λ i. form i && (are_same first type_ || not (are_equal_bools (is_open_array first) (is_open_array type_)))) in
+          sym
+          (ap (λ (test : Bool). if not test then Some (record { place = 0; type_ = other }) else first_passing (disagrees type_) (0 + 1) others) agrees
+          ∙ ap (λ t. Some (record { place = 0; type_ = t })) same)
+
   of_another : have_one_form first type_ ≡ false → slice_get types 0 ≡ Some first → Some first ≡ first_unlike type_ types
   of_another form is = by types is
     where
@@ -154,7 +172,7 @@ module _ (table : TypeTable) (types : List TypeTree) (witnesses : Witnesses) (ar
 
 -- what is told is a type of the table
 module _ (table : TypeTable) where
-  earlier-known : (one other : Option Placed) → IsPlacedId table one → IsPlacedId table other → IsPlacedId table (earlier_of one other)
+  pub earlier-known : (one other : Option Placed) → IsPlacedId table one → IsPlacedId table other → IsPlacedId table (earlier_of one other)
   earlier-known None other is is_other = is_other
   earlier-known (Some one) None is is_other = is
   earlier-known (Some one) (Some other) is is_other = by (nat_le one.place other.place)
@@ -163,7 +181,7 @@ module _ (table : TypeTable) where
       by true = is
       by false = is_other
 
-  unlike_in-known : (first second : Option Placed) (against : TypeTree) → IsPlacedId table first → IsPlacedId table second → IsPlacedId table (unlike_in table first second against)
+  pub unlike_in-known : (first second : Option Placed) (against : TypeTree) → IsPlacedId table first → IsPlacedId table second → IsPlacedId table (unlike_in table first second against)
   unlike_in-known None second against is is_second = tt
   unlike_in-known (Some first) second against is is_second = by (are_same (type_at table first.of) against)
     where
@@ -171,7 +189,7 @@ module _ (table : TypeTable) where
       by true = is_second
       by false = is
 
-  type-known : (found : Option Placed) → IsPlacedId table found → IfSome (option_map (λ placed. placed.of) found) (IsTypeId table)
+  pub type-known : (found : Option Placed) → IsPlacedId table found → IfSome (option_map (λ placed. placed.of) found) (IsTypeId table)
   type-known None is = tt
   type-known (Some found) is = is
 

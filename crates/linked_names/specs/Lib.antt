@@ -3,3 +3,4 @@ pub mod Forms
 pub mod Witnesses
 pub mod Kept
 pub mod Typedefs
+pub mod Contexts

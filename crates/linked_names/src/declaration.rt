@@ -1,4 +1,5 @@
 // Declarations of which something is kept.
+use crate::sums::ContextSums;
 use sparse_model::{NameId, TypeId};
 
 /// A declaration of a name with linkage (C11 6.2.2), and its type.
@@ -6,6 +7,14 @@ use sparse_model::{NameId, TypeId};
 pub struct Linked {
     pub name: NameId,
     pub of: TypeId,
+}
+
+/// The same with the sums of its contexts, if it carries some.
+#[derive(Clone, Copy)]
+pub struct Declared {
+    pub name: NameId,
+    pub of: TypeId,
+    pub contexts: Option<ContextSums>,
 }
 
 /// A declaration of a typedef name (C11 6.7.8), the handle of the scope in which it stands, and its type.

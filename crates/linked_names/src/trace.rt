@@ -2,10 +2,11 @@
 ghost use Rattle.std.specs.Prelude.{◌≡◌, List, [], ◌∷◌, ◌++◌};
 ghost use base.Fml.{ftrue};
 ghost use Rattle.c_types.specs.Table.{TypeTable};
+ghost use Rattle.linked_names.specs.declared.declaration.Declared.{Declared};
 ghost use Rattle.linked_names.specs.declared.declaration.Linked.{Linked};
 ghost use Rattle.linked_names.specs.declared.declaration.Typedef.{Typedef};
 
-use crate::declaration::{Linked, Typedef};
+use crate::declaration::{Declared, Linked, Typedef};
 use c_types::Types;
 use std::marker::Model;
 
@@ -35,6 +36,35 @@ impl LinkedTrace {
         ensures { result ≡ record { declarations = self.now.declarations ++ _declaration.now ∷ []; over = _types.now } }
     {
         LinkedTrace {}
+    }
+}
+
+/// The same of declarations with contexts.
+#[derive(Drop)]
+pub(crate) struct DeclaredTrace {
+    pub ghost declarations: { List Declared },
+    pub ghost over: { TypeTable },
+}
+
+impl Model for DeclaredTrace {
+    ghost also_owns = { λ _. ftrue };
+}
+
+impl DeclaredTrace {
+    ghost use Rattle.linked_names.specs.Linked.{no_types};
+
+    /// No declaration yet.
+    pub(crate) fn new() -> DeclaredTrace
+        ensures { result ≡ record { declarations = []; over = no_types } }
+    {
+        DeclaredTrace {}
+    }
+
+    /// The same declarations, and then this one over these types.
+    pub(crate) fn then(&self, _types: &Types, _declaration: &Declared) -> DeclaredTrace
+        ensures { result ≡ record { declarations = self.now.declarations ++ _declaration.now ∷ []; over = _types.now } }
+    {
+        DeclaredTrace {}
     }
 }
 

@@ -5,6 +5,7 @@
 // the same, and two of the others.
 ghost use Rattle.std.specs.Prelude.{◌≡◌, ◌<◌, ◌-◌, ◌^◌, IfOk};
 ghost use Rattle.c_types.specs.Table.{IsTypeId};
+ghost use Rattle.linked_names.specs.Contexts.{placed_unlike};
 ghost use Rattle.linked_names.specs.Witnesses.{AreWitnessIds, no_witnesses, unlike_witness, witnesses_with};
 
 use crate::forms::{have_one_form, is_open_array};
@@ -59,6 +60,26 @@ impl Witnesses {
         };
         let found = earlier(self.foreign, group.first_unlike(types, of))?;
         Some(found.of)
+    }
+
+    /// The same declaration with its place.
+    pub(crate) fn placed_unlike(self, types: &Types, of: TypeId) -> Option<Placed>
+        requires ids { AreWitnessIds types.now self }
+        requires known { IsTypeId types.now of }
+        ensures { result ≡ placed_unlike types.now self of }
+    {
+        if !have_one_form(types, self.first, of) {
+            return Some(Placed {
+                place: 0,
+                of: self.first,
+            });
+        }
+        let group = if is_open_array(types, of) {
+            self.open_arrays
+        } else {
+            self.others
+        };
+        earlier(self.foreign, group.first_unlike(types, of))
     }
 
     /// The witnesses with a declaration more. More than 2^32 - 1 are want of memory.

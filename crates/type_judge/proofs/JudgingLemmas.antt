@@ -22,8 +22,9 @@ use Rattle.type_judge.specs.declared.fault.JudgeFault.TheVariants as faults
 use Rattle.type_judge.specs.declared.judging.Judged.{Judged}
 use Rattle.type_judge.specs.declared.pass.Pass.{Pass}
 use Rattle.expr_judge.specs.Found.{found_seen}
+use Rattle.expr_judge.specs.Whole as parts
 use Rattle.type_judge.specs.Identities.{names_told, renamed}
-use Rattle.type_judge.specs.Judging.{HasTypeIds, IsJudgedSo, IsPassOver, IsRefusal, IsRefusedFor}
+use Rattle.type_judge.specs.Judging.{HasTypeIds, IsJudgedSo, IsKnownSo, IsPassOver, IsRefusal, IsRefusedFor}
 use Rattle.decl_judge.specs.Units.{nodes_of}
 use Rattle.expression_rows.specs.Rows.{IsKnownFailure, broken_seen, failure_seen}
 use Rattle.type_judge.proofs.IdentityLemmas.{all_renamed, failures_renamed, found_renamed, nodes_renamed}
@@ -64,41 +65,65 @@ module _ (unit : NodeList NameId) (whole : unit.first ≡ 0) (surroundings : Lis
   refused_for fault is =
       refused_as (nodes_of unit) surroundings (facts_of (nodes_of unit) surroundings) are (facts_are_found (nodes_of unit) surroundings) fault _ refusal-is is
 
-  -- once the names of restricted types are told, and failures are in order
-  module _ (types : TypeTable) (is : types ≡ renamed pass.known.types (names_told (nodes_of unit) surroundings (length unit.nodes))) (failures : List Failure) where
-    abbrev answer : TypeTable → Judged
-    answer table = record { types = table; facts = pass.known.facts; failures = failures }
-
-    pub judged_so :
-        first_refusal (option_map broken_seen pass.broken) pass.passed ≡ None
-        → ((seen : Failure → meaning.Failure) → KeepsRank seen → IsListing (map seen pass.found) (map seen failures))
-        → IsJudgedSo (nodes_of unit) (answer types)
-    judged_so none lists =
+  -- once the names of restricted types are told
+  module _ (types : TypeTable) (is : types ≡ renamed pass.known.types (names_told (nodes_of unit) surroundings (length unit.nodes))) where
+    pub known_so : IsKnownSo (nodes_of unit) (record { types = types; facts = pass.known.facts })
+    known_so =
         let names = names_told (nodes_of unit) surroundings (length unit.nodes) in
-        let table = renamed pass.known.types names in
-        let are_found : found_seen table pass.found ≡ failures_in (nodes_of unit) surroundings (facts_of (nodes_of unit) surroundings) =
-        found_renamed pass.known.types names pass.found ∙ over.failures in
-        subst (λ (other : TypeTable). IsJudgedSo (nodes_of unit) (answer other)) (sym is)
+        subst (λ (table : TypeTable). IsKnownSo (nodes_of unit) (record { types = table; facts = pass.known.facts })) (sym is)
         (record {
           surroundings = surroundings;
-          facts = facts_of (nodes_of unit) surroundings;
           are_surroundings = are;
-          are_facts = facts_are_found (nodes_of unit) surroundings;
-          judgement =
-              holds (found_seen table failures) (sym refusal-is ∙ none)
-              (subst (λ (all : List meaning.Failure). IsListing all (found_seen table failures)) are_found (lists (failure_seen table) (found-rank table)));
-          known = nodes_renamed pass.known.types names pass.known.facts ∙ over.known.facts;
+          facts =
+              subst (AreFacts (nodes_of unit) surroundings) (sym (nodes_renamed pass.known.types names pass.known.facts ∙ over.known.facts))
+              (facts_are_found (nodes_of unit) surroundings);
           names = ap (names_told (nodes_of unit) surroundings) (sym (length-nodes unit whole));
         })
 
-    pub judged_ids : All (Contains pass.found) failures → HasTypeIds (answer types)
-    judged_ids among =
+    pub known_whole : parts.IsWhole types pass.known.facts
+    known_whole =
         let names = names_told (nodes_of unit) surroundings (length unit.nodes) in
-        subst (λ (table : TypeTable). HasTypeIds (answer table)) (sym is)
+        subst (λ (table : TypeTable). parts.IsWhole table pass.known.facts) (sym is)
         (record {
-          facts = all_renamed pass.known.types names pass.known.facts over.known.whole.ids;
-          failures =
-              failures_renamed pass.known.types names failures
-              (All-weaker (Contains pass.found) (IsKnownFailure pass.known.types)
-              (λ failure is. All-contains (IsKnownFailure pass.known.types) pass.found failure over.ids is) failures among);
+          ids = all_renamed pass.known.types names pass.known.facts over.known.whole.ids;
+          layouts = over.known.whole.layouts;
         })
+
+    -- and failures are in order
+    module _ (failures : List Failure) where
+      abbrev answer : TypeTable → Judged
+      answer table = record { types = table; facts = pass.known.facts; failures = failures }
+
+      pub judged_so :
+          first_refusal (option_map broken_seen pass.broken) pass.passed ≡ None
+          → ((seen : Failure → meaning.Failure) → KeepsRank seen → IsListing (map seen pass.found) (map seen failures))
+          → IsJudgedSo (nodes_of unit) (answer types)
+      judged_so none lists =
+          let names = names_told (nodes_of unit) surroundings (length unit.nodes) in
+          let table = renamed pass.known.types names in
+          let are_found : found_seen table pass.found ≡ failures_in (nodes_of unit) surroundings (facts_of (nodes_of unit) surroundings) =
+          found_renamed pass.known.types names pass.found ∙ over.failures in
+          subst (λ (other : TypeTable). IsJudgedSo (nodes_of unit) (answer other)) (sym is)
+          (record {
+            surroundings = surroundings;
+            facts = facts_of (nodes_of unit) surroundings;
+            are_surroundings = are;
+            are_facts = facts_are_found (nodes_of unit) surroundings;
+            judgement =
+                holds (found_seen table failures) (sym refusal-is ∙ none)
+                (subst (λ (all : List meaning.Failure). IsListing all (found_seen table failures)) are_found (lists (failure_seen table) (found-rank table)));
+            known = nodes_renamed pass.known.types names pass.known.facts ∙ over.known.facts;
+            names = ap (names_told (nodes_of unit) surroundings) (sym (length-nodes unit whole));
+          })
+
+      pub judged_ids : All (Contains pass.found) failures → HasTypeIds (answer types)
+      judged_ids among =
+          let names = names_told (nodes_of unit) surroundings (length unit.nodes) in
+          subst (λ (table : TypeTable). HasTypeIds (answer table)) (sym is)
+          (record {
+            facts = all_renamed pass.known.types names pass.known.facts over.known.whole.ids;
+            failures =
+                failures_renamed pass.known.types names failures
+                (All-weaker (Contains pass.found) (IsKnownFailure pass.known.types)
+                (λ failure is. All-contains (IsKnownFailure pass.known.types) pass.found failure over.ids is) failures among);
+          })

@@ -13,6 +13,7 @@ use Rattle.type_judge.specs.declared.fault.JudgeFault.{JudgeFault}
 use Rattle.type_judge.specs.declared.fault.JudgeFault.TheVariants as faults
 use Rattle.type_judge.specs.declared.judging.Judged.{Judged}
 use Rattle.type_judge.specs.declared.pass.Pass.{Pass}
+use Rattle.type_judge.specs.declared.known_nodes.UnitFacts.{UnitFacts}
 use Rattle.expr_judge.specs.Found.{AreKnownFailures, found_seen}
 use Rattle.type_judge.specs.Identities.{names_told}
 use Rattle.type_judge.specs.Known.{IsKnownOf}
@@ -45,6 +46,13 @@ pub record IsJudgedSo (nodes : UnitNodes) (judged : Judged) : Type 0 where
 pub record HasTypeIds (judged : Judged) : Type 0 where
   pub facts : All (IsKnownNodeFact judged.types) judged.facts
   pub failures : AreKnownFailures judged.types judged.failures
+
+-- This is what is known of each node, whatever the unit breaks, and what restricted types are named.
+pub record IsKnownSo (nodes : UnitNodes) (known : UnitFacts) : Type 0 where
+  pub surroundings : List Surrounding
+  pub are_surroundings : AreSurroundings nodes surroundings
+  pub facts : AreFacts nodes surroundings (nodes_seen known.types known.facts)
+  pub names : known.types.names ≡ names_told nodes surroundings (length nodes)
 
 -- A unit is refused for its least constraint, or since an object is too large; want of memory says nothing.
 abbrev pub IsRefusedFor : UnitNodes → JudgeFault → Type 0

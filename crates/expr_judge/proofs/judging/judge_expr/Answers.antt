@@ -14,6 +14,9 @@ pub returns-in-Some-clause-refused : goal.returns-in-Some-clause-refused
 returns-in-Some-clause-refused c = λ surroundings.
     sym (ap (λ (kept : KeptRow). kept.broken) (c.in_ok-row.ensures surroundings).row) ∙ ap (option_map broken_seen) c.in-Some.is
 
+pub returns-in-Some-clause-kept : goal.returns-in-Some-clause-kept
+returns-in-Some-clause-kept c = (c.in_ok-row.ensures []).keeps
+
 pub returns-clause-fact : goal.returns-clause-fact
 returns-clause-fact c = λ surroundings. ap (λ (kept : KeptRow). kept.fact) (c.in_ok-row.ensures surroundings).row
 

@@ -1,0 +1,11 @@
+mod TypeLemmas
+mod LeastLemmas
+mod BitwiseLemmas
+mod PartLemmas
+mod ObjectLemmas
+mod KeptLemmas
+mod TentativeLemmas
+mod LinkedLemmas
+mod HidingLemmas
+mod DefinedLemmas
+mod StandingLemmas

@@ -1,0 +1,9 @@
+pub mod Simulations
+pub mod Standing
+pub mod Labels
+pub mod Flows
+pub mod Changes
+pub mod Unchanged
+pub mod Listing
+pub mod ExampleFlow
+pub mod Contexts

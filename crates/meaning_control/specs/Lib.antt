@@ -1,0 +1,9 @@
+pub mod Kinds
+pub mod Rows
+pub mod Choices
+pub mod States
+pub mod Nodes
+pub mod Functions
+pub mod plain
+pub mod laws
+pub mod examples

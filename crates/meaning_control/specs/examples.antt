@@ -1,0 +1,5 @@
+-- Worked examples.
+pub mod Drawn
+pub mod Conditions
+pub mod Statements
+pub mod Flows

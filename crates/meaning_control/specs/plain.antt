@@ -1,0 +1,2 @@
+-- A program beside the definitions.
+pub mod Paths

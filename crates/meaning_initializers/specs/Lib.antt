@@ -1,0 +1,10 @@
+pub mod Items
+pub mod Parts
+pub mod Plans
+pub mod Designators
+pub mod Filling
+pub mod Reading
+pub mod Constants
+pub mod plain
+pub mod laws
+pub mod examples

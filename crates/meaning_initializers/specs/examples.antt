@@ -1,0 +1,5 @@
+-- Worked examples.
+pub mod Written
+pub mod Leaves
+pub mod Refusals
+pub mod Nodes

@@ -1,0 +1,4 @@
+-- What is proved of the definitions.
+pub mod Filling
+pub mod Constants
+pub mod Parts

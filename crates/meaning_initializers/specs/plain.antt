@@ -1,0 +1,2 @@
+-- The same as programs.
+pub mod Filling

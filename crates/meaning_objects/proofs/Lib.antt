@@ -1,0 +1,4 @@
+pub mod Sharing
+pub mod Callees
+pub mod Definitions
+pub mod MemberPaths

@@ -1,0 +1,4 @@
+-- Worked examples.
+pub mod Objects
+pub mod Carried
+pub mod MemberPaths

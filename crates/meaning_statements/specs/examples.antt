@@ -1,0 +1,4 @@
+-- Worked examples.
+pub mod Drawn
+pub mod Jumps
+pub mod Statements

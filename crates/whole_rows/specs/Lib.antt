@@ -1,0 +1,4 @@
+pub mod ConstAggregates
+pub mod Stores
+pub mod Rows
+pub mod Laws

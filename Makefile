@@ -33,9 +33,9 @@ $(WORKBENCH): $(SOURCES) | kit
 
 # The walk over control flow graphs, which no command makes yet: build/flows FILE
 $(FLOWS): $(SOURCES) | kit
-	$(PYTHON) scripts/build.py $(RT) flows_cli /dev/null
+	$(PYTHON) scripts/build.py $(RT) flows /dev/null
 	mkdir -p build
-	cp crates/flows_cli/out/flows_cli $@
+	cp crates/flows/out/flows $@
 
 # What the judge says of a file, which no command asks yet: build/judged WORDS FILE
 build/judged: $(SOURCES) | kit

@@ -1,5 +1,5 @@
 -- Changes stay in their size, and counts in their bounds.
-use Rattle.std.proofs.Common.{ℕ, ◌+◌, ◌-◌, ◌^◌, ◌≤◌, ℤ, pos, negsuc, ◌+ℤ◌, ◌-ℤ◌, ◌≤ℤ◌, unsigned_abs, nat_eq, Bool, true, false, List, [], ◌∷◌, if◌then◌else◌, arith}
+use Rattle.std.proofs.Common.{ℕ, ◌+◌, ◌-◌, ◌^◌, ◌≤◌, FitsSigned, ℤ, pos, negsuc, ◌+ℤ◌, ◌-ℤ◌, ◌≤ℤ◌, unsigned_abs, nat_eq, Bool, true, false, List, [], ◌∷◌, if◌then◌else◌, arith}
 use Rattle.std.specs.Int.{w64}
 use Rattle.std.proofs.lemmas.Int.{fits_signed_from_abs, ints}
 use Rattle.meaning_paths.specs.Steps.{Step, Point, Add, Call, End, change}
@@ -55,12 +55,15 @@ abs-le : (number : ℤ) (size : ℕ) → IsOfSize number size → unsigned_abs n
 abs-le (pos n) size is = let high = is.high in omega (arith, ints, high)
 abs-le (negsuc n) size is = let low = is.low in omega (arith, ints, low)
 
+-- a number of a size below 2^63 fits
+pub fits-of-size : (number : ℤ) (size : ℕ) → size ≤ 2 ^ 63 - 1 → IsOfSize number size → FitsSigned w64 number
+fits-of-size number size small is = fits_signed_from_abs w64 number (omega (arith, small, abs-le number size is))
+
 -- so a count that is within its bound has room for a change of that size
 pub within-room : (own : ℕ) (comes : Counts) (by : ℤ) → IsOfSize by own → IsWithin (2 ^ 63 - 1) own comes → HasRoom comes by
 within-room own Never by is within = tt
 within-room own (One count) by is within =
     let high = is.high in
     let low = is.low in
-    let few = abs-le (count +ℤ by) (2 ^ 63 - 1) (record { high = omega (arith, ints, high, within.0); low = omega (arith, ints, low, within.1) }) in
-    fits_signed_from_abs w64 (count +ℤ by) (omega (arith, few))
+    fits-of-size (count +ℤ by) (2 ^ 63 - 1) (omega arith) (record { high = omega (arith, ints, high, within.0); low = omega (arith, ints, low, within.1) })
 within-room own Several by is within = tt

@@ -1,14 +1,16 @@
 -- What the code reads of a block is what the graph has.
-use Rattle.std.proofs.Common.{◌≡◌, ℕ, suc, ◌+◌, ◌<◌, List, [], ◌∷◌, ◌++◌, length, get_or, drop, map, add-one, drop-cons, refl, sym, ap, ◌∙◌}
-use Rattle.std.proofs.lemmas.List.{get_or-map}
+use Rattle.std.proofs.Common.{◌≡◌, ℕ, suc, ◌+◌, ◌<◌, List, [], ◌∷◌, ◌++◌, length, get_or, drop, map, add-one, append_assoc, drop-cons, refl, sym, ap, ◌∙◌}
+use Rattle.std.proofs.lemmas.List.{get_or-map, map-append}
+use Rattle.meaning_paths.specs.Steps.{change}
 use Rattle.meaning_paths.specs.Graphs.{BasicBlock, empty_block, steps_at, successors_at}
 use Rattle.control_flow.specs.declared.step.Step.{Step}
 use Rattle.control_flow.specs.declared.flow.Block.{Block}
-use Rattle.control_flow.specs.Seen.{block_of, graph_of_blocks, step_of, targets}
+use Rattle.control_flow.specs.Seen.{block_of, graph_of_blocks, step_of, targets, the_key}
 use Rattle.context_walk.specs.declared.counts.Counts.{Counts}
 use Rattle.context_walk.specs.declared.counts.Counts.TheVariants.{Never}
-use Rattle.context_walk.specs.Counts.{counts_at}
-use Rattle.context_walk.specs.Passed.{passed_from, passed_of}
+use Rattle.context_walk.specs.declared.passed.PassedStep.{PassedStep}
+use Rattle.context_walk.specs.Counts.{counts_at, shifted}
+use Rattle.context_walk.specs.Passed.{Passed, passed_as, passed_from, passed_of, passed_seen}
 
 pub block-read : (blocks : List Block) (number : ℕ) (block : Block) → number < length blocks → block ≡ get_or blocks number block → get_or (graph_of_blocks blocks) number empty_block ≡ block_of block
 block-read blocks number block below is = get_or-map block_of blocks number block empty_block below ∙ ap block_of (sym is)
@@ -35,3 +37,14 @@ pub pass-one : (key : ℕ) (counts : List Counts) (graph : List BasicBlock) (num
 pass-one key counts graph number below below_too =
     (λ i. passed_of key (drop-cons counts number Never below i) (drop-cons graph number empty_block below_too i))
     ∙ ap (λ n. passed_from key (counts_at counts number) (steps_at graph number) ++ passed_of key (drop n counts) (drop n graph)) (sym (add-one number))
+
+-- one step more is passed, and the rest comes with what is behind it
+pub pass-step : (before : List PassedStep) (step : Step) (comes more : Counts) (rest others : List Step) → rest ≡ step ∷ others → more ≡ shifted comes (change the_key (step_of step))
+    → passed_seen (before ++ record { step = step; comes = comes } ∷ []) ++ passed_from the_key more (map step_of others)
+    ≡ passed_seen before ++ passed_from the_key comes (map step_of rest)
+pass-step before step comes more rest others split is =
+    let entry : PassedStep = record { step = step; comes = comes } in
+    ap (λ (front : List Passed). front ++ passed_from the_key more (map step_of others)) (map-append passed_as before (entry ∷ []))
+    ∙ append_assoc (passed_seen before) (passed_as entry ∷ []) (passed_from the_key more (map step_of others))
+    ∙ ap (λ (counts : Counts). passed_seen before ++ passed_as entry ∷ passed_from the_key counts (map step_of others)) is
+    ∙ ap (λ (steps : List Step). passed_seen before ++ passed_from the_key comes (map step_of steps)) (sym split)

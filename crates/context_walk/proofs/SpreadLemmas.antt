@@ -1,5 +1,5 @@
 -- What counts that are spread over blocks do to all of them.
-use Rattle.std.proofs.Common.{◌≡◌, ◌≢◌, ◌⊎◌, inl, inr, ℕ, zero, suc, ◌+◌, ◌*◌, ◌<◌, ◌≤◌, ℤ, Bool, true, false, Option, Some, None, List, [], ◌∷◌, ◌++◌, length, set, if◌then◌else◌, refl, sym, ◌∙◌, subst, arith, length-append}
+use Rattle.std.proofs.Common.{◌≡◌, ◌≢◌, ◌⊎◌, inl, inr, ℕ, zero, suc, ◌+◌, ◌*◌, ◌<◌, ◌≤◌, ℤ, Bool, true, false, Option, Some, None, List, [], ◌∷◌, ◌++◌, length, set, if◌then◌else◌, refl, sym, ap, ◌∙◌, subst, arith, length-append}
 use Rattle.std.specs.Ordering.{int_eq}
 use Rattle.std.proofs.lemmas.Bool.{cases_eq}
 use Rattle.std.proofs.lemmas.Bool.Decides.{Decides-int_eq, not_from_Decides}
@@ -9,6 +9,18 @@ use Rattle.context_walk.specs.declared.counts.Counts.{Counts}
 use Rattle.context_walk.specs.declared.counts.Counts.TheVariants.{Never, One, Several}
 use Rattle.context_walk.specs.Counts.{counts_at, grown}
 use Rattle.context_walk.specs.Spread.{AllBelow, noted, put, spread_counts, spread_worklist}
+
+-- One number
+
+-- what is spread over a number and others, by what is known at it
+pub spread-step : (comes known : Counts) (found : Option Counts) (to : ℕ) (left all : List ℕ) (counts : List Counts) (worklist : List ℕ) → all ≡ to ∷ left → known ≡ counts_at counts to → found ≡ grown known comes
+    → (spread_counts comes left (put found to counts) ≡ spread_counts comes all counts)
+    × (spread_worklist comes left (put found to counts) (noted found to worklist) ≡ spread_worklist comes all counts worklist)
+spread-step comes known found to left all counts worklist split is grows =
+    let more = grows ∙ ap (λ (there : Counts). grown there comes) is in (
+      ap (λ (put_there : Option Counts). spread_counts comes left (put put_there to counts)) more ∙ ap (λ (numbers : List ℕ). spread_counts comes numbers counts) (sym split),
+      ap (λ (put_there : Option Counts). spread_worklist comes left (put put_there to counts) (noted put_there to worklist)) more ∙ ap (λ (numbers : List ℕ). spread_worklist comes numbers counts worklist) (sym split),
+    )
 
 -- Lists
 

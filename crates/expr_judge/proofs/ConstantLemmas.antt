@@ -84,19 +84,19 @@ module _ (table : TypeTable) where
   one-part (facts.Declared declaration) = refl
   one-part (facts.NamedType of) = ap (one-known (type_at table of) false) (number_none (kind_of (type_at table of)))
 
-  part-is : (facts : List NodeFact) (handle : ℕ) → part_at table (map node_kept facts) handle ≡ part_seen (fact_at (nodes_seen table facts) handle)
+  pub part-is : (facts : List NodeFact) (handle : ℕ) → part_at table (map node_kept facts) handle ≡ part_seen (fact_at (nodes_seen table facts) handle)
   part-is [] handle = refl
   part-is (fact ∷ others) zero = one-part fact
   part-is (fact ∷ others) (suc handle) = part-is others handle
 
-  parts-are : (facts : List NodeFact) (children : List (ℕ × ℕ))
+  pub parts-are : (facts : List NodeFact) (children : List (ℕ × ℕ))
       → map (λ child. part_at table (map node_kept facts) child.0) children
       ≡ map (λ child. part_seen (fact_at (nodes_seen table facts) child)) (map (λ child. child.0) children)
   parts-are facts [] = refl
   parts-are facts (child ∷ children) = λ i. part-is facts child.0 i ∷ parts-are facts children i
 
 -- only a name names an enumerator
-no_enumerator : (kind : NodeKind) (part : Option Part) → kind ≢ kinds.Name → if_name kind part ≡ None
+pub no_enumerator : (kind : NodeKind) (part : Option Part) → kind ≢ kinds.Name → if_name kind part ≡ None
 no_enumerator kinds.Name part other = absurd (other refl)
 no_enumerator kind part other = refl
 
@@ -126,7 +126,7 @@ module _ (unit : NodeList NameId) (whole : unit.first ≡ 0) (table : TypeTable)
       ∙ ap (λ n. node_constant known_sizes (record { kind = n.kind; number = n.number; parts = map (λ child. part_seen (fact_at (nodes_seen table facts) child)) (map (λ child. child.0) n.children); enumerator = None; offset = None })) (sym is)
       ∙ sym (ap (λ offset. node_constant known_sizes (record meant { offset = offset })) (offset_said (nodes_of unit) (nodes_seen table facts) handle))
 
-answered : (constant : Option Constant) → bits_folded (folded_answer constant) ≡ bits_of constant
+pub answered : (constant : Option Constant) → bits_folded (folded_answer constant) ≡ bits_of constant
 answered None = refl
 answered (Some constant) = refl
 

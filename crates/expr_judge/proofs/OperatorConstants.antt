@@ -17,12 +17,13 @@ use Rattle.meaning_constants.specs.Constants.{Constant, Part, and_constant, arm_
 use Rattle.meaning_constants.specs.Constants as constants
 use Rattle.meaning_constants.specs.Numbers.{converted, truth_of}
 use Rattle.meaning_constants.specs.Operations.{operated_alone}
-use Rattle.meaning_constants.specs.Nodes.{fold_of, folded, loaded_type, of_arms, of_one, of_two, with_part}
+use Rattle.meaning_constants.specs.Nodes.{NodeFacts, fold_of, folded, loaded_type, of_arms, of_one, of_two, with_part}
+use Rattle.meaning_constants.specs.Sizes.{Sizes}
 use Rattle.meaning_typing.specs.Casts.{cast_of, cast_row, cast_unknown, is_forced, measured_broken, scalar_cast, sizeof_row}
 use Rattle.meaning_typing.specs.Conditionals.{arms_of, conditional_row, conditional_without_middle}
 use Rattle.meaning_typing.specs.Declarators.{nothing_told}
 use Rattle.meaning_typing.specs.Facts.{Fact, Unknown, Expression, NamedType, ExpressionFact, decays, fact_at, type_of_value, value}
-use Rattle.meaning_typing.specs.Operations.{operation_of}
+use Rattle.meaning_typing.specs.Operations.{Operation, BinaryOperation, SizeOperation, operation_of}
 use Rattle.meaning_typing.specs.Operators.{ValueSort, IntegerSort, OtherSort, binary_by, binary_row, condition_broken, integer, integer_type, integers_row, integers_type, logical_row, not_row, sort_of, unary_of, unary_row, value_sort}
 use Rattle.meaning_typing.specs.Rows.{Row, unless_broken}
 use Rattle.meaning_typing.specs.Typing.{facts_for_constant, known_sizes, operation_row, part_fact, part_seen, part_token, token_at}
@@ -32,21 +33,21 @@ use Rattle.expr_judge.specs.Operators.{HasKindOf}
 
 -- Steps to a constant
 
-none_has : (fact : Fact) → HasKindOf fact None
+pub none_has : (fact : Fact) → HasKindOf fact None
 none_has (Expression expression) = tt
 none_has fact = tt
 
-unless_has : (broken : List Broken) (fact : Fact) (constant : Option Constant) → HasKindOf fact constant → HasKindOf (unless_broken broken fact) constant
+pub unless_has : (broken : List Broken) (fact : Fact) (constant : Option Constant) → HasKindOf fact constant → HasKindOf (unless_broken broken fact) constant
 unless_has [] fact constant has = has
 unless_has (first ∷ broken) fact constant has = tt
 
-kind_has : (fact : Fact) (of : TypeTree) (next : IntKind → Option Constant) → ((kind : IntKind) → kind_of of ≡ Some kind → HasKindOf fact (next kind))
+pub kind_has : (fact : Fact) (of : TypeTree) (next : IntKind → Option Constant) → ((kind : IntKind) → kind_of of ≡ Some kind → HasKindOf fact (next kind))
     → HasKindOf fact (with_kind of next)
 kind_has fact (Typed (IntegerTree kind) _ _) next each = each kind refl
 kind_has fact (Typed (RestrictedTree kind identity) _ _) next each = each kind refl
 kind_has fact of next each = none_has fact
 
-number_has : (fact : Fact) (number : Option ℤ) (next : ℤ → Option Constant) → ((known : ℤ) → HasKindOf fact (next known)) → HasKindOf fact (with_number number next)
+pub number_has : (fact : Fact) (number : Option ℤ) (next : ℤ → Option Constant) → ((known : ℤ) → HasKindOf fact (next known)) → HasKindOf fact (with_number number next)
 number_has fact None next each = none_has fact
 number_has fact (Some number) next each = each number
 
@@ -267,10 +268,10 @@ module _ (token : ℕ) (forced : Bool) where
   cast_has (NamedType to) operand = cast-unknown (sort_of to) _
   cast_has name operand = tt
 
-abbrev a_size : Fact
+abbrev pub a_size : Fact
 a_size = Expression (value (integer integers.ULong))
 
-size_known : (bytes : Option ℕ) (broken : List Broken) → HasKindOf (unless_broken broken a_size) (size_constant bytes)
+pub size_known : (bytes : Option ℕ) (broken : List Broken) → HasKindOf (unless_broken broken a_size) (size_constant bytes)
 size_known bytes broken = unless_has broken a_size (size_constant bytes) (by bytes)
   where
     by : (bytes : Option ℕ) → HasKindOf a_size (size_constant bytes)
@@ -336,16 +337,16 @@ middle_parts token first third condition right = tt
 -- The parts of a node
 
 module _ (facts : List Fact) (past : ℕ) where
-  abbrev handles : List (ℕ × ℕ) → List ℕ
+  abbrev pub handles : List (ℕ × ℕ) → List ℕ
   handles children = map (λ child. child.0) children
 
-  abbrev parts : List (ℕ × ℕ) → List (Option Part)
+  abbrev pub parts : List (ℕ × ℕ) → List (Option Part)
   parts children = map (λ child. part_seen (fact_at facts child)) (handles children)
 
-  abbrev fact_of : List (ℕ × ℕ) → (place : ℕ) → Fact
+  abbrev pub fact_of : List (ℕ × ℕ) → (place : ℕ) → Fact
   fact_of children place = fact_at facts (get_or (handles children) place past)
 
-  one : (next : Part → Option Constant) (row : Fact → Row) (children : List (ℕ × ℕ))
+  pub one : (next : Part → Option Constant) (row : Fact → Row) (children : List (ℕ × ℕ))
       → ((fact : Fact) → HasKindOf (row fact).fact (with_part (part_seen fact) next)) → HasKindOf (row (fact_of children 0)).fact (of_one next (parts children))
   one next row [] each = none_has _
   one next row (only ∷ []) each = each (fact_at facts only.0)
@@ -371,9 +372,27 @@ module _ (facts : List Fact) (past : ℕ) where
       arms_parts token first second third (fact_at facts condition.0) (fact_at facts left.0) (fact_at facts right.0)
   arms token first second third (condition ∷ left ∷ right ∷ other ∷ others) = none_has _
 
--- Each kind of node
+-- Each kind of node, by layouts and sizes
 
-module _ (nodes : UnitNodes) (facts : List Fact) (handle : ℕ) where
+-- the row of an operator by the layouts that were told
+abbrev pub sized_row : Told → UnitNodes → List Fact → (handle : ℕ) → Operation → Row
+sized_row told nodes facts handle SizeOperation = sizeof_row told (token_at nodes handle) (part_fact nodes facts handle 0)
+sized_row told nodes facts handle (BinaryOperation operator) =
+    binary_row told operator (token_at nodes handle) (part_token nodes handle 0) (part_token nodes handle 1)
+    (part_fact nodes facts handle 0) (part_fact nodes facts handle 1)
+sized_row told nodes facts handle operation = operation_row nodes facts handle operation
+
+untold_row : (nodes : UnitNodes) (facts : List Fact) (handle : ℕ) (operation : Operation)
+    → sized_row nothing_told nodes facts handle operation ≡ operation_row nodes facts handle operation
+untold_row nodes facts handle SizeOperation = refl
+untold_row nodes facts handle (BinaryOperation operator) = refl
+untold_row nodes facts handle operation = refl
+
+-- what is known of a node, which may name an enumerator or lead so far
+abbrev pub facts_with : UnitNodes → List Fact → (handle : ℕ) → (enumerator : Option Part) → (offset : Option ℕ) → NodeFacts
+facts_with nodes facts handle enumerator offset = record (facts_for_constant nodes facts handle) { enumerator = enumerator; offset = offset }
+
+module _ (told : Told) (sizes : Sizes) (nodes : UnitNodes) (facts : List Fact) (handle : ℕ) where
   abbrev children : List (ℕ × ℕ)
   children = (node_at nodes handle).children
 
@@ -389,55 +408,60 @@ module _ (nodes : UnitNodes) (facts : List Fact) (handle : ℕ) where
 
   by_binary : (operator : Operator) → GivesCommonKind operator → TakesIntegers operator
       → HasKindOf
-      (binary_row nothing_told operator token (standing 0) (standing 1) (part_fact nodes facts handle 0) (part_fact nodes facts handle 1)).fact
+      (binary_row told operator token (standing 0) (standing 1) (part_fact nodes facts handle 0) (part_fact nodes facts handle 1)).fact
       (of_two (binary_constant operator) (parts facts (length nodes) children))
   by_binary operator gives takes =
-      two facts (length nodes) (binary_constant operator) (binary_row nothing_told operator token (standing 0) (standing 1)) children
-      (binary_parts operator gives takes nothing_told token (standing 0) (standing 1))
+      two facts (length nodes) (binary_constant operator) (binary_row told operator token (standing 0) (standing 1)) children
+      (binary_parts operator gives takes told token (standing 0) (standing 1))
 
-  by_size : (sizes : TypeTree → Option ℕ)
-      → HasKindOf (sizeof_row nothing_told token (part_fact nodes facts handle 0)).fact (of_one (λ part. size_constant (sizes part.of)) (parts facts (length nodes) children))
-  by_size sizes =
-      one facts (length nodes) (λ part. size_constant (sizes part.of)) (sizeof_row nothing_told token) children (size_has sizes nothing_told token)
+  by_size : (measure : TypeTree → Option ℕ)
+      → HasKindOf (sizeof_row told token (part_fact nodes facts handle 0)).fact (of_one (λ part. size_constant (measure part.of)) (parts facts (length nodes) children))
+  by_size measure =
+      one facts (length nodes) (λ part. size_constant (measure part.of)) (sizeof_row told token) children (size_has measure told token)
 
-  by_kind : (kind : NodeKind) → HasKindOf (operation_row nodes facts handle (operation_of kind)).fact (folded known_sizes (fold_of kind) (facts_for_constant nodes facts handle))
-  by_kind kinds.Name = tt
-  by_kind (kinds.IntegerConstant kind) = tt
-  by_kind (kinds.CharacterConstant kind) = tt
-  by_kind kinds.Parenthesized = tt
-  by_kind kinds.BuiltinOffsetof = tt
-  by_kind kinds.UnaryPlus = by_unary operators.UnaryPlus (λ of kind is. refl)
-  by_kind kinds.Negation = by_unary operators.Negation (λ of kind is. refl)
-  by_kind kinds.Complement = by_unary operators.Complement keeps_own
-  by_kind kinds.LogicalNot = one facts (length nodes) (unary_constant operators.LogicalNot) (not_row token (standing 0)) children (not_part token (standing 0))
-  by_kind kinds.SizeofExpression = by_size known_sizes.size
-  by_kind kinds.SizeofType = by_size known_sizes.size
-  by_kind kinds.AlignofType = by_size known_sizes.align
-  by_kind kinds.Cast =
+  pub by_kind : (enumerator : Option Part) (offset : Option ℕ) (kind : NodeKind)
+      → HasKindOf (sized_row told nodes facts handle (operation_of kind)).fact (folded sizes (fold_of kind) (facts_with nodes facts handle enumerator offset))
+  by_kind enumerator offset kinds.Name = tt
+  by_kind enumerator offset (kinds.IntegerConstant kind) = tt
+  by_kind enumerator offset (kinds.CharacterConstant kind) = tt
+  by_kind enumerator offset kinds.Parenthesized = tt
+  by_kind enumerator offset kinds.BuiltinOffsetof = tt
+  by_kind enumerator offset kinds.UnaryPlus = by_unary operators.UnaryPlus (λ of kind is. refl)
+  by_kind enumerator offset kinds.Negation = by_unary operators.Negation (λ of kind is. refl)
+  by_kind enumerator offset kinds.Complement = by_unary operators.Complement keeps_own
+  by_kind enumerator offset kinds.LogicalNot = one facts (length nodes) (unary_constant operators.LogicalNot) (not_row token (standing 0)) children (not_part token (standing 0))
+  by_kind enumerator offset kinds.SizeofExpression = by_size sizes.size
+  by_kind enumerator offset kinds.SizeofType = by_size sizes.size
+  by_kind enumerator offset kinds.AlignofType = by_size sizes.align
+  by_kind enumerator offset kinds.Cast =
       let forced = is_forced nodes (child_at nodes handle 0) in
       two facts (length nodes) (λ name part. cast_constant name.of part) (cast_row token forced) children (cast_has token forced)
-  by_kind kinds.Multiplication = by_binary operators.Multiplication (λ of other kind second is also. refl) (λ told t first second left right kind other. refl)
-  by_kind kinds.Division = by_binary operators.Division (λ of other kind second is also. refl) (λ told t first second left right kind other. refl)
-  by_kind kinds.Remainder = by_binary operators.Remainder (λ of other kind second is also. refl) (λ told t first second left right kind other. refl)
-  by_kind kinds.Addition = by_binary operators.Addition (λ of other kind second is also. refl) (λ told t first second left right kind other. refl)
-  by_kind kinds.Subtraction = by_binary operators.Subtraction (λ of other kind second is also. refl) (λ told t first second left right kind other. refl)
-  by_kind kinds.LeftShift = by_binary operators.LeftShift (λ of other kind second is also. refl) (λ told t first second left right kind other. refl)
-  by_kind kinds.RightShift = by_binary operators.RightShift (λ of other kind second is also. refl) (λ told t first second left right kind other. refl)
-  by_kind kinds.Less = by_binary operators.Less (λ of other kind second is also. refl) (λ told t first second left right kind other. refl)
-  by_kind kinds.Greater = by_binary operators.Greater (λ of other kind second is also. refl) (λ told t first second left right kind other. refl)
-  by_kind kinds.LessOrEqual = by_binary operators.LessOrEqual (λ of other kind second is also. refl) (λ told t first second left right kind other. refl)
-  by_kind kinds.GreaterOrEqual = by_binary operators.GreaterOrEqual (λ of other kind second is also. refl) (λ told t first second left right kind other. refl)
-  by_kind kinds.Equal = by_binary operators.Equal (λ of other kind second is also. refl) (λ told t first second left right kind other. refl)
-  by_kind kinds.NotEqual = by_binary operators.NotEqual (λ of other kind second is also. refl) (λ told t first second left right kind other. refl)
-  by_kind kinds.BitwiseAnd = by_binary operators.BitwiseAnd keeps_one (λ told t first second left right kind other. refl)
-  by_kind kinds.BitwiseExclusiveOr = by_binary operators.BitwiseExclusiveOr keeps_one (λ told t first second left right kind other. refl)
-  by_kind kinds.BitwiseOr = by_binary operators.BitwiseOr keeps_one (λ told t first second left right kind other. refl)
-  by_kind kinds.LogicalAnd =
+  by_kind enumerator offset kinds.Multiplication = by_binary operators.Multiplication (λ of other kind second is also. refl) (λ told t first second left right kind other. refl)
+  by_kind enumerator offset kinds.Division = by_binary operators.Division (λ of other kind second is also. refl) (λ told t first second left right kind other. refl)
+  by_kind enumerator offset kinds.Remainder = by_binary operators.Remainder (λ of other kind second is also. refl) (λ told t first second left right kind other. refl)
+  by_kind enumerator offset kinds.Addition = by_binary operators.Addition (λ of other kind second is also. refl) (λ told t first second left right kind other. refl)
+  by_kind enumerator offset kinds.Subtraction = by_binary operators.Subtraction (λ of other kind second is also. refl) (λ told t first second left right kind other. refl)
+  by_kind enumerator offset kinds.LeftShift = by_binary operators.LeftShift (λ of other kind second is also. refl) (λ told t first second left right kind other. refl)
+  by_kind enumerator offset kinds.RightShift = by_binary operators.RightShift (λ of other kind second is also. refl) (λ told t first second left right kind other. refl)
+  by_kind enumerator offset kinds.Less = by_binary operators.Less (λ of other kind second is also. refl) (λ told t first second left right kind other. refl)
+  by_kind enumerator offset kinds.Greater = by_binary operators.Greater (λ of other kind second is also. refl) (λ told t first second left right kind other. refl)
+  by_kind enumerator offset kinds.LessOrEqual = by_binary operators.LessOrEqual (λ of other kind second is also. refl) (λ told t first second left right kind other. refl)
+  by_kind enumerator offset kinds.GreaterOrEqual = by_binary operators.GreaterOrEqual (λ of other kind second is also. refl) (λ told t first second left right kind other. refl)
+  by_kind enumerator offset kinds.Equal = by_binary operators.Equal (λ of other kind second is also. refl) (λ told t first second left right kind other. refl)
+  by_kind enumerator offset kinds.NotEqual = by_binary operators.NotEqual (λ of other kind second is also. refl) (λ told t first second left right kind other. refl)
+  by_kind enumerator offset kinds.BitwiseAnd = by_binary operators.BitwiseAnd keeps_one (λ told t first second left right kind other. refl)
+  by_kind enumerator offset kinds.BitwiseExclusiveOr = by_binary operators.BitwiseExclusiveOr keeps_one (λ told t first second left right kind other. refl)
+  by_kind enumerator offset kinds.BitwiseOr = by_binary operators.BitwiseOr keeps_one (λ told t first second left right kind other. refl)
+  by_kind enumerator offset kinds.LogicalAnd =
       two facts (length nodes) and_constant (logical_row operators.LogicalAnd token (standing 0) (standing 1)) children (and_parts token (standing 0) (standing 1))
-  by_kind kinds.LogicalOr =
+  by_kind enumerator offset kinds.LogicalOr =
       two facts (length nodes) or_constant (logical_row operators.LogicalOr token (standing 0) (standing 1)) children (or_parts token (standing 0) (standing 1))
-  by_kind kinds.Conditional = arms facts (length nodes) token (standing 0) (standing 1) (standing 2) children
-  by_kind kind = none_has (operation_row nodes facts handle (operation_of kind)).fact
+  by_kind enumerator offset kinds.Conditional = arms facts (length nodes) token (standing 0) (standing 1) (standing 2) children
+  by_kind enumerator offset kind = none_has (sized_row told nodes facts handle (operation_of kind)).fact
 
-  pub operator_has : HasKindOf (operation_row nodes facts handle (operation_of (kind_at nodes handle))).fact (whole_constant nodes facts handle)
-  operator_has = by_kind (kind_at nodes handle)
+pub operator_has : (nodes : UnitNodes) (facts : List Fact) (handle : ℕ)
+    → HasKindOf (operation_row nodes facts handle (operation_of (kind_at nodes handle))).fact (whole_constant nodes facts handle)
+operator_has nodes facts handle =
+    subst (λ (row : Row). HasKindOf row.fact (whole_constant nodes facts handle))
+    (untold_row nodes facts handle (operation_of (kind_at nodes handle)))
+    (by_kind nothing_told known_sizes nodes facts handle None (facts_for_constant nodes facts handle).offset (kind_at nodes handle))

@@ -72,7 +72,7 @@ module _ (table : TypeTable) where
   named-fits (Typed (RestrictedTree kind identity) _ _) fouled constant is = absurd (none-some constant is)
   named-fits type_ fouled constant is = absurd (none-some constant is)
 
-  none-fits : PartFits None
+  pub none-fits : PartFits None
   none-fits constant is = absurd (none-some constant is)
 
   part-fits : (fact : NodeFact) → PartFits (part_seen (node_seen table fact))
@@ -88,7 +88,7 @@ module _ (table : TypeTable) where
   fits-at (fact ∷ kept) zero = part-fits fact
   fits-at (fact ∷ kept) (suc handle) = fits-at kept handle
 
-  all-fit : (kept : List NodeFact) (handles : List ℕ) → PartsFit (map (λ child. part_seen (fact_at (nodes_seen table kept) child)) handles)
+  pub all-fit : (kept : List NodeFact) (handles : List ℕ) → PartsFit (map (λ child. part_seen (fact_at (nodes_seen table kept) child)) handles)
   all-fit kept [] = tt
   all-fit kept (handle ∷ handles) = (fits-at kept handle, all-fit kept handles)
 
@@ -107,7 +107,7 @@ module _ (table : TypeTable) where
   fact-with constant (facts.Declared declaration) has fits = refl
   fact-with constant (facts.NamedType of) has fits = refl
 
-  with-known : (bits : Option ℕ) (fact : NodeFact) → IsKnownNodeFact table fact → IsKnownNodeFact table (with_bits bits fact)
+  pub with-known : (bits : Option ℕ) (fact : NodeFact) → IsKnownNodeFact table fact → IsKnownNodeFact table (with_bits bits fact)
   with-known bits facts.Unknown known = known
   with-known bits (facts.Expression expression) known = known
   with-known bits (facts.Specified specifiers) known = known

@@ -18,7 +18,7 @@ use Rattle.expression_rows.specs.Rows as rows
 use Rattle.expr_judge.specs.declared.row.NodeRow.{NodeRow}
 use Rattle.expr_judge.specs.Rows.{SaysOnly, Tells, fact_of_part, listed_failures, node_row, row_kept, row_seen}
 
-fact-is : (table : TypeTable) (part : Option ExpressionFact) → node_seen table (fact_of_part part) ≡ part_seen table part
+pub fact-is : (table : TypeTable) (part : Option ExpressionFact) → node_seen table (fact_of_part part) ≡ part_seen table part
 fact-is table None = refl
 fact-is table (Some expression) = refl
 

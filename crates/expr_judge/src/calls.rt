@@ -10,7 +10,7 @@ ghost use Rattle.expression_rows.specs.Arguments.{IsKnownArgument, argument_seen
 ghost use Rattle.expr_judge.specs.Whole.{IsWhole};
 ghost use Rattle.expr_judge.specs.Parts.{only_arguments};
 ghost use Rattle.expr_judge.specs.Rows.{Tells};
-ghost use Rattle.node_facts.specs.Facts.{nodes_seen};
+ghost use Rattle.node_facts.specs.Facts.{IsKnownNodeFact, nodes_seen};
 ghost use Rattle.node_facts.specs.Growing.{TypesJoin};
 
 use crate::parts::operand_at;
@@ -24,8 +24,8 @@ use sparse_model::FailureList;
 use std::alloc::{AllocError, Global};
 use tag_list::TagList;
 
-// The arguments among the children of a call, which stand behind the first one.
-fn arguments_among(
+/// The arguments among the children of a call, which stand behind the first one. It takes a step for each of them.
+pub fn arguments_among(
     alloc: Global,
     unit: &Unit,
     types: &mut Types,
@@ -33,7 +33,7 @@ fn arguments_among(
     children: &TagList,
 ) -> Result<Vec<Argument>, AllocError>
     requires whole { unit.now.first ≡ 0 }
-    requires known { IsWhole types.old facts.now }
+    requires known { All (IsKnownNodeFact types.old) facts.now }
     ensures seen { IfOk result (λ arguments. map (argument_seen types.new) arguments.items ≡ only_arguments (map (argument_at (nodes_of unit.now) (nodes_seen types.old facts.now)) (drop 1 (handles_of children.now)))) }
     ensures known { IfOk result (λ arguments. All (IsKnownArgument types.new) arguments.items) }
     ensures keeps { OnOk result (TypesJoin types.old types.new) }

@@ -1,12 +1,11 @@
 // The rows of casts, but for their constants (C11 6.5.4).
-ghost use Rattle.std.specs.Prelude.{◌≡◌, IfOk};
+ghost use Rattle.std.specs.Prelude.{◌≡◌, All, IfOk};
 ghost use Rattle.meaning_typing.specs.Operations as operations;
 ghost use Rattle.meaning_typing.specs.Typing.{operation_row};
 ghost use Rattle.decl_judge.specs.Asked.{named_in};
 ghost use Rattle.decl_judge.specs.Units.{nodes_of};
-ghost use Rattle.expr_judge.specs.Whole.{IsWhole};
 ghost use Rattle.expr_judge.specs.Rows.{Tells};
-ghost use Rattle.node_facts.specs.Facts.{nodes_seen};
+ghost use Rattle.node_facts.specs.Facts.{IsKnownNodeFact, nodes_seen};
 
 use crate::parts::operand_at;
 use crate::row::{NodeRow, take_row};
@@ -37,7 +36,7 @@ pub fn cast(
     handle: Handle,
 ) -> Result<NodeRow, AllocError>
     requires whole { unit.now.first ≡ 0 }
-    requires known { IsWhole types.old facts.now }
+    requires known { All (IsKnownNodeFact types.old) facts.now }
     ensures { IfOk result (λ row. Tells types.old types.new found.old found.new row (operation_row (nodes_of unit.now) (nodes_seen types.old facts.now) handle operations.CastOperation)) }
 {
     let name = child_at(unit, handle, 0);

@@ -27,7 +27,8 @@ use node_facts::{NodeFact, NodeFacts};
 use sparse_model::IntKind;
 use std::alloc::AllocError;
 
-fn bits_folded(constant: Folded) -> Option<u64>
+/// The bits of a constant, if it is one.
+pub fn bits_folded(constant: Folded) -> Option<u64>
     ensures { result ≡ bits_folded constant }
 {
     match constant {

@@ -1,5 +1,5 @@
 // The rows of expressions, by what is known of their parts.
-ghost use Rattle.std.specs.Prelude.{◌≡◌, ◌<◌, IfOk};
+ghost use Rattle.std.specs.Prelude.{◌≡◌, ◌<◌, All, IfOk};
 ghost use Rattle.meaning_tree.specs.Nodes.{end_of};
 ghost use Rattle.meaning_typing.specs.Expressions as meaning;
 ghost use Rattle.meaning_typing.specs.Facts.{fact_at};
@@ -8,7 +8,7 @@ ghost use Rattle.meaning_typing.specs.Units.{child_at as child_of, node_at as no
 ghost use Rattle.decl_judge.specs.Units.{nodes_of};
 ghost use Rattle.expr_judge.specs.Whole.{IsWhole};
 ghost use Rattle.expr_judge.specs.Rows.{Tells};
-ghost use Rattle.node_facts.specs.Facts.{nodes_seen};
+ghost use Rattle.node_facts.specs.Facts.{IsKnownNodeFact, nodes_seen};
 
 use crate::parts::{expression_at, operand_at, operands_at};
 use crate::row::{NodeRow, take_row};
@@ -47,7 +47,7 @@ pub fn address(
     handle: Handle,
 ) -> Result<NodeRow, AllocError>
     requires whole { unit.now.first ≡ 0 }
-    requires known { IsWhole types.old facts.now }
+    requires known { All (IsKnownNodeFact types.old) facts.now }
     ensures { IfOk result (λ row. Tells types.old types.new found.old found.new row (meaning.address_row (token_of (nodes_of unit.now) handle) (fact_at (nodes_seen types.old facts.now) (child_of (nodes_of unit.now) handle 0)))) }
 {
     let operand = expression_at(facts, child_at(unit, handle, 0));
@@ -64,7 +64,7 @@ pub fn indirection(
     handle: Handle,
 ) -> Result<NodeRow, AllocError>
     requires whole { unit.now.first ≡ 0 }
-    requires known { IsWhole types.old facts.now }
+    requires known { All (IsKnownNodeFact types.old) facts.now }
     ensures { IfOk result (λ row. Tells types.old types.new found.old found.new row (meaning.indirection_row (token_of (nodes_of unit.now) handle) (token_of (nodes_of unit.now) (child_of (nodes_of unit.now) handle 0)) (fact_at (nodes_seen types.old facts.now) (child_of (nodes_of unit.now) handle 0)))) }
 {
     let child = child_at(unit, handle, 0);

@@ -1,9 +1,8 @@
 // Operands of operators, with the tokens at which they stand.
-ghost use Rattle.std.specs.Prelude.{◌≡◌, IfOk, OnOk};
+ghost use Rattle.std.specs.Prelude.{◌≡◌, All, IfOk, OnOk};
 ghost use Rattle.decl_judge.specs.Units.{nodes_of};
-ghost use Rattle.expr_judge.specs.Whole.{IsWhole};
 ghost use Rattle.expr_judge.specs.Operators.{AreOperandsOf, IsOperandOf};
-ghost use Rattle.node_facts.specs.Facts.{nodes_seen};
+ghost use Rattle.node_facts.specs.Facts.{IsKnownNodeFact, nodes_seen};
 ghost use Rattle.node_facts.specs.Growing.{TypesJoin};
 
 use crate::parts::{operand_at, operands_at};
@@ -38,7 +37,7 @@ pub fn operand_of(
     handle: Handle,
 ) -> Result<OneOperand, AllocError>
     requires whole { unit.now.first ≡ 0 }
-    requires known { IsWhole types.old facts.now }
+    requires known { All (IsKnownNodeFact types.old) facts.now }
     ensures operand { IfOk result (IsOperandOf (nodes_of unit.now) (nodes_seen types.old facts.now) handle types.new) }
     ensures keeps { OnOk result (TypesJoin types.old types.new) }
 {
@@ -59,7 +58,7 @@ pub fn operands_of(
     handle: Handle,
 ) -> Result<TwoOperands, AllocError>
     requires whole { unit.now.first ≡ 0 }
-    requires known { IsWhole types.old facts.now }
+    requires known { All (IsKnownNodeFact types.old) facts.now }
     ensures operands { IfOk result (AreOperandsOf (nodes_of unit.now) (nodes_seen types.old facts.now) handle types.new) }
     ensures keeps { OnOk result (TypesJoin types.old types.new) }
 {

@@ -1,11 +1,11 @@
 // The rows of operators with one operand or two, but for their constants (C11 6.5.2.4 to 6.5.17).
-ghost use Rattle.std.specs.Prelude.{◌≡◌, IfOk};
+ghost use Rattle.std.specs.Prelude.{◌≡◌, All, IfOk};
 ghost use Rattle.meaning_typing.specs.Operations as operations;
 ghost use Rattle.meaning_typing.specs.Typing.{operation_row};
 ghost use Rattle.decl_judge.specs.Units.{nodes_of};
 ghost use Rattle.expr_judge.specs.Whole.{IsWhole};
 ghost use Rattle.expr_judge.specs.Rows.{Tells};
-ghost use Rattle.node_facts.specs.Facts.{nodes_seen};
+ghost use Rattle.node_facts.specs.Facts.{IsKnownNodeFact, nodes_seen};
 
 use crate::operands::{operand_of, operands_of};
 use crate::parts::operand_at;
@@ -32,7 +32,7 @@ pub fn unary(
     op: Operator,
 ) -> Result<NodeRow, AllocError>
     requires whole { unit.now.first ≡ 0 }
-    requires known { IsWhole types.old facts.now }
+    requires known { All (IsKnownNodeFact types.old) facts.now }
     ensures { IfOk result (λ row. Tells types.old types.new found.old found.new row (operation_row (nodes_of unit.now) (nodes_seen types.old facts.now) handle (operations.UnaryOperation op))) }
 {
     let one = operand_of(unit, types, facts, handle)?;
@@ -49,7 +49,7 @@ pub fn not(
     handle: Handle,
 ) -> Result<NodeRow, AllocError>
     requires whole { unit.now.first ≡ 0 }
-    requires known { IsWhole types.old facts.now }
+    requires known { All (IsKnownNodeFact types.old) facts.now }
     ensures { IfOk result (λ row. Tells types.old types.new found.old found.new row (operation_row (nodes_of unit.now) (nodes_seen types.old facts.now) handle operations.NotOperation)) }
 {
     let one = operand_of(unit, types, facts, handle)?;
@@ -138,7 +138,7 @@ pub fn logical(
     op: Operator,
 ) -> Result<NodeRow, AllocError>
     requires whole { unit.now.first ≡ 0 }
-    requires known { IsWhole types.old facts.now }
+    requires known { All (IsKnownNodeFact types.old) facts.now }
     ensures { IfOk result (λ row. Tells types.old types.new found.old found.new row (operation_row (nodes_of unit.now) (nodes_seen types.old facts.now) handle (operations.LogicalOperation op))) }
 {
     let two = operands_of(unit, types, facts, handle)?;
@@ -173,7 +173,7 @@ pub fn comma(
     handle: Handle,
 ) -> Result<NodeRow, AllocError>
     requires whole { unit.now.first ≡ 0 }
-    requires known { IsWhole types.old facts.now }
+    requires known { All (IsKnownNodeFact types.old) facts.now }
     ensures { IfOk result (λ row. Tells types.old types.new found.old found.new row (operation_row (nodes_of unit.now) (nodes_seen types.old facts.now) handle operations.CommaOperation)) }
 {
     let right = operand_at(types, facts, child_at(unit, handle, 1))?;
@@ -190,7 +190,7 @@ pub fn expect(
     handle: Handle,
 ) -> Result<NodeRow, AllocError>
     requires whole { unit.now.first ≡ 0 }
-    requires known { IsWhole types.old facts.now }
+    requires known { All (IsKnownNodeFact types.old) facts.now }
     ensures { IfOk result (λ row. Tells types.old types.new found.old found.new row (operation_row (nodes_of unit.now) (nodes_seen types.old facts.now) handle operations.ExpectOperation)) }
 {
     let two = operands_of(unit, types, facts, handle)?;

@@ -8,7 +8,6 @@ ghost use Rattle.node_facts.specs.Growing.{TypesJoin};
 ghost use Rattle.expression_rows.specs.Facts.{IsValued, valued_part};
 ghost use Rattle.expression_rows.specs.Parts.{IsKnownReturn, returned_seen};
 ghost use Rattle.expr_judge.specs.Parts.{declaration_in, expression_in, kept_at, only_expression};
-ghost use Rattle.expr_judge.specs.Whole.{IsWhole};
 
 use c_tree::Handle;
 use c_types::Types;
@@ -85,7 +84,7 @@ pub fn returned_among(
     facts: &NodeFacts,
     children: &TagList,
 ) -> Result<Returned, AllocError>
-    requires { IsWhole types.old facts.now }
+    requires { All (IsKnownNodeFact types.old) facts.now }
     ensures seen { IfOk result (λ returned. returned_seen types.new returned ≡ option_map only_expression (first_fact (nodes_seen types.old facts.now) (handles_of children.now))) }
     ensures known { IfOk result (IsKnownReturn types.new) }
     ensures keeps { OnOk result (TypesJoin types.old types.new) }

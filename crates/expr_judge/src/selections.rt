@@ -1,5 +1,5 @@
 // The rows of `?:` and of statement expressions, but for the constant of the first (C11 6.5.15).
-ghost use Rattle.std.specs.Prelude.{◌≡◌, ◌<◌, IfOk, OnOk, length, option_map};
+ghost use Rattle.std.specs.Prelude.{◌≡◌, ◌<◌, All, IfOk, OnOk, length, option_map};
 ghost use Rattle.meaning_tree.specs.Nodes.{end_of};
 ghost use Rattle.meaning_typing.specs.Operations as operations;
 ghost use Rattle.meaning_typing.specs.Typing as meaning;
@@ -7,11 +7,10 @@ ghost use Rattle.meaning_typing.specs.Typing.{operation_row};
 ghost use Rattle.meaning_typing.specs.Units.{node_at as node_of};
 ghost use Rattle.decl_judge.specs.Units.{handles_of, nodes_of};
 ghost use Rattle.expression_rows.specs.Parts.{IsKnownReturn, returned_seen};
-ghost use Rattle.expr_judge.specs.Whole.{IsWhole};
 ghost use Rattle.expr_judge.specs.Operators.{conditional_with, conditional_without, value_in};
 ghost use Rattle.expr_judge.specs.Parts.{only_expression};
 ghost use Rattle.expr_judge.specs.Rows.{Tells};
-ghost use Rattle.node_facts.specs.Facts.{nodes_seen};
+ghost use Rattle.node_facts.specs.Facts.{IsKnownNodeFact, nodes_seen};
 ghost use Rattle.node_facts.specs.Growing.{TypesJoin};
 
 use crate::operands::operands_of;
@@ -34,7 +33,7 @@ fn with_middle(
     handle: Handle,
 ) -> Result<NodeRow, AllocError>
     requires whole { unit.now.first ≡ 0 }
-    requires known { IsWhole types.old facts.now }
+    requires known { All (IsKnownNodeFact types.old) facts.now }
     ensures { IfOk result (λ row. Tells types.old types.new found.old found.new row (conditional_with (nodes_of unit.now) (nodes_seen types.old facts.now) handle)) }
 {
     let two = operands_of(unit, types, facts, handle)?;
@@ -59,7 +58,7 @@ fn without_middle(
     handle: Handle,
 ) -> Result<NodeRow, AllocError>
     requires whole { unit.now.first ≡ 0 }
-    requires known { IsWhole types.old facts.now }
+    requires known { All (IsKnownNodeFact types.old) facts.now }
     ensures { IfOk result (λ row. Tells types.old types.new found.old found.new row (conditional_without (nodes_of unit.now) (nodes_seen types.old facts.now) handle)) }
 {
     let two = operands_of(unit, types, facts, handle)?;
@@ -83,7 +82,7 @@ pub fn conditional(
 ) -> Result<NodeRow, AllocError>
     requires whole { unit.now.first ≡ 0 }
     requires node { handle < end_of unit.now }
-    requires known { IsWhole types.old facts.now }
+    requires known { All (IsKnownNodeFact types.old) facts.now }
     ensures { IfOk result (λ row. Tells types.old types.new found.old found.new row (operation_row (nodes_of unit.now) (nodes_seen types.old facts.now) handle operations.ConditionalOperation)) }
 {
     if unit.node(handle).children.len() > 2 {
@@ -118,7 +117,7 @@ fn value_of_statement(
     facts: &NodeFacts,
     statement: &Node,
 ) -> Result<Returned, AllocError>
-    requires { IsWhole types.old facts.now }
+    requires { All (IsKnownNodeFact types.old) facts.now }
     ensures seen { IfOk result (λ value. returned_seen types.new value ≡ option_map only_expression (value_in statement.now.kind (nodes_seen types.old facts.now) (handles_of statement.now.children))) }
     ensures known { IfOk result (IsKnownReturn types.new) }
     ensures keeps { OnOk result (TypesJoin types.old types.new) }
@@ -137,7 +136,7 @@ fn last_value(
     statement: Handle,
 ) -> Result<Returned, AllocError>
     requires whole { unit.now.first ≡ 0 }
-    requires known { IsWhole types.old facts.now }
+    requires known { All (IsKnownNodeFact types.old) facts.now }
     ensures seen { IfOk result (λ value. returned_seen types.new value ≡ option_map only_expression (meaning.last_value (nodes_of unit.now) (nodes_seen types.old facts.now) statement)) }
     ensures known { IfOk result (IsKnownReturn types.new) }
     ensures keeps { OnOk result (TypesJoin types.old types.new) }
@@ -157,7 +156,7 @@ pub fn statement_expression(
     handle: Handle,
 ) -> Result<NodeRow, AllocError>
     requires whole { unit.now.first ≡ 0 }
-    requires known { IsWhole types.old facts.now }
+    requires known { All (IsKnownNodeFact types.old) facts.now }
     ensures { IfOk result (λ row. Tells types.old types.new found.old found.new row (operation_row (nodes_of unit.now) (nodes_seen types.old facts.now) handle operations.StatementsOperation)) }
 {
     let statement = last_statement(unit, child_at(unit, handle, 0));

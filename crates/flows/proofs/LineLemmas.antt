@@ -1,5 +1,5 @@
 -- The first line of a text ends at its first new-line; and what is answered for a text, line by line.
-use Rattle.std.proofs.Common.{◌≡◌, ℕ, zero, suc, ◌+◌, ◌-◌, ◌<◌, ◌≤◌, ◌==◌, Bool, true, false, Option, Some, Result, Ok, Err, IfErr, IsErrAnd, OnOk, is_err, List, [], ◌∷◌, ◌++◌, take, drop, length, slice_index, slice_index_or, if◌then◌else◌, refl, sym, ap, ◌∙◌, subst, arith}
+use Rattle.std.proofs.Common.{◌≡◌, ℕ, zero, suc, ◌+◌, ◌-◌, ◌<◌, ◌≤◌, ◌==◌, Bool, true, false, Option, Some, Result, Ok, Err, IfErr, IfOk, IsErrAnd, OnOk, is_err, List, [], ◌∷◌, ◌++◌, take, drop, length, slice_index, if◌then◌else◌, refl, sym, ap, ◌∙◌, subst, arith}
 use Rattle.std.proofs.lemmas.List.{length-drop, take_all}
 use Rattle.std.proofs.lemmas.Result.{err_from_is_err_and}
 use Rattle.meaning_paths.specs.Graphs.{BasicBlock}
@@ -9,11 +9,10 @@ use Rattle.flows.specs.declared.line.NoLine.TheVariants as no_line
 use Rattle.flows.specs.declared.wrong.Fault.{Fault}
 use Rattle.flows.specs.declared.wrong.Place.{Place}
 use Rattle.flows.specs.declared.wrong.Wrong.{Wrong}
-use Rattle.flows.specs.Reading.{Reading, Reads, reads_on}
+use Rattle.flows.specs.Reading.{Reading, Reads}
 use Rattle.flows.specs.Lines.{FlowLine, block_at, line_at}
-use Rattle.flows.specs.Asked.{asked_fault}
 use Rattle.flows.specs.Shown.{shown_answer}
-use Rattle.flows.specs.Answers.{IsAnswerOf, IsFaultOf, IsReadingOf, Shows, behind_line, block_fault_at, fault_at, fault_of, first_line, goes, line_fault, place_of, stops}
+use Rattle.flows.specs.Answers.{IsAnswerFor, IsAnswerOf, IsFaultFor, IsFaultOf, IsReadingOf, Shows, behind_line, fault_of, first_line, goes, line_fault, place_of, stops}
 use Rattle.flows.proofs.ElementLemmas.{ReadsBlocksOn, no-block}
 
 never : (test : Bool) → (test ≡ true → ⊥) → test ≡ false
@@ -58,9 +57,15 @@ endless (byte ∷ rest) nowhere =
       ap (λ (ends : Bool). if ends then rest else behind_line rest) goes_on ∙ later.1,
     )
 
-pub unread : (text : List ℕ) (why : NoLine) → IsReadingOf (line_at text) why → IsFaultOf text why
-unread text (no_line.Wrong fault) is = ap fault_of is
-unread text no_line.NoMemory is = tt
+-- what a line says is answered or lacks something, and so does the line
+pub line-answered : (text : List ℕ) (line : FlowLine) (result : Result ContextAnswer NoLine) → line_at text ≡ Reads line [] → IfOk result (IsAnswerFor line) → IfOk result (IsAnswerOf text)
+line-answered text line (Ok answer) read says = record { line = line; read = read; says = says }
+line-answered text line (Err why) read says = tt
+
+pub line-lacking : (text : List ℕ) (line : FlowLine) (result : Result ContextAnswer NoLine) → line_at text ≡ Reads line [] → IfErr result (IsFaultFor line) → IfErr result (IsFaultOf text)
+line-lacking text line (Ok answer) read lacks = tt
+line-lacking text line (Err (no_line.Wrong fault)) read lacks = ap fault_of read ∙ lacks
+line-lacking text line (Err no_line.NoMemory) read lacks = tt
 
 pub block-unread : (graph : List BasicBlock) (lefts text : List ℕ) (whole : Reading FlowLine) → ReadsBlocksOn graph lefts text whole → (why : NoLine) → IsReadingOf (block_at text) why → IsReadingOf whole why
 block-unread graph lefts text whole on (no_line.Wrong fault) is = no-block graph lefts text whole on fault.wrong fault.left is

@@ -44,12 +44,21 @@ fault_of (Reads line rest) = block_fault_at line.lefts (asked_fault line.graph l
 abbrev pub line_fault : List ℕ → Option Fault
 line_fault text = fault_of (line_at text)
 
--- nothing is wrong with the line, and this is the rules' answer for its flow and its counts
+-- nothing is wrong with what a line says, and this is the rules' answer for its flow and its counts
+pub record IsAnswerFor (line : FlowLine) (answer : ContextAnswer) : Type 0 where
+  pub asked : asked_fault line.graph line.note.enters ≡ None
+  pub answers : IsAnswer (IsPathOf line.graph) the_key line.note.enters line.note.leaves (answer_of answer)
+
+-- the line is in the notation, and this is the answer for what it says
 pub record IsAnswerOf (text : List ℕ) (answer : ContextAnswer) : Type 0 where
   pub line : FlowLine
   pub read : line_at text ≡ Reads line []
-  pub asked : asked_fault line.graph line.note.enters ≡ None
-  pub answers : IsAnswer (IsPathOf line.graph) the_key line.note.enters line.note.leaves (answer_of answer)
+  pub says : IsAnswerFor line answer
+
+-- the walk doesn't take what a line says
+abbrev pub IsFaultFor : (line : FlowLine) → NoLine → Type 0
+IsFaultFor line (no_line.Wrong fault) = block_fault_at line.lefts (asked_fault line.graph line.note.enters) ≡ Some fault
+IsFaultFor line no_line.NoMemory = Unit {0}
 
 abbrev pub IsFaultOf : (text : List ℕ) → NoLine → Type 0
 IsFaultOf text (no_line.Wrong fault) = line_fault text ≡ Some fault

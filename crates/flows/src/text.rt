@@ -2,7 +2,7 @@
 ghost use Rattle.std.specs.Prelude.{◌≡◌, ◌<◌, ◌≤◌, ◌+◌, ◌^◌, ◌++◌, IfErr, IfOk, OnOk, codes, length};
 ghost use Rattle.std.specs.Fmt.{decimal};
 ghost use Rattle.flows.specs.Shown.{shown_answer, shown_exit};
-ghost use Rattle.flows.specs.Answers.{EndsSo, IsAnswerOf, IsFaultOf, behind_line, first_line, place_of};
+ghost use Rattle.flows.specs.Answers.{EndsSo, IsAnswerFor, IsAnswerOf, IsFaultFor, IsFaultOf, behind_line, first_line, line_of, place_of};
 
 use crate::check::asked_fault;
 use crate::line::{Line, NoLine, read_line};
@@ -81,12 +81,20 @@ fn answer_line(alloc: Global, text: &[u8]) -> Result<ContextAnswer, NoLine>
     ensures answer { IfOk result (IsAnswerOf text.now) }
     ensures fault { IfErr result (IsFaultOf text.now) }
 {
-    let Line { flow, note, lefts } = read_line(alloc, text)?;
-    if let Some((number, wrong)) = asked_fault(flow.blocks.as_slice(), note.enters) {
-        let left = lefts.get(number).copied().unwrap_or(0);
+    let line = read_line(alloc, text)?;
+    answer_flow(alloc, &line)
+}
+
+// The answer for the flow that a line has.
+fn answer_flow(alloc: Global, line: &Line) -> Result<ContextAnswer, NoLine>
+    ensures answer { IfOk result (IsAnswerFor (line_of line.now)) }
+    ensures fault { IfErr result (IsFaultFor (line_of line.now)) }
+{
+    if let Some((number, wrong)) = asked_fault(line.flow.blocks.as_slice(), line.note.enters) {
+        let left = line.lefts.get(number).copied().unwrap_or(0);
         return Err(NoLine::Wrong(Fault { left, wrong }));
     }
-    Ok(walk(alloc, &flow, &note)?)
+    Ok(walk(alloc, &line.flow, &line.note)?)
 }
 
 fn push_answer(shown: &mut Vec<u8>, answer: ContextAnswer) -> Result<(), AllocError>

@@ -3,7 +3,7 @@ ghost use Rattle.std.specs.Prelude.{◌≡◌};
 ghost use Rattle.flows.specs.Shown.{wrong_text};
 
 /// What is wrong with a line.
-#[derive(Clone, Copy, Debug, PartialEq, Eq)]
+#[derive(Clone, Copy)]
 pub enum Wrong {
     NoStep,
     NoNumber,
@@ -40,14 +40,14 @@ impl Wrong {
 }
 
 /// What is wrong, and how many bytes of the line stand there and behind.
-#[derive(Clone, Copy, Debug, PartialEq, Eq)]
+#[derive(Clone, Copy)]
 pub(crate) struct Fault {
     pub(crate) left: usize,
     pub(crate) wrong: Wrong,
 }
 
 /// What is wrong with a text, by line and column, both counted from 1.
-#[derive(Clone, Copy, Debug, PartialEq, Eq)]
+#[derive(Clone, Copy)]
 pub struct Place {
     pub line: usize,
     pub column: usize,

@@ -8,13 +8,12 @@ use Rattle.expression_rows.specs.declared.call.Argument as calls
 use Rattle.expression_rows.specs.Arguments.{argument_seen}
 use Rattle.node_facts.specs.Facts.{nodes_seen}
 use Rattle.expr_judge.specs.Parts.{only_arguments, only_expression}
-use Rattle.node_facts.proofs.GrowthLemmas.{joins_on}
-use Rattle.expr_judge.proofs.WholeLemmas.{facts_later, whole_later}
+use Rattle.node_facts.proofs.GrowthLemmas.{joins_on, nodes_known, nodes_later}
 use Rattle.expr_judge.proofs.PartLemmas.{argument_more, argument_more_known}
 use Rattle.expr_judge.proofs.calls.arguments_among.Goals as goal
 
 pub operand_at-requires : goal.operand_at-requires
-operand_at-requires c = (whole_later c.args.types.now c.loop-child.types c.loop-child.invariant.keeps c.args.facts.now c.requires.known).ids
+operand_at-requires c = nodes_known c.args.types.now c.loop-child.types c.loop-child.invariant.keeps c.args.facts.now c.requires.known
 
 pub loop-child-preserved : goal.loop-child-preserved
 loop-child-preserved c =
@@ -33,7 +32,7 @@ loop-child-preserved c =
     let is : argument_seen new argument ≡ meant =
     (λ i. record {
       token = c.token_at-token.ensures i;
-      fact = (c.in_ok-part.ensures.seen ∙ ap (λ facts. only_expression (fact_at facts child)) (facts_later old between c.loop-child.invariant.keeps kept c.requires.known)) i;
+      fact = (c.in_ok-part.ensures.seen ∙ ap (λ facts. only_expression (fact_at facts child)) (nodes_later old between c.loop-child.invariant.keeps kept c.requires.known)) i;
     }) in
     record {
       seen =

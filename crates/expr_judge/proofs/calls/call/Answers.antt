@@ -20,7 +20,8 @@ use Rattle.expr_judge.proofs.TakenLemmas.{row_taken_behind}
 use Rattle.expr_judge.proofs.calls.call.Goals as goal
 
 pub arguments_among-requires-clause-known : goal.arguments_among-requires-clause-known
-arguments_among-requires-clause-known c = whole_later c.args.types.now c.operand_at.new.types c.in_ok-callee.ensures.keeps c.args.facts.now c.requires.known
+arguments_among-requires-clause-known c =
+    (whole_later c.args.types.now c.operand_at.new.types c.in_ok-callee.ensures.keeps c.args.facts.now c.requires.known).ids
 
 pub judge_call-requires-clause-callee : goal.judge_call-requires-clause-callee
 judge_call-requires-clause-callee c =

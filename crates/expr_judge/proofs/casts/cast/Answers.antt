@@ -14,7 +14,7 @@ use Rattle.expression_rows.specs.Casts.{named_part}
 use Rattle.expression_rows.specs.Facts.{valued_part}
 use Rattle.node_facts.specs.Facts.{nodes_seen}
 use Rattle.expr_judge.specs.Parts.{only_expression}
-use Rattle.expr_judge.proofs.WholeLemmas.{facts_later, whole_later}
+use Rattle.node_facts.proofs.GrowthLemmas.{nodes_known, nodes_later}
 use Rattle.expr_judge.proofs.OperandLemmas.{cast_only, named_part-is}
 use Rattle.expr_judge.proofs.OperatorLemmas.{operator_taken}
 use Rattle.expr_judge.proofs.casts.cast.Goals as goal
@@ -23,7 +23,7 @@ pub judge_cast-requires-clause-named : goal.judge_cast-requires-clause-named
 judge_cast-requires-clause-named c =
     let between = c.operand_at.new.types in
     subst (λ (named : Option TypeId). IfSome named (IsTypeId between)) (sym (c.named_by-named.ensures ∙ ap named_in c.at.ensures))
-    (named_at_known between c.args.facts.now c.child_at-name.result (whole_later c.args.types.now between c.in_ok-operand.ensures.keeps c.args.facts.now c.requires.known).ids)
+    (named_at_known between c.args.facts.now c.child_at-name.result (nodes_known c.args.types.now between c.in_ok-operand.ensures.keeps c.args.facts.now c.requires.known))
 
 pub returns : goal.returns
 returns c =
@@ -40,7 +40,7 @@ returns c =
     named_part-is between c.named_by-named.result
     ∙ ap (λ found. named_if (option_map (type_at between) found)) (c.named_by-named.ensures ∙ ap named_in c.at.ensures)
     ∙ ap named_if (named_at_told between kept c.child_at-name.result)
-    ∙ (λ i. named_if (type_named (fact_at (facts_later old between c.in_ok-operand.ensures.keeps kept c.requires.known i) (c.child_at-name.ensures i)))) in
+    ∙ (λ i. named_if (type_named (fact_at (nodes_later old between c.in_ok-operand.ensures.keeps kept c.requires.known i) (c.child_at-name.ensures i)))) in
     let operand : valued_part between c.in_ok-operand.operand ≡ only_expression (part_fact nodes facts handle 1) =
     c.in_ok-operand.ensures.seen ∙ ap (λ handle. only_expression (fact_at facts handle)) c.child_at.ensures in
     operator_taken old between c.judge_cast.new.types c.in_ok-operand.ensures.keeps c.in_ok-row.ensures.keeps c.args.found.now c.take_row.new.found c.in_ok-row.row

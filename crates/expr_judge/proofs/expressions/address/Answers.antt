@@ -16,7 +16,7 @@ pub judge_address-requires : goal.judge_address-requires
 judge_address-requires c =
     let old = c.args.types.now in
     let kept = c.args.facts.now in
-    subst (IsKnownPart old) (sym c.expression_at-operand.ensures) (part_known old kept c.child_at.result c.requires.known.ids)
+    subst (IsKnownPart old) (sym c.expression_at-operand.ensures) (part_known old kept c.child_at.result c.requires.known)
 
 pub returns : goal.returns
 returns c =

@@ -7,14 +7,13 @@ use Rattle.expression_rows.specs.Facts.{valued_part}
 use Rattle.node_facts.specs.Facts.{nodes_seen}
 use Rattle.expr_judge.specs.Operators.{conditional_with}
 use Rattle.expr_judge.specs.Parts.{only_expression}
-use Rattle.node_facts.proofs.GrowthLemmas.{joins_on}
-use Rattle.expr_judge.proofs.WholeLemmas.{facts_later, whole_later}
+use Rattle.node_facts.proofs.GrowthLemmas.{joins_on, nodes_known, nodes_later}
 use Rattle.expr_judge.proofs.OperandLemmas.{conditional_only, operands_later}
 use Rattle.expr_judge.proofs.OperatorLemmas.{operator_taken}
 use Rattle.expr_judge.proofs.selections.with_middle.Goals as goal
 
 pub operand_at-requires : goal.operand_at-requires
-operand_at-requires c = (whole_later c.args.types.now c.operands_of.new.types c.in_ok-two.ensures.keeps c.args.facts.now c.requires.known).ids
+operand_at-requires c = nodes_known c.args.types.now c.operands_of.new.types c.in_ok-two.ensures.keeps c.args.facts.now c.requires.known
 
 pub judge_conditional-requires-clause-condition : goal.judge_conditional-requires-clause-condition
 judge_conditional-requires-clause-condition c =
@@ -40,7 +39,7 @@ returns c =
     let third = c.token_at.ensures ∙ ap (token_at nodes) c.child_at-child.ensures in
     let right : valued_part between c.in_ok-right.right ≡ only_expression (part_fact nodes facts handle 2) =
     c.in_ok-right.ensures.seen
-    ∙ (λ i. only_expression (fact_at (facts_later old middle first kept c.requires.known i) (c.child_at-child.ensures i))) in
+    ∙ (λ i. only_expression (fact_at (nodes_later old middle first kept c.requires.known i) (c.child_at-child.ensures i))) in
     operator_taken old between c.judge_conditional.new.types (joins_on old middle between first c.in_ok-right.ensures.keeps) c.in_ok-row.ensures.keeps
     c.args.found.now c.take_row.new.found c.in_ok-row.row c.in_ok-row.ensures.known c.take_row.result c.take_row.ensures.row c.take_row.ensures.failures
     _ (conditional_with nodes facts handle) c.in_ok-row.ensures.row

@@ -1,11 +1,10 @@
--- A flow in which nothing is wrong is one that the walk takes.
-use Rattle.std.proofs.Common.{◌≡◌, List, subst}
-use Rattle.meaning_paths.specs.Graphs.{IsClosed}
-use Rattle.control_flow.specs.declared.flow.Block.{Block}
-use Rattle.control_flow.specs.Seen.{graph_of_blocks}
+-- A line is answered as what it says is.
+use Rattle.flows.specs.Answers.{line_of}
+use Rattle.flows.proofs.LineLemmas.{line-answered, line-lacking}
 use Rattle.flows.proofs.text.answer_line.Goals as goal
 
-pub walk-requires-clause-closed : goal.walk-requires-clause-closed
-walk-requires-clause-closed c =
-    let same : c.as_slice.result.now ≡ c.in_ok-flow.field-0.flow.blocks = cc in
-    subst (λ (blocks : List Block). IsClosed (graph_of_blocks blocks)) same c.in_default.ensures.asked.closed
+pub returns-clause-answer : goal.returns-clause-answer
+returns-clause-answer c = line-answered c.args.text.now (line_of c.in_ok-line.line) c.answer_flow.result c.in_ok-line.ensures.reads c.answer_flow.ensures.answer
+
+pub returns-clause-fault : goal.returns-clause-fault
+returns-clause-fault c = line-lacking c.args.text.now (line_of c.in_ok-line.line) c.answer_flow.result c.in_ok-line.ensures.reads c.answer_flow.ensures.fault

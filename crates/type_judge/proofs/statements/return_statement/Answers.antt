@@ -19,7 +19,7 @@ use Rattle.type_judge.proofs.ToldLemmas.{told_over}
 use Rattle.type_judge.proofs.statements.return_statement.Goals as goal
 
 pub returned_among-requires : goal.returned_among-requires
-returned_among-requires c = handed_in c.args.known.now c.requires.known
+returned_among-requires c = (handed_in c.args.known.now c.requires.known).ids
 
 pub returns : goal.returns
 returns c =

@@ -1,0 +1,5 @@
+pub mod Seen
+pub mod Numbers
+pub mod Exits
+pub mod Tables
+pub mod Passing

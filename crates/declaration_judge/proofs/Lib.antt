@@ -1,0 +1,6 @@
+pub mod KeptLemmas
+pub mod LinkedLemmas
+pub mod AgainLemmas
+pub mod RowLemmas
+pub mod DeclarationLemmas
+pub mod AssertionLemmas

@@ -1,0 +1,12 @@
+mod Depth
+mod ItemLemmas
+mod Joining
+mod LevelLemmas
+mod NextLemmas
+mod PartLemmas
+mod PathLemmas
+mod StepLemmas
+mod TakeLemmas
+mod Telling
+mod WalkLemmas
+mod Walks

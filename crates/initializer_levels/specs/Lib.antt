@@ -1,0 +1,10 @@
+pub mod Items
+pub mod Kept
+pub mod Parts
+pub mod Paths
+pub mod Takes
+pub mod Walks
+pub mod Steps
+pub mod Levels
+pub mod Turns
+pub mod Laws

@@ -1,0 +1,5 @@
+pub mod NameLemmas
+pub mod RunLemmas
+pub mod ChangeLemmas
+pub mod PassedLemmas
+pub mod QuietLemmas

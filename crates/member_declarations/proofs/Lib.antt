@@ -1,0 +1,9 @@
+pub mod BitFieldLemmas
+pub mod EntryLemmas
+pub mod FactLemmas
+pub mod FlexibleLemmas
+pub mod MemberLemmas
+pub mod NumberLemmas
+pub mod RowLemmas
+pub mod StandingLemmas
+pub mod WidthLemmas

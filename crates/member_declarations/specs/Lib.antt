@@ -1,0 +1,6 @@
+pub mod Entries
+pub mod Facts
+pub mod Flexible
+pub mod Members
+pub mod Seen
+pub mod Widths

@@ -1,0 +1,5 @@
+pub mod HomeLemmas
+pub mod UnitLemmas
+pub mod OrderLemmas
+pub mod KeptLemmas
+pub mod NameLemmas

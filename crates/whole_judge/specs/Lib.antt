@@ -1,0 +1,5 @@
+pub mod Known
+pub mod Kinds
+pub mod Walks
+pub mod Constants
+pub mod Names

@@ -37,7 +37,7 @@ $(FLOWS): $(SOURCES) | kit
 	mkdir -p build
 	cp crates/flows/out/flows $@
 
-# What the judge says of a file, which no command asks yet: build/judged WORDS FILE
+# What the judge says of a file, which no command asks yet: build/judged WORDS FILE; the types of its expressions: build/judged -types FILE
 build/judged: $(SOURCES) | kit
 	$(PYTHON) scripts/build.py $(RT) judged_cli /dev/null
 	mkdir -p build

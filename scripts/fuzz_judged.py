@@ -3,9 +3,10 @@
 
 usage: fuzz_judged.py JUDGED [COUNT [SEED]]
 
-JUDGED must write what `reference.judging` works out from the rules alone: the warnings in order, or the one error, and the status.
-Where it isn't there a line says so. Where gcc is installed it must refuse exactly the units that break a constraint, their marks
-defined away, but for the differences that `refusals.py` names. A unit with another answer is made smaller before it is printed.
+JUDGED must write what `reference.judging` works out from the rules alone: the warnings in order, or the one error, and the status;
+and for one command in four what `reference.typed` does, the types of the expressions. Where it isn't there a line says so. Where gcc
+is installed it must refuse exactly the units that break a constraint, their marks defined away, but for the differences that
+`refusals.py` names. A unit with another answer is made smaller before it is printed.
 """
 import os
 import random
@@ -16,7 +17,7 @@ import tempfile
 
 import refusals
 from made_judged import Maker
-from reference import judging
+from reference import judging, typed
 from shrinking import shrunk
 
 COMPILER = "gcc"
@@ -29,7 +30,9 @@ def maker(chance, is_plain):
 
 
 def words_of(chance):
-    """The words of a command: mostly those that switch on what is off."""
+    """The words of a command: one in four asks for types, and the others mostly switch on what is off."""
+    if chance.randrange(4) == 0:
+        return [b"-types", b"t.c"]
     if chance.randrange(4):
         return [*CLASSES[:2], b"t.c"]
     return [word for word in CLASSES if chance.randrange(3) == 0] + [b"t.c"]
@@ -49,7 +52,7 @@ def said(program, words, folder):
 def wanted(words, text):
     """What it has to write; None where the reader says nothing of the unit."""
     try:
-        return judging.answer(words, {b"t.c": text})
+        return typed.answer(words, {b"t.c": text})
     except judging.NotBuilt:
         return None
 

@@ -12,7 +12,7 @@ import sys
 import threading
 
 import archives
-from reference import judging
+from reference import judging, typed
 
 LONGEST = 20_000
 # What so long a text needs, where it is nothing but parentheses
@@ -67,7 +67,7 @@ def cases(path):
 def difference(words, files, expected):
     """What the reader says otherwise, or nothing."""
     try:
-        found = judging.answer(words, files)
+        found = typed.answer(words, files)
     except judging.NotBuilt as form:
         return f"isn't read here: {form}"
     return None if found == expected else f"{found} in place of {expected}"

@@ -150,10 +150,9 @@ class Expressions:
     def call(self, node, is_evaluated):
         (_, callee), *arguments = node.parts
         fact = self.value(callee, is_evaluated)
-        values = [self.value(argument, is_evaluated) for _, argument in arguments]
-        voids = [argument for (_, argument), value in zip(arguments, values) if value is not None and value.is_void()]
-        for argument in voids:
-            self.found.breaks(9, argument.at)
+        arguments = [argument for _, argument in arguments]
+        values = [self.value(argument, is_evaluated) for argument in arguments]
+        has_voids = self.has_voids(arguments, values)
         if fact is None:
             return None
         is_used = self.used(callee, fact)
@@ -162,19 +161,32 @@ class Expressions:
         called = fact.type.inner
         if len(values) < len(called.parameters) or len(values) > len(called.parameters) and not called.takes_more:
             return self.found.breaks(6, node.at)
-        if voids:
+        if has_voids:
             return None
-        for number, ((_, argument), value, to) in enumerate(zip(arguments, values, called.parameters), 1):
-            if value is not None:
-                self.converts(value, to, argument.at, b"argument %d" % number, number)
+        self.passes(arguments, values, called.parameters)
         return Fact(types.value_of(called.inner))
 
+    def has_voids(self, arguments, values):
+        """Whether arguments are void, which is told of each."""
+        voids = [argument for argument, value in zip(arguments, values) if value is not None and value.is_void()]
+        for argument in voids:
+            self.found.breaks(9, argument.at)
+        return bool(voids)
+
+    def passes(self, arguments, values, parameters):
+        """Arguments become values of the types of parameters; nothing is said of one of which nothing is known."""
+        for number, (argument, value, to) in enumerate(zip(arguments, values, parameters), 1):
+            if value is not None:
+                self.converts(value, to, argument.at, b"argument %d" % number, number)
+
     def expect(self, node, is_evaluated):
+        """Both operands are passed as to a function of two longs."""
         parts = [part for _, part in node.parts]
-        values = self.values_used(parts, is_evaluated)
-        for number, (part, value) in enumerate(zip(parts, values or ()), 1):
-            self.converts(value, LONG, part.at, b"argument %d" % number, number)
-        return values and Fact(LONG)
+        values = [self.value(part, is_evaluated) for part in parts]
+        if self.has_voids(parts, values):
+            return None
+        self.passes(parts, values, (LONG, LONG))
+        return Fact(LONG)
 
     # Operators before or behind one operand
 
@@ -401,13 +413,14 @@ class Expressions:
     def arms(self, node, condition, left, right):
         """The arms of `?:` meet."""
         if left.is_pointer() or right.is_pointer():
-            return self.arms_with_pointer(node, condition, left, right)
+            return self.arms_with_pointer(node, left, right)
         self.meeting(node.at, left, right)
         of = pairs.joined(left, right)
         fouled = left.fouled or right.fouled
         return Fact(of, fouled=fouled, constant=kept(chosen(condition, left, right), of, fouled))
 
-    def arms_with_pointer(self, node, condition, left, right):
+    def arms_with_pointer(self, node, left, right):
+        """The arms of `?:` meet, a pointer among them; an integer arm whose type is given is no constant beside it."""
         are_two = left.is_pointer() and right.is_pointer()
         if pairs.are_incompatible(left, right):
             self.found.fails("A3", node.at, left.type, right.type, word=b"conditional")
@@ -415,8 +428,7 @@ class Expressions:
             self.found.fails("N1", node.at)
         elif not self.can_be_compared(left, right):
             return self.found.breaks(4, node.at)
-        of = self.arms_joined(left, right)
-        return Fact(of, constant=kept(chosen(condition, left, right), of, False) if of.form == "integer" else None)
+        return Fact(self.arms_joined(left, right))
 
     # Assignments
 

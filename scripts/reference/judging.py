@@ -100,9 +100,10 @@ class Judge:
     """Goes over a unit once, from its first token to its last one."""
 
     rows = Expressions
+    notes = Found
 
     def __init__(self):
-        self.found = Found()
+        self.found = self.notes()
         self.expressions = self.rows(self.found, self)
         # Declarators by their tokens; the types of those with linkage by their names; the typedefs of each open scope
         self.declared = {}
@@ -242,31 +243,34 @@ class Judge:
         name = declarator.name
         self.found.names.setdefault(node.at, name)
         if has(specifiers, "TypedefSpecifier"):
-            self.declared[declarator.at] = Declared(of, None, False)
-            first = self.typedefs[-1].setdefault(name, of)
-            if None not in (first, of) and first is not of:
-                self.found.breaks(41, declarator.at, name)
+            self.declared[declarator.at] = Declared(of and self.typedef(declarator, of), None, False)
             return
         is_function = of is not None and of.form == "function"
         is_linked = is_file or has(specifiers, "ExternSpecifier") or is_function
         self.declared[declarator.at] = Declared(of, name if is_linked else None, has(specifiers, "RegisterSpecifier"))
-        if is_linked:
+        if is_linked and of is not None:
             self.link(declarator, of)
+
+    def typedef(self, declarator, of):
+        """The type of a typedef, or None where the first of its name in the scope has another one."""
+        if self.typedefs[-1].setdefault(declarator.name, of) is of:
+            return of
+        return self.found.breaks(41, declarator.at, declarator.name)
 
     def link(self, declarator, of):
         """A name with linkage is declared, perhaps again."""
         earlier = self.linked.setdefault(declarator.name, [])
-        other = next((each for each in earlier if None not in (each, of) and not types.agree(each, of)), None)
+        other = next((each for each in earlier if not types.agree(each, of)), None)
         if other is not None:
             self.found.fails("A7", declarator.at, other, of, word=declarator.name)
         earlier.append(of)
 
     def type_of_linked(self, name):
-        """The type of the first declaration so far, with a length that a later one has."""
+        """The type of the first declaration so far that is known, with a length that a later one has."""
         first, *later = self.linked[name]
-        if first is None or first.form != "array" or first.length is not None:
+        if first.form != "array" or first.length is not None:
             return first
-        lengths = [each.length for each in later if each is not None and each.form == "array" and types.agree(first, each)]
+        lengths = [each.length for each in later if each.form == "array" and types.agree(first, each)]
         return types.array(first.inner, next((length for length in lengths if length is not None), None))
 
     def named(self, node):
@@ -274,8 +278,10 @@ class Judge:
         declared = self.declared.get(node.number)
         if declared is None:
             raise NotBuilt("an enumerator")
+        if declared.type is None:
+            return None
         of = declared.type if declared.linked is None else self.type_of_linked(declared.linked)
-        return of and Fact(of, is_place=True, register=declared.register)
+        return Fact(of, is_place=True, register=declared.register)
 
     # Statements
 
@@ -331,15 +337,23 @@ def has(specifiers, kind):
     return any(part.kind == kind for _, part in specifiers.parts)
 
 
-def judged(unit, classes):
-    """The status of what the judge says of a preprocessed unit, and its lines."""
+def parse_refusal(unit):
+    """The status and the line with which parsing refuses a preprocessed unit, or None."""
     try:
         refused = reading.refusal(unit.tokens)
     except Passed as passed:
         return LIMIT, b"ksparse: limit: %b\n" % passed.args[0]
+    if refused is None:
+        return None
+    at, text = refused
+    return REFUSED, line(unit.paths, unit.tokens[at].place, text.encode("latin-1"))
+
+
+def judged(unit, classes):
+    """The status of what the judge says of a preprocessed unit, and its lines."""
+    refused = parse_refusal(unit)
     if refused is not None:
-        at, text = refused
-        return REFUSED, line(unit.paths, unit.tokens[at].place, text.encode("latin-1"))
+        return refused
     builder = Indexed(unit.tokens)
     found = Judge().unit(builder.unit())
     refusal = found.refusal()
@@ -353,6 +367,19 @@ def judged(unit, classes):
     return WARNED if shown else CLEAN, b"".join(line(unit.paths, *each) for each in shown)
 
 
+def preprocessing_refusal(unit, path):
+    """Preprocesses a unit; the status and the line with which that refuses it, or None."""
+    try:
+        unit.preprocess(path)
+    except Refusal as refusal:
+        return REFUSED, line(unit.paths, *refusal.args)
+    except NoSuchFile as missing:
+        return REFUSED, b"ksparse: error[1]: no such file: %b\n" % missing.args[0]
+    except Passed as passed:
+        return LIMIT, b"ksparse: limit: %b\n" % passed.args[0]
+    return None
+
+
 def answer(words, files):
     """What `judged` writes to standard output and to standard error for these words, and its status. Raises `NotBuilt` where
     this reader says nothing of the unit."""
@@ -361,15 +388,7 @@ def answer(words, files):
     except BadWord:
         command = None
     if command is None or command.file is None or command.expands:
-        return b"", b"usage: judged WORDS FILE\n", USAGE
+        return b"", b"usage: judged WORDS FILE | judged -types FILE\n", USAGE
     unit = Unit(files, command.directories, command.lines)
-    try:
-        unit.preprocess(command.file)
-    except Refusal as refusal:
-        return b"", line(unit.paths, *refusal.args), REFUSED
-    except NoSuchFile as missing:
-        return b"", b"ksparse: error[1]: no such file: %b\n" % missing.args[0], REFUSED
-    except Passed as passed:
-        return b"", b"ksparse: limit: %b\n" % passed.args[0], LIMIT
-    status, err = judged(unit, command.classes)
+    status, err = preprocessing_refusal(unit, command.file) or judged(unit, command.classes)
     return b"", err, status

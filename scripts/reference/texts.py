@@ -34,6 +34,11 @@ CONSTRAINTS = {
 }
 
 
+def constraint_text(number, name):
+    text = CONSTRAINTS[number]
+    return b"error[%d]: %b" % (60 + number, text % name if b"%b" in text else text)
+
+
 class Failure(NamedTuple):
     """A rule that fails at a token: what its text says besides, and the types that it names."""
 
@@ -86,8 +91,7 @@ class Found:
             return None, b"object size"
         if token is None:
             return None
-        text = CONSTRAINTS[number]
-        return token, b"error[%d]: %b" % (60 + number, text % name if b"%b" in text else text)
+        return token, constraint_text(number, name)
 
     def lines(self, tokens, classes):
         """The place and the text of each line of the failures whose classes are on, in order."""

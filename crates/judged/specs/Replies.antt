@@ -1,15 +1,15 @@
 -- What is written of the tokens of a unit.
 use Rattle.std.specs.Prelude.{◌≡◌, ◌⊎◌, ◌^◌, ◌-◌, ℕ, List, [], ◌∷◌, map, slice_get, unwrap_or}
 use Rattle.vocabulary.specs.declared.class.Class.{Class}
-use Rattle.vocabulary.specs.declared.limit.LimitKind.TheVariants.{ObjectSize}
 use Rattle.meaning_tree.specs.Nodes.{NodeList}
 use Rattle.meaning_typing.specs.Units.{UnitNodes}
 use Rattle.meaning_operands.specs.Failures.{Failure}
+use Rattle.meaning_warnings.specs.Errors.{error_lines}
 use Rattle.meaning_warnings.specs.Listing.{unit_lines}
 use Rattle.meaning_warnings.specs.Places.{ShownUnit, begins_at}
 use Rattle.meaning_answer.specs.Answers.{TellsRefusal}
-use Rattle.meaning_answer.specs.Lines.{error_reply, limit_reply}
-use Rattle.meaning_answer.specs.Reply.{Reply, Ending, Clean, Warned}
+use Rattle.meaning_answer.specs.Lines.{limit_reply}
+use Rattle.meaning_answer.specs.Reply.{Reply, Ending, Clean, Refused, Warned}
 use Rattle.sparse_model.specs.declared.ids.NameId.{NameId}
 use Rattle.c_tokens.specs.Seen.{text_of, toks_of}
 use Rattle.c_types.specs.Table.{TypeTable}
@@ -31,11 +31,16 @@ use Rattle.ksparse.specs.Written.{paths_of}
 abbrev pub path_id : List NameId → ℕ → NameId
 path_id files file = unwrap_or (slice_get files file) (record { 0 = 2 ^ 32 - 1 })
 
--- the line of the constraint that it breaks, with the word that its text names
+-- the line of a constraint, with the word that its text names
+abbrev pub constraint_line : List (List ℕ) → UnitTokens → Broken → List ℕ
+constraint_line names toks broken =
+    let at = begins_at (slice_get (toks_of names toks.tokens) broken.token) in
+    error_lines broken.constraint (text_of names (path_id toks.files at.file)) at (text_of names broken.name)
+
+-- the line of the constraint that it breaks
 abbrev pub constraint_reply : List (List ℕ) → UnitTokens → Broken → Reply
 constraint_reply names toks broken =
-    let at = begins_at (slice_get (toks_of names toks.tokens) broken.token) in
-    error_reply broken.constraint (text_of names (path_id toks.files at.file)) at (text_of names broken.name)
+    record { out = []; err = constraint_line names toks broken; ending = Refused }
 
 -- the line of what it is refused for; of want of memory there is none
 abbrev pub TellsJudgeFault : List (List ℕ) → UnitTokens → JudgeFault → Reply → Type 0

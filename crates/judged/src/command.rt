@@ -2,16 +2,18 @@
 ghost use Rattle.std.specs.Prelude.{◌≡◌, IsErrOf};
 ghost use Rattle.meaning_outside.specs.Faults.{Told};
 
+use crate::types::type_tokens;
 use crate::unit::judge_tokens;
 use c_preproc::preprocess;
 use c_tokens::Names;
 use ksparse::{Command, Exit, Stop, WordFault, Written, deliver, read_words, tell_stop};
-use sparse_model::Options;
+use sparse_model::{Bytes, ClassSet, Options, PathList};
 use sparse_outside::{Files, Sink, Words};
 use std::alloc::Global;
 
 /// Writes to `err` what the judge says of the file that the words name, which are those of the checker's command; or the
-/// line for which it isn't judged. Says how it ended as the checker does.
+/// line for which it isn't judged. Behind the word `-types` stands a file alone, and the types of its expressions are written
+/// to `out`. Says how it ended as the checker does.
 pub fn judged<F: Files, O: Sink, E: Sink>(
     alloc: Global,
     words: &Words,
@@ -41,12 +43,45 @@ pub fn answer<F: Files>(alloc: Global, words: &Words, files: &mut F) -> Result<W
     ensures read { Told (F.faults files.old) (F.faults files.new) (IsErrOf result Stop.ReadFault) }
     ensures keeps { F.holds files.new ≡ F.holds files.old }
 {
+    if let Some(path) = typed_file(words) {
+        return type_file(alloc, path, files);
+    }
     match read_words(alloc, words) {
         Ok(Command::Check { options, file }) => judge_file(alloc, &options, file.as_slice(), files),
         Err(WordFault::Memory) => Err(Stop::NoMemory),
         Ok(Command::Expand { .. }) | Err(_) => {
-            Ok(Written::line(alloc, Exit::Usage, b"usage: ", b"judged WORDS FILE")?)
+            Ok(Written::line(
+                alloc,
+                Exit::Usage,
+                b"usage: ",
+                b"judged WORDS FILE | judged -types FILE",
+            )?)
         }
+    }
+}
+
+// The path of the file whose types the words ask for.
+fn typed_file(words: &Words) -> Option<&[u8]> {
+    match (words.get(0), words.get(1)) {
+        (Some(word), Some(path)) if words.len() == 2 && word == b"-types".as_slice() => Some(path),
+        _ => None,
+    }
+}
+
+// What is written of the types of the file at this path, without directories or definitions from words.
+fn type_file<F: Files>(alloc: Global, path: &[u8], files: &mut F) -> Result<Written, Stop>
+    ensures read { Told (F.faults files.old) (F.faults files.new) (IsErrOf result Stop.ReadFault) }
+    ensures keeps { F.holds files.new ≡ F.holds files.old }
+{
+    let options = Options {
+        dirs: PathList::new(alloc),
+        commands: Bytes::new(alloc),
+        classes: ClassSet::new(alloc),
+    };
+    let mut names = Names::new(alloc)?;
+    match preprocess(alloc, &options, files, &mut names, path) {
+        Ok(toks) => Ok(type_tokens(alloc, &names, &toks)?),
+        Err(fault) => tell_stop(alloc, &names, fault),
     }
 }
 

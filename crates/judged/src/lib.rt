@@ -2,12 +2,16 @@
 //!
 //! A file is preprocessed, parsed and judged, and the constraint that it breaks is written, or the warnings of its rules whose
 //! classes are on, in the checker's own texts (`specs/Replies.antt`). A file that isn't judged is told as the checker tells
-//! it. Start reading at [`judged`](command).
+//! it. For developers the types of a file's expressions are shown too (`specs/Types.antt`): each is judged by itself, whatever
+//! the others break. Start reading at [`judged`](command).
 #![tactic(auto)]
 
 mod command;
+mod lines;
 mod places;
+mod types;
 mod unit;
 
 pub use command::{answer, judged};
+pub use types::{Source, type_tokens};
 pub use unit::judge_tokens;

@@ -8,7 +8,7 @@ ghost use Rattle.ksparse.specs.Written.{reply_seen};
 ghost use Rattle.meaning_warnings.specs.Listing.{AreOrdered};
 ghost use Rattle.judged.specs.Replies.{IsJudgedReply, WarnsOfListing, TellsJudgeFault, TellsJudgement, constraint_reply, ending_behind, listing_shown};
 
-use crate::places::{path_id, place_of};
+use crate::places::constraint_text;
 use c_parse::parse;
 use c_preproc::UnitTokens;
 use c_tokens::Names;
@@ -17,7 +17,7 @@ use ksparse::{Exit, Written, tell_fault};
 use sparse_model::ClassSet;
 use std::alloc::{AllocError, Global};
 use type_judge::{Broken, JudgeFault, Judged, judge};
-use warn_print::{Show, error_text, print_all};
+use warn_print::{Show, print_all};
 
 /// What is written of the tokens of a unit: what the judge says of the tree that they derive, with the warnings of the classes
 /// that are on, or the line of their refusal.
@@ -117,11 +117,9 @@ fn constraint(
 ) -> Result<Written, AllocError>
     ensures { IfOk result (λ written. reply_seen written ≡ constraint_reply names.now toks.now broken) }
 {
-    let place = place_of(&toks.tokens, broken.token);
-    let path = path_id(&toks.files, place.file);
     Ok(Written {
         out: Vec::new(alloc),
-        err: error_text(alloc, names, path, broken.constraint, place, broken.name)?,
+        err: constraint_text(alloc, names, toks, broken)?,
         exit: Exit::Refused,
     })
 }

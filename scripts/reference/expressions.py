@@ -152,9 +152,10 @@ class Expressions:
         fact = self.value(callee, is_evaluated)
         arguments = [argument for _, argument in arguments]
         values = [self.value(argument, is_evaluated) for argument in arguments]
-        has_voids = self.has_voids(arguments, values)
         if fact is None:
+            # what isn't known asks nothing of its arguments
             return None
+        has_voids = self.has_voids(arguments, values)
         is_used = self.used(callee, fact)
         if not is_used or not fact.type.is_pointer_to("function"):
             return self.found.breaks(5, node.at)

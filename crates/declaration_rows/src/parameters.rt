@@ -67,28 +67,43 @@ pub fn parameter_broken(
     }
 }
 
-fn last_child(children: &TagList, otherwise: Handle) -> Handle
-    ensures { result ≡ meaning.last_part (handles_of children.now) otherwise }
+// Attributes in parentheses leave the part of a declarator around which they stand what it is without them.
+fn are_around_part(kind: NodeKind) -> bool
+    ensures { result ≡ meaning.are_around_part kind }
 {
-    match children.iter().next_back() {
-        Some((last, _)) => last,
-        None => otherwise,
+    match kind {
+        NodeKind::ParenthesizedAttributes => true,
+        _ => false,
     }
 }
 
-// The last part of a node; where there is none, a handle that no node has.
-fn last_part(unit: &Unit, handle: Handle) -> Handle
+// The part directly at the name; where there is none, a handle that no node has. It takes a step for each of such attributes.
+fn part_at_name(unit: &Unit, parts: &TagList) -> Handle
     requires { unit.now.first ≡ 0 }
-    ensures { result ≡ meaning.last_part (children_at (nodes_of unit.now) handle) (length (nodes_of unit.now)) }
+    ensures { result ≡ meaning.part_at_name (nodes_of unit.now) (handles_of parts.now) (length (nodes_of unit.now)) }
 {
-    match node_at(unit, handle) {
-        Some(node) => last_child(&node.children, unit.len()),
+    let mut rest = parts.iter();
+    'parts: while let Some((part, _)) = rest.next_back() {
+        if !are_around_part(kind_at(unit, part)) {
+            return part;
+        }
+    }
+    unit.len()
+}
+
+// The same of a declarator.
+fn part_at_name_of(unit: &Unit, declarator: Handle) -> Handle
+    requires { unit.now.first ≡ 0 }
+    ensures { result ≡ meaning.part_at_name (nodes_of unit.now) (children_at (nodes_of unit.now) declarator) (length (nodes_of unit.now)) }
+{
+    match node_at(unit, declarator) {
+        Some(node) => part_at_name(unit, &node.children),
         None => unit.len(),
     }
 }
 
-/// Whether a list of parameters is that of a function that is defined: its last part, directly behind the name (6.9.1 p5). It takes
-/// a few steps.
+/// Whether a list of parameters is that of a function that is defined: the part directly behind its name (6.9.1 p5). It takes a
+/// step for each list of attributes in parentheses behind it.
 pub fn is_list_of_body(unit: &Unit, surroundings: &Surroundings, list: Handle) -> bool
     requires whole { unit.now.first ≡ 0 }
     requires surroundings { length surroundings.now ≡ length unit.now.nodes }
@@ -96,7 +111,7 @@ pub fn is_list_of_body(unit: &Unit, surroundings: &Surroundings, list: Handle) -
 {
     let declarator = standing_at(unit, surroundings, list).parent;
     let above = standing_at(unit, surroundings, declarator).parent;
-    is_definition_kind(kind_at(unit, above)) && last_part(unit, declarator) == list
+    is_definition_kind(kind_at(unit, above)) && part_at_name_of(unit, declarator) == list
 }
 
 fn parameter_token(unit: &Unit, parameter: Handle) -> u32

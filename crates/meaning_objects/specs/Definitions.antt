@@ -7,7 +7,7 @@ use Rattle.meaning_typing.specs.Units.{UnitNodes, kind_at, children_at, child_at
 use Rattle.meaning_typing.specs.Surroundings.{Surrounding}
 use Rattle.meaning_typing.specs.Facts.{Fact, Declared}
 use Rattle.meaning_typing.specs.Declarators.{has_declarator, is_void_list}
-use Rattle.meaning_typing.specs.DeclarationRows.{defines}
+use Rattle.meaning_typing.specs.DeclarationRows.{defines, part_at_name}
 use Rattle.meaning_objects.specs.Objects.{are_one_object, handle_if}
 
 -- Definitions: the declarator behind which a body or an initializer stands
@@ -27,16 +27,6 @@ abbrev pub definition_of : UnitNodes → List Surrounding → List Fact → (obj
 definition_of nodes surroundings facts object = first_definition nodes facts object 0 surroundings facts
 
 -- Parameters
-
--- attributes in parentheses around a part of a declarator leave it what it is without them
-abbrev pub part_or : NodeKind → (part otherwise : ℕ) → ℕ
-part_or kinds.ParenthesizedAttributes part otherwise = otherwise
-part_or kind part otherwise = part
-
--- the part directly at the name, the last one
-abbrev pub part_at_name : UnitNodes → (parts : List ℕ) → (otherwise : ℕ) → ℕ
-part_at_name nodes [] otherwise = otherwise
-part_at_name nodes (part ∷ parts) otherwise = part_at_name nodes parts (part_or (kind_at nodes part) part otherwise)
 
 -- a parameter goes by its declarator, or by its own handle without one; `...` is none
 abbrev pub parameter_by_kind : UnitNodes → NodeKind → (parameter : ℕ) → List ℕ

@@ -7,7 +7,7 @@ use Rattle.vocabulary.specs.declared.node_kind.NodeKind.{NodeKind}
 use Rattle.vocabulary.specs.declared.node_kind.NodeKind.TheVariants as kinds
 use Rattle.meaning_operands.specs.Failures.{Broken}
 use Rattle.meaning_typing.specs.Units.{UnitNodes, node_at, kind_at, children_at, child_at}
-use Rattle.meaning_typing.specs.Surroundings.{Surrounding, Want, ForValue, ForEffect}
+use Rattle.meaning_typing.specs.Surroundings.{Surrounding}
 use Rattle.meaning_typing.specs.Facts.{Fact, Unknown}
 use Rattle.meaning_typing.specs.Rows.{Row, nothing, breaks, breaks_at, breaks_named}
 use Rattle.meaning_typing.specs.Statements.{result_around}
@@ -15,18 +15,6 @@ use Rattle.meaning_typing.specs.Typing.{first_fact, part_fact, part_token, token
 use Rattle.meaning_statements.specs.Above.{enters_expression, leads_into}
 use Rattle.meaning_statements.specs.Jumps.{SeenGoto, SeenLabel, first_named, function_left, gotos_before, label_in, labels_before, loop_continued, owner_of, statement_left, switch_of}
 use Rattle.meaning_statements.specs.Statements.{case_row, condition_row, default_row, do_row, jump_row, label_row, number_of_label, switch_row, whole_return_row}
-
--- What is wanted of the parts of a statement: of conditions, and of the parts of `for`, the value
-
-abbrev pub statement_want : NodeKind → (place : ℕ) → Want
-statement_want kinds.IfStatement zero = ForValue
-statement_want kinds.SwitchStatement zero = ForValue
-statement_want kinds.WhileStatement zero = ForValue
-statement_want kinds.DoStatement (suc zero) = ForValue
-statement_want kinds.ForStatement (suc (suc (suc place))) = ForEffect
-statement_want kinds.ForStatement place = ForValue
-statement_want kinds.CaseStatement zero = ForValue
-statement_want kind place = ForEffect
 
 -- Labels of switches
 

@@ -185,15 +185,21 @@ unit_end_broken told nodes surroundings facts (suc count) =
 
 -- Parameters
 
--- the list directly behind the name of a function that is defined: its last part (6.9.1 p5)
-abbrev pub last_part : (parts : List ℕ) → (otherwise : ℕ) → ℕ
-last_part [] otherwise = otherwise
-last_part (part ∷ parts) otherwise = last_part parts part
+-- attributes in parentheses around a part of a declarator leave it what it is without them
+abbrev pub are_around_part : NodeKind → Bool
+are_around_part kinds.ParenthesizedAttributes = true
+are_around_part kind = false
 
+-- the part directly at the name, the last one
+abbrev pub part_at_name : UnitNodes → (parts : List ℕ) → (otherwise : ℕ) → ℕ
+part_at_name nodes [] otherwise = otherwise
+part_at_name nodes (part ∷ parts) otherwise = part_at_name nodes parts (if are_around_part (kind_at nodes part) then otherwise else part)
+
+-- the list directly behind the name of a function that is defined (6.9.1 p5)
 abbrev pub is_list_of_body : UnitNodes → List Surrounding → (list : ℕ) → Bool
 is_list_of_body nodes surroundings list =
     is_definition_kind (kind_at nodes (surrounding_at surroundings (surrounding_at surroundings list).parent).parent)
-    && nat_eq (last_part (children_at nodes (surrounding_at surroundings list).parent) (length nodes)) list
+    && nat_eq (part_at_name nodes (children_at nodes (surrounding_at surroundings list).parent) (length nodes)) list
 
 abbrev pub parameter_token : UnitNodes → (parameter : ℕ) → NodeKind → (declarator : ℕ) → ℕ
 parameter_token nodes parameter kinds.Declarator declarator = (node_at nodes declarator).token

@@ -1,8 +1,8 @@
 -- What a node stands in: what is wanted of it, whether it is evaluated, and who is around it. All of it comes down from the
 -- node above.
-use Rattle.std.specs.Prelude.{◌≡◌, ℕ, zero, suc, ◌-◌, ◌<◌, Bool, true, false, ◌&&◌, List, length, get_or, slice_get, Option, Some, None, if◌then◌else◌}
+use Rattle.std.specs.Prelude.{◌≡◌, ℕ, zero, suc, ◌-◌, ◌<◌, nat_lt, Bool, true, false, ◌&&◌, List, length, get_or, slice_get, Option, Some, None, if◌then◌else◌}
 use Rattle.vocabulary.specs.declared.node_kind.NodeKind.{NodeKind}
-use Rattle.vocabulary.specs.declared.node_kind.NodeKind.TheVariants.{TranslationUnit, FunctionDefinition, TypeofExpression, ArrayDeclarator, FunctionDeclarator, CompoundStatement, ExpressionStatement, ReturnStatement, ForStatement, Subscript, Call, Address, Indirection, Parenthesized, Assignment}
+use Rattle.vocabulary.specs.declared.node_kind.NodeKind.TheVariants.{TranslationUnit, StaticAssertion, FunctionDefinition, TypeofExpression, BitFieldWidth, Enumerator, ArrayDeclarator, FunctionDeclarator, Initializer, InitializerItem, IndexDesignator, CompoundStatement, LabelStatement, CaseStatement, DefaultStatement, ExpressionStatement, IfStatement, SwitchStatement, WhileStatement, DoStatement, ForStatement, ReturnStatement, Parenthesized, Subscript, Call, Member, PointerMember, Address, Indirection, Assignment}
 use Rattle.vocabulary.specs.declared.role.Role.{Role}
 use Rattle.vocabulary.specs.declared.role.Role.TheVariants.{Evaluated, Condition, TypePart, Unevaluated}
 use Rattle.vocabulary.specs.Roles.{role_of}
@@ -48,22 +48,77 @@ wanted_by StatementsOperation place = ForEffect
 wanted_by NoOperation place = ForNothing
 wanted_by other place = ForValue
 
+-- What a node asks of its parts, by their places
+pub data Asking : Type 0 where
+  -- the value of each, the place that each designates, or what each does
+  AsksValues : Asking
+  AsksPlaces : Asking
+  AsksEffects : Asking
+  -- a value, and behind it what others do
+  AsksValueFirst : Asking
+  -- what a statement does, and behind it a value
+  AsksValueLast : Asking
+  -- a place to store to, and a value
+  AsksStoreFirst : Asking
+  -- three values, and what a statement does
+  AsksThreeValues : Asking
+  -- a value and nothing more
+  AsksOneValue : Asking
+  -- by what an operator does
+  AsksByOperation : Asking
+
+abbrev pub asking_of : NodeKind → Asking
+-- expressions whose kind has no operation (6.5.1, 6.5.2, 6.5.3.2, 6.5.16)
+asking_of Parenthesized = AsksPlaces
+asking_of Subscript = AsksValues
+asking_of Call = AsksValues
+asking_of Member = AsksPlaces
+asking_of PointerMember = AsksValues
+asking_of Address = AsksPlaces
+asking_of Indirection = AsksValues
+asking_of Assignment = AsksStoreFirst
+-- what stands in declarations (6.7): constants, and what an object begins with
+asking_of TypeofExpression = AsksPlaces
+asking_of ArrayDeclarator = AsksValues
+asking_of BitFieldWidth = AsksValues
+asking_of Enumerator = AsksValues
+asking_of StaticAssertion = AsksOneValue
+asking_of IndexDesignator = AsksValues
+asking_of Initializer = AsksValues
+asking_of InitializerItem = AsksValues
+-- statements (6.8, 6.9.1)
+asking_of FunctionDefinition = AsksEffects
+asking_of CompoundStatement = AsksEffects
+asking_of LabelStatement = AsksEffects
+asking_of CaseStatement = AsksValueFirst
+asking_of DefaultStatement = AsksEffects
+asking_of ExpressionStatement = AsksValues
+asking_of IfStatement = AsksValueFirst
+asking_of SwitchStatement = AsksValueFirst
+asking_of WhileStatement = AsksValueFirst
+asking_of DoStatement = AsksValueLast
+asking_of ForStatement = AsksThreeValues
+asking_of ReturnStatement = AsksValues
+asking_of kind = AsksByOperation
+
+abbrev pub wanted_so : Asking → Operation → (place : ℕ) → Want
+wanted_so AsksValues by place = ForValue
+wanted_so AsksPlaces by place = ForPlace
+wanted_so AsksEffects by place = ForEffect
+wanted_so AsksValueFirst by zero = ForValue
+wanted_so AsksValueFirst by (suc place) = ForEffect
+wanted_so AsksValueLast by zero = ForEffect
+wanted_so AsksValueLast by (suc place) = ForValue
+wanted_so AsksStoreFirst by zero = ForStore
+wanted_so AsksStoreFirst by (suc place) = ForValue
+wanted_so AsksThreeValues by place = if nat_lt place 3 then ForValue else ForEffect
+wanted_so AsksOneValue by zero = ForValue
+wanted_so AsksOneValue by (suc place) = ForNothing
+wanted_so AsksByOperation by place = wanted_by by place
+
 -- by the kind of the node above and the place among its parts
 abbrev pub want_of : NodeKind → (place : ℕ) → Want
-want_of FunctionDefinition place = ForEffect
-want_of CompoundStatement place = ForEffect
-want_of ExpressionStatement place = ForValue
-want_of ReturnStatement place = ForValue
-want_of Subscript place = ForValue
-want_of Call place = ForValue
-want_of Address place = ForPlace
-want_of Indirection place = ForValue
-want_of Assignment zero = ForStore
-want_of Assignment (suc place) = ForValue
-want_of Parenthesized place = ForPlace
-want_of ArrayDeclarator place = ForValue
-want_of TypeofExpression place = ForPlace
-want_of kind place = wanted_by (operation_of kind) place
+want_of kind place = wanted_so (asking_of kind) (operation_of kind) place
 
 -- a part of a type is written only
 abbrev pub wanted : NodeKind → (place : ℕ) → Role → Want

@@ -6,6 +6,8 @@ use Rattle.meaning_tree.specs.Listed.{renamed_node}
 use Rattle.meaning_typing.specs.Units.{UnitNodes}
 use Rattle.meaning_typing.specs.Operations as operations
 use Rattle.meaning_typing.specs.Surroundings as meaning
+use Rattle.node_surroundings.specs.declared.asking.Asking.{Asking}
+use Rattle.node_surroundings.specs.declared.asking.Asking.TheVariants as askings
 use Rattle.node_surroundings.specs.declared.operation.Operation.{Operation}
 use Rattle.node_surroundings.specs.declared.operation.Operation.TheVariants as seen
 use Rattle.node_surroundings.specs.declared.surrounding.Want.{Want}
@@ -19,6 +21,17 @@ want_seen wants.ForStore = meaning.ForStore
 want_seen wants.ForPlace = meaning.ForPlace
 want_seen wants.ForEffect = meaning.ForEffect
 want_seen wants.ForNothing = meaning.ForNothing
+
+abbrev pub asking_seen : Asking → meaning.Asking
+asking_seen askings.Values = meaning.AsksValues
+asking_seen askings.Places = meaning.AsksPlaces
+asking_seen askings.Effects = meaning.AsksEffects
+asking_seen askings.ValueFirst = meaning.AsksValueFirst
+asking_seen askings.ValueLast = meaning.AsksValueLast
+asking_seen askings.StoreFirst = meaning.AsksStoreFirst
+asking_seen askings.ThreeValues = meaning.AsksThreeValues
+asking_seen askings.OneValue = meaning.AsksOneValue
+asking_seen askings.ByOperation = meaning.AsksByOperation
 
 abbrev pub operation_seen : Operation → operations.Operation
 operation_seen (seen.StepBehind operator) = operations.StepBehind operator

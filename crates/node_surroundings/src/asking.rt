@@ -1,17 +1,30 @@
 // What a node asks of a part, by its kind and by the place and the role of the part.
 ghost use Rattle.std.specs.Prelude.{◌≡◌};
-ghost use Rattle.vocabulary.specs.declared.node_kind.NodeKind.TheVariants as kinds;
 ghost use Rattle.vocabulary.specs.declared.operator.Operator.{Operator};
 ghost use Rattle.vocabulary.specs.declared.role.Role.TheVariants as parts;
 ghost use Rattle.vocabulary.specs.Roles as roles;
 ghost use Rattle.meaning_typing.specs.Operations as operations;
 ghost use Rattle.meaning_typing.specs.Surroundings as meaning;
-ghost use Rattle.node_surroundings.specs.Seen.{around_seen, operation_seen, surrounding_seen, want_seen};
+ghost use Rattle.node_surroundings.specs.Seen.{around_seen, asking_seen, operation_seen, surrounding_seen, want_seen};
 
 use crate::operation::{Operation, operation_of};
 use crate::surrounding::{Around, Surrounding, Want};
 use c_tree::Handle;
 use sparse_model::{NodeKind, Role};
+
+// What a node asks of its parts, by their places.
+#[derive(Clone, Copy)]
+enum Asking {
+    Values,
+    Places,
+    Effects,
+    ValueFirst,
+    ValueLast,
+    StoreFirst,
+    ThreeValues,
+    OneValue,
+    ByOperation,
+}
 
 /// The role that a tag keeps.
 pub fn role_of(tag: u8) -> Role
@@ -26,13 +39,54 @@ pub fn role_of(tag: u8) -> Role
 }
 
 // The left side of an assignment is stored to (C11 6.5.16 p3).
-fn want_of_side(place: u32) -> Want
-    ensures simple { want_seen result ≡ meaning.want_of kinds.Assignment place }
+fn store_first(place: u32) -> Want
+    ensures simple { (operation : operations.Operation) → want_seen result ≡ meaning.wanted_so meaning.AsksStoreFirst operation place }
     ensures compound { (operator : Operator) → want_seen result ≡ meaning.wanted_by (operations.CompoundOperation operator) place }
 {
     match place {
         0 => Want::ForStore,
         _ => Want::ForValue,
+    }
+}
+
+// A condition, and behind it what is done by it.
+fn value_first(place: u32) -> Want
+    ensures { (operation : operations.Operation) → want_seen result ≡ meaning.wanted_so meaning.AsksValueFirst operation place }
+{
+    match place {
+        0 => Want::ForValue,
+        _ => Want::ForEffect,
+    }
+}
+
+// A body, and behind it the condition.
+fn value_last(place: u32) -> Want
+    ensures { (operation : operations.Operation) → want_seen result ≡ meaning.wanted_so meaning.AsksValueLast operation place }
+{
+    match place {
+        0 => Want::ForEffect,
+        _ => Want::ForValue,
+    }
+}
+
+// The parts of `for`, and its body.
+fn three_values(place: u32) -> Want
+    ensures { (operation : operations.Operation) → want_seen result ≡ meaning.wanted_so meaning.AsksThreeValues operation place }
+{
+    if place < 3 {
+        Want::ForValue
+    } else {
+        Want::ForEffect
+    }
+}
+
+// A condition, and what is only written behind it.
+fn one_value(place: u32) -> Want
+    ensures { (operation : operations.Operation) → want_seen result ≡ meaning.wanted_so meaning.AsksOneValue operation place }
+{
+    match place {
+        0 => Want::ForValue,
+        _ => Want::ForNothing,
     }
 }
 
@@ -50,7 +104,7 @@ fn wanted_by(operation: Operation, place: u32) -> Want
         Operation::Binary(_) => Want::ForValue,
         Operation::Logical(_) => Want::ForValue,
         Operation::Conditional => Want::ForValue,
-        Operation::Compound(_) => want_of_side(place),
+        Operation::Compound(_) => store_first(place),
         Operation::Comma => Want::ForValue,
         Operation::Expect => Want::ForValue,
         Operation::Statements => Want::ForEffect,
@@ -58,24 +112,57 @@ fn wanted_by(operation: Operation, place: u32) -> Want
     }
 }
 
+// What a node of this kind asks of its parts, in the order of the grammar.
+fn asking_of(kind: NodeKind) -> Asking
+    ensures { asking_seen result ≡ meaning.asking_of kind }
+{
+    match kind {
+        NodeKind::Parenthesized => Asking::Places,
+        NodeKind::Subscript => Asking::Values,
+        NodeKind::Call => Asking::Values,
+        NodeKind::Member => Asking::Places,
+        NodeKind::PointerMember => Asking::Values,
+        NodeKind::Address => Asking::Places,
+        NodeKind::Indirection => Asking::Values,
+        NodeKind::Assignment => Asking::StoreFirst,
+        NodeKind::TypeofExpression => Asking::Places,
+        NodeKind::ArrayDeclarator => Asking::Values,
+        NodeKind::BitFieldWidth => Asking::Values,
+        NodeKind::Enumerator => Asking::Values,
+        NodeKind::StaticAssertion => Asking::OneValue,
+        NodeKind::IndexDesignator => Asking::Values,
+        NodeKind::Initializer => Asking::Values,
+        NodeKind::InitializerItem => Asking::Values,
+        NodeKind::FunctionDefinition => Asking::Effects,
+        NodeKind::CompoundStatement => Asking::Effects,
+        NodeKind::LabelStatement => Asking::Effects,
+        NodeKind::CaseStatement => Asking::ValueFirst,
+        NodeKind::DefaultStatement => Asking::Effects,
+        NodeKind::ExpressionStatement => Asking::Values,
+        NodeKind::IfStatement => Asking::ValueFirst,
+        NodeKind::SwitchStatement => Asking::ValueFirst,
+        NodeKind::WhileStatement => Asking::ValueFirst,
+        NodeKind::DoStatement => Asking::ValueLast,
+        NodeKind::ForStatement => Asking::ThreeValues,
+        NodeKind::ReturnStatement => Asking::Values,
+        _ => Asking::ByOperation,
+    }
+}
+
 // What is wanted of the part at this place, unless that is part of a type.
 fn want_of(kind: NodeKind, place: u32) -> Want
     ensures { want_seen result ≡ meaning.want_of kind place }
 {
-    match kind {
-        NodeKind::FunctionDefinition => Want::ForEffect,
-        NodeKind::CompoundStatement => Want::ForEffect,
-        NodeKind::ExpressionStatement => Want::ForValue,
-        NodeKind::ReturnStatement => Want::ForValue,
-        NodeKind::Subscript => Want::ForValue,
-        NodeKind::Call => Want::ForValue,
-        NodeKind::Address => Want::ForPlace,
-        NodeKind::Indirection => Want::ForValue,
-        NodeKind::Assignment => want_of_side(place),
-        NodeKind::Parenthesized => Want::ForPlace,
-        NodeKind::ArrayDeclarator => Want::ForValue,
-        NodeKind::TypeofExpression => Want::ForPlace,
-        _ => wanted_by(operation_of(kind), place),
+    match asking_of(kind) {
+        Asking::Values => Want::ForValue,
+        Asking::Places => Want::ForPlace,
+        Asking::Effects => Want::ForEffect,
+        Asking::ValueFirst => value_first(place),
+        Asking::ValueLast => value_last(place),
+        Asking::StoreFirst => store_first(place),
+        Asking::ThreeValues => three_values(place),
+        Asking::OneValue => one_value(place),
+        Asking::ByOperation => wanted_by(operation_of(kind), place),
     }
 }
 

@@ -11,7 +11,7 @@ use Rattle.meaning_typing.specs.Rows.{Row, breaks, breaks_at, nothing}
 use Rattle.meaning_typing.specs.examples.Drawn.{int}
 use Rattle.meaning_typing.specs.examples.Values.{be32, c, fouled_h, h, i, l, le16, le32, long, names, none, null_pointer, number, p, r, shows, t, ui, void, void_value, x, zero}
 use Rattle.meaning_statements.specs.Statements.{case_row, condition_row, do_row, number_of_label, says, switch_row, whole_return_row}
-use Rattle.meaning_statements.specs.StatementRows.{statement_want}
+use Rattle.meaning_typing.specs.Surroundings.{want_of}
 
 abbrev pub tested : ExpressionFact → Row
 tested condition = condition_row 2 3 (Expression condition)
@@ -53,9 +53,9 @@ pub record ConditionExamples : Type 0 where
   pub both : repeats false fouled_h ≡ fails (names B5 le16 ∷ null_pointer S5 ∷ [])
   -- the conditions of `if` and `do` are wanted, and their bodies aren't
   pub wants :
-      (statement_want kinds.IfStatement 0 ≡ ForValue) × (statement_want kinds.IfStatement 1 ≡ ForEffect)
-      × (statement_want kinds.DoStatement 1 ≡ ForValue) × (statement_want kinds.DoStatement 0 ≡ ForEffect)
-      × (statement_want kinds.ForStatement 2 ≡ ForValue) × (statement_want kinds.ForStatement 3 ≡ ForEffect)
+      (want_of kinds.IfStatement 0 ≡ ForValue) × (want_of kinds.IfStatement 1 ≡ ForEffect)
+      × (want_of kinds.DoStatement 1 ≡ ForValue) × (want_of kinds.DoStatement 0 ≡ ForEffect)
+      × (want_of kinds.ForStatement 2 ≡ ForValue) × (want_of kinds.ForStatement 3 ≡ ForEffect)
 
 pub record SwitchValueExamples : Type 0 where
   -- a pointer, a structure, a void value; a char, a `_Bool`, a restricted value

@@ -1,37 +1,33 @@
--- What is wanted of an operand goes by what its operator does.
-use Rattle.std.proofs.Common.{◌≡◌, ℕ, refl, ap, ◌∙◌}
+-- What is wanted of a part goes by what its node asks.
+use Rattle.std.proofs.Common.{◌≡◌, ℕ, ap, sym, ◌∙◌}
 use Rattle.vocabulary.specs.declared.node_kind.NodeKind.{NodeKind}
-use Rattle.vocabulary.specs.declared.node_kind.NodeKind.TheVariants as kinds
 use Rattle.meaning_typing.specs.Operations.{operation_of}
-use Rattle.meaning_typing.specs.Surroundings.{want_of, wanted_by}
+use Rattle.meaning_typing.specs.Surroundings.{Asking, Want, asking_of, want_of, wanted_so}
+use Rattle.node_surroundings.specs.Seen.{asking_seen}
+use Rattle.node_surroundings.specs.declared.asking.Asking.{Asking as Asked}
 use Rattle.node_surroundings.proofs.asking.want_of.Goals as goal
 
-by_operation :
-    (kind : NodeKind) (place : ℕ) → (kind ≡ kinds.FunctionDefinition → ⊥) → (kind ≡ kinds.TypeofExpression → ⊥) → (kind ≡ kinds.ArrayDeclarator → ⊥)
-    → (kind ≡ kinds.CompoundStatement → ⊥) → (kind ≡ kinds.ExpressionStatement → ⊥) → (kind ≡ kinds.ReturnStatement → ⊥)
-    → (kind ≡ kinds.Parenthesized → ⊥) → (kind ≡ kinds.Subscript → ⊥) → (kind ≡ kinds.Call → ⊥) → (kind ≡ kinds.Address → ⊥)
-    → (kind ≡ kinds.Indirection → ⊥) → (kind ≡ kinds.Assignment → ⊥) → wanted_by (operation_of kind) place ≡ want_of kind place
-by_operation kinds.FunctionDefinition place definition type_ array body statement return inside subscript call address indirection assignment = absurd (definition refl)
-by_operation kinds.TypeofExpression place definition type_ array body statement return inside subscript call address indirection assignment = absurd (type_ refl)
-by_operation kinds.ArrayDeclarator place definition type_ array body statement return inside subscript call address indirection assignment = absurd (array refl)
-by_operation kinds.CompoundStatement place definition type_ array body statement return inside subscript call address indirection assignment = absurd (body refl)
-by_operation kinds.ExpressionStatement place definition type_ array body statement return inside subscript call address indirection assignment = absurd (statement refl)
-by_operation kinds.ReturnStatement place definition type_ array body statement return inside subscript call address indirection assignment = absurd (return refl)
-by_operation kinds.Parenthesized place definition type_ array body statement return inside subscript call address indirection assignment = absurd (inside refl)
-by_operation kinds.Subscript place definition type_ array body statement return inside subscript call address indirection assignment = absurd (subscript refl)
-by_operation kinds.Call place definition type_ array body statement return inside subscript call address indirection assignment = absurd (call refl)
-by_operation kinds.Address place definition type_ array body statement return inside subscript call address indirection assignment = absurd (address refl)
-by_operation kinds.Indirection place definition type_ array body statement return inside subscript call address indirection assignment = absurd (indirection refl)
-by_operation kinds.Assignment place definition type_ array body statement return inside subscript call address indirection assignment = absurd (assignment refl)
-by_operation kind place definition type_ array body statement return inside subscript call address indirection assignment = refl
+by_asking : (kind : NodeKind) (place : ℕ) (asked by : Asked) (want : Want) → asking_seen asked ≡ asking_of kind → asked ≡ by
+    → want ≡ wanted_so (asking_seen by) (operation_of kind) place → want ≡ want_of kind place
+by_asking kind place asked by want asks is wanted =
+    wanted ∙ ap (λ asking. wanted_so asking (operation_of kind) place) (sym (ap asking_seen is) ∙ asks)
 
-pub returns-in_default : goal.returns-in_default
-returns-in_default c =
-    let kind = c.args.kind in
-    let place = c.args.place in
-    let others = c.in_default in
-    c.wanted_by.ensures
-    ∙ ap (λ operation. wanted_by operation place) c.operation_of.ensures
-    ∙ by_operation kind place others.not-FunctionDefinition others.not-TypeofExpression others.not-ArrayDeclarator others.not-CompoundStatement
-    others.not-ExpressionStatement others.not-ReturnStatement others.not-Parenthesized others.not-Subscript others.not-Call others.not-Address
-    others.not-Indirection others.not-Assignment
+pub returns-in-ValueFirst : goal.returns-in-ValueFirst
+returns-in-ValueFirst c =
+    by_asking c.args.kind c.args.place c.asking_of.result _ _ c.asking_of.ensures c.in-ValueFirst.is (c.value_first.ensures (operation_of c.args.kind))
+
+pub returns-in-ValueLast : goal.returns-in-ValueLast
+returns-in-ValueLast c =
+    by_asking c.args.kind c.args.place c.asking_of.result _ _ c.asking_of.ensures c.in-ValueLast.is (c.value_last.ensures (operation_of c.args.kind))
+
+pub returns-in-StoreFirst : goal.returns-in-StoreFirst
+returns-in-StoreFirst c =
+    by_asking c.args.kind c.args.place c.asking_of.result _ _ c.asking_of.ensures c.in-StoreFirst.is (c.store_first.ensures.simple (operation_of c.args.kind))
+
+pub returns-in-ThreeValues : goal.returns-in-ThreeValues
+returns-in-ThreeValues c =
+    by_asking c.args.kind c.args.place c.asking_of.result _ _ c.asking_of.ensures c.in-ThreeValues.is (c.three_values.ensures (operation_of c.args.kind))
+
+pub returns-in-OneValue : goal.returns-in-OneValue
+returns-in-OneValue c =
+    by_asking c.args.kind c.args.place c.asking_of.result _ _ c.asking_of.ensures c.in-OneValue.is (c.one_value.ensures (operation_of c.args.kind))

@@ -40,7 +40,7 @@ pub struct Layouts {
 
 impl AggregateLayout {
     /// What a structure or a union takes.
-    fn extent(&self, is_union: bool) -> Result<Extent, LayoutFault>
+    pub fn extent(&self, is_union: bool) -> Result<Extent, LayoutFault>
         ensures { extent_seen result ≡ told_extent (Some (layout_kept self.now is_union)) }
     {
         if is_union {

@@ -5,8 +5,8 @@ ghost use Rattle.meaning_types.specs.Equality.{are_equal_flags, are_same};
 ghost use Rattle.meaning_types.specs.Composite.{composite};
 ghost use Rattle.meaning_operands.specs.Operands.{identity_of};
 ghost use Rattle.meaning_layout.specs.Members.{member_bits, tell_names};
-ghost use Rattle.meaning_layout.specs.Sizes.{extent_of};
-ghost use Rattle.meaning_layout.specs.Telling.{or_incomplete, tell};
+ghost use Rattle.meaning_layout.specs.Sizes.{extent_of, told_extent};
+ghost use Rattle.meaning_layout.specs.Telling.{layout_told, or_incomplete, tell};
 ghost use Rattle.c_types.specs.Layouts.{bit_in, bit_seen, body_seen, extent_seen, told_in};
 ghost use Rattle.c_types.specs.Levels.{BeginsWith};
 ghost use Rattle.c_types.specs.Members.{found_seen, member_declared, member_in, names_in};
@@ -300,6 +300,22 @@ impl Types {
         self.layouts.keep(aggregate, layout);
         self.members.keep(aggregate, names);
         Ok(())
+    }
+
+    /// The size and the alignment of a structure or a union that would have this body, or why it has none. The body isn't told. It
+    /// takes a step for each member.
+    pub fn body_extent(
+        &self,
+        body: &AggregateBody,
+        is_union: bool,
+    ) -> Result<Result<Extent, LayoutFault>, AllocError>
+        requires { IsBodyOver (types_in self.now) body.now }
+        ensures { IfOk result (λ extent. extent_seen extent ≡ told_extent (Some (layout_told (told_in self.now) (body_seen (types_in self.now) body.now) is_union))) }
+    {
+        let layout = self
+            .layouts
+            .lay_out(self.maker.alloc, &self.maker.rows, body)?;
+        Ok(layout.extent(is_union))
     }
 
     /// The members of an aggregate, once they were told. It takes no memory.

@@ -1,0 +1,3 @@
+pub mod WholeFacts
+pub mod WholeRules
+pub mod Laws

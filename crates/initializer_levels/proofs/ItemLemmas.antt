@@ -6,7 +6,7 @@ use Rattle.std.proofs.lemmas.List.{append-nil, length-map, length-take, reverse-
 use Rattle.std.proofs.lemmas.Option.{same_Some}
 use Rattle.meaning_typing.specs.Facts.{Fact}
 use Rattle.meaning_typing.specs.Units.{UnitNodes, children_at, node_at}
-use Rattle.meaning_initializers.specs.Items.{Designator, Initializer, Items, NoItems, Item, moved_with}
+use Rattle.meaning_initializers.specs.Items.{Designator, Initializer, Items, NoItems, Item, from_designator, moved_with}
 use Rattle.meaning_initializers.specs.Reading.{designator_at, designators_of, initializer_at, items_of, parts_before_last}
 use Rattle.initializer_levels.specs.declared.items.ItemList.{ItemList}
 use Rattle.initializer_levels.specs.Items.{items_behind, items_in, items_left, last_part, led_with, parts_count}
@@ -89,3 +89,17 @@ module _ (nodes : UnitNodes) (facts : List Fact) where
       let taken = length-take (parts_before_last nodes item) (children_at nodes item) in
       let all = length-map (node_at nodes item).children (λ (child : ℕ × ℕ). child.0) in
       omega (arith, more, count, taken, all)
+
+  -- From a designator on
+
+  pub designated_first : (items behind : Items) (designators : List Designator) (is_designated is_moved : Bool) (initializer : Initializer)
+      → items ≡ Item (if is_designated then designators else []) is_moved initializer behind → is_designated ≡ true → 0 < length designators
+      → items ≡ from_designator items
+  designated_first items behind [] is_designated is_moved initializer is designated some = absurd (omega (arith, some))
+  designated_first items behind (designator ∷ designators) true is_moved initializer is designated some = is ∙ sym (ap from_designator is)
+  designated_first items behind (designator ∷ designators) false is_moved initializer is designated some = absurd (cc designated)
+
+  pub passed_over : (items behind : Items) (designators : List Designator) (is_designated is_moved : Bool) (initializer : Initializer)
+      → items ≡ Item (if is_designated then designators else []) is_moved initializer behind → is_designated ≡ false → from_designator items ≡ from_designator behind
+  passed_over items behind designators true is_moved initializer is undesignated = absurd (cc undesignated)
+  passed_over items behind designators false is_moved initializer is undesignated = ap from_designator is

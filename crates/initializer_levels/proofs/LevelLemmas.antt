@@ -55,7 +55,7 @@ abbrev level_of : (type_ : TypeTree) (path : List ℕ) (number : ℕ) (is_over i
 level_of type_ path number is_over is_filled length behind =
     record { type_ = type_; path = path; number = number; is_over = is_over; is_designated = false; is_filled = is_filled; length = length; behind = behind }
 
-pub behind_seen : (table : TypeTable) (paths : List (List ℕ)) (read : ItemList → Items) (level : kept.Level) (is_filled : Bool) (next : ℕ) → IsKnownLevel table level
+pub behind_seen : (table : TypeTable) (paths : List (List ℕ)) (read : ItemList → Items) (level : kept.Level) (is_filled : Bool) (next : ℕ) → IsKnownLevel table paths level
     → next ≡ level.number + 1
     → level_seen table paths read
     (record level {

@@ -1,5 +1,5 @@
 -- A path more.
-use Rattle.std.proofs.Common.{◌≡◌, ℕ, ◌+◌, Bool, true, false, List, [], ◌∷◌, ◌++◌, length, get_or, Option, Some, None, refl, sym, ap, ◌∙◌, arith}
+use Rattle.std.proofs.Common.{◌≡◌, ℕ, ◌+◌, ◌<◌, Bool, true, false, List, [], ◌∷◌, ◌++◌, length, get_or, Option, Some, None, refl, sym, ap, ◌∙◌, arith}
 use Rattle.std.proofs.Math.ListN.{get_or-append}
 use Rattle.std.proofs.Math.Seq.{get_or-append_seam}
 use Rattle.std.proofs.lemmas.List.{append-nil, length-append}
@@ -82,11 +82,17 @@ part_path table of type_ old new within part id own is more last =
     ap (λ (paths : List (List ℕ)). get_or paths id []) more
     ∙ (last_of old (path_at old within ++ part.number ∷ []) id last ∙ sym (to_seen table of type_ (path_at old within) part false own is))
 
+pub last_is_path : (old new : List (List ℕ)) (path : List ℕ) (id : ℕ) → new ≡ old ++ path ∷ [] → id ≡ length old → id < length new
+last_is_path old new path id is last = let count = ap length is ∙ length-append old (path ∷ []) in omega (arith, count, last)
+
 -- More paths change no path
 
 path_later : (old new : List (List ℕ)) (more : List (List ℕ)) (path : Option PathId) → new ≡ old ++ more → IsPathIn old path → path_at new path ≡ path_at old path
 path_later old new more None is known = refl
 path_later old new more (Some id) is known = ap (λ (paths : List (List ℕ)). get_or paths id.0 []) is ∙ get_or-append old more [] id.0 known
+
+pub path_stays : (old new : List (List ℕ)) (path : Option PathId) → IsLonger old new → IsPathIn old path → path_at new path ≡ path_at old path
+path_stays old new path longer known = path_later old new longer.0 path longer.1 known
 
 pub levels_stay : LevelsStay
 levels_stay table old new read level longer known =

@@ -21,9 +21,10 @@ one : (P : kept.Level → Type 0) (level : kept.Level) → P level → All P (le
 one P level known zero e within = known
 one P level known (suc i) e within = absurd (omega (arith, within))
 
-pub levels_known_more : (table : TypeTable) (levels : List kept.Level) (level : kept.Level) → All (IsKnownLevel table) levels → IsKnownLevel table level
-    → All (IsKnownLevel table) (levels ++ level ∷ [])
-levels_known_more table levels level all known = All-append (IsKnownLevel table) levels (level ∷ []) all (one (IsKnownLevel table) level known)
+pub levels_known_more : (table : TypeTable) (paths : List (List ℕ)) (levels : List kept.Level) (level : kept.Level) → All (IsKnownLevel table paths) levels
+    → IsKnownLevel table paths level → All (IsKnownLevel table paths) (levels ++ level ∷ [])
+levels_known_more table paths levels level all known =
+    All-append (IsKnownLevel table paths) levels (level ∷ []) all (one (IsKnownLevel table paths) level known)
 
 known_front : (P : kept.Level → Type 0) (levels more : List kept.Level) → All P (levels ++ more) → All P levels
 known_front P [] more all i e within = absurd (omega (arith, within))
@@ -35,12 +36,14 @@ known_last : (P : kept.Level → Type 0) (levels : List kept.Level) (level : kep
 known_last P [] level all = all zero level (omega arith)
 known_last P (first ∷ levels) level all = known_last P levels level (All-tail P first (levels ++ level ∷ []) all)
 
-pub outer_known : (table : TypeTable) (all levels : List kept.Level) (level : kept.Level) → all ≡ levels ++ level ∷ [] → All (IsKnownLevel table) all → IsKnownLevel table level
-outer_known table all levels level is known = known_last (IsKnownLevel table) levels level (subst (All (IsKnownLevel table)) is known)
+pub outer_known : (table : TypeTable) (paths : List (List ℕ)) (all levels : List kept.Level) (level : kept.Level) → all ≡ levels ++ level ∷ []
+    → All (IsKnownLevel table paths) all → IsKnownLevel table paths level
+outer_known table paths all levels level is known = known_last (IsKnownLevel table paths) levels level (subst (All (IsKnownLevel table paths)) is known)
 
-pub others_known : (table : TypeTable) (all levels : List kept.Level) (level : kept.Level) → all ≡ levels ++ level ∷ [] → All (IsKnownLevel table) all
-    → All (IsKnownLevel table) levels
-others_known table all levels level is known = known_front (IsKnownLevel table) levels (level ∷ []) (subst (All (IsKnownLevel table)) is known)
+pub others_known : (table : TypeTable) (paths : List (List ℕ)) (all levels : List kept.Level) (level : kept.Level) → all ≡ levels ++ level ∷ []
+    → All (IsKnownLevel table paths) all → All (IsKnownLevel table paths) levels
+others_known table paths all levels level is known =
+    known_front (IsKnownLevel table paths) levels (level ∷ []) (subst (All (IsKnownLevel table paths)) is known)
 
 -- behind the last of them
 pub left_last : (table : TypeTable) (paths : List (List ℕ)) (read : ItemList → Items) (found : Found) (length : ℕ) (is_filled : Bool) (all levels : List kept.Level)

@@ -33,3 +33,7 @@ last_part nodes handle = child_at nodes handle (parts_before_last nodes handle)
 abbrev pub item_seen : UnitNodes → List Fact → NextItem → (behind : Items) → Items
 item_seen nodes facts next behind =
     Item (if next.is_designated then designators_of nodes facts next.item else []) next.is_moved (initializer_at nodes facts next.initializer) behind
+
+-- where the designators of the next one were followed
+abbrev pub led_list : ItemList → ItemList
+led_list list = record list { is_moved = true; is_led = true }

@@ -6,7 +6,7 @@ use Rattle.initializer_levels.specs.declared.items.ItemList.{ItemList}
 use Rattle.initializer_levels.specs.declared.level.Level as kept
 use Rattle.initializer_levels.specs.Levels.{Level}
 use Rattle.initializer_levels.specs.Parts.{IsKnownParts, is_elements, parts_in, parts_seen, type_seen}
-use Rattle.initializer_levels.specs.Paths.{path_at}
+use Rattle.initializer_levels.specs.Paths.{IsPathIn, path_at}
 
 abbrev pub level_seen : TypeTable → (paths : List (List ℕ)) → (read : ItemList → Items) → kept.Level → Level
 level_seen table paths read level =
@@ -21,11 +21,12 @@ level_seen table paths read level =
       behind = option_map read level.behind;
     }
 
--- its type is of the table, and says what it has for parts
-pub record IsKnownLevel (table : TypeTable) (level : kept.Level) : Type 0 where
+-- its type is of the table, and says what it has for parts; where it stands is one of the paths
+pub record IsKnownLevel (table : TypeTable) (paths : List (List ℕ)) (level : kept.Level) : Type 0 where
   pub type_ : IsTypeId table level.of.of
   pub parts : parts_seen table level.parts ≡ parts_in (type_seen table level.of)
   pub element : IsKnownParts table level.parts
+  pub path : IsPathIn paths level.path
 
 abbrev pub goes_on_kept : kept.Level → (is_filled : Bool) → Bool
 goes_on_kept level is_filled = level.is_designated || (is_filled || not (is_elements level.parts))

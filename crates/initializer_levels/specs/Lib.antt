@@ -7,4 +7,10 @@ pub mod Walks
 pub mod Steps
 pub mod Levels
 pub mod Turns
+pub mod Met
+pub mod Reading
+pub mod Going
+pub mod Ways
+pub mod Arriving
+pub mod Taken
 pub mod Laws

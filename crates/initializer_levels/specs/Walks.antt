@@ -28,14 +28,14 @@ abbrev pub turned_seen : TypeTable → (paths : List (List ℕ)) → (read : Ite
 turned_seen table paths read found (kept_turns.Goes walk) = Goes (walk_seen table paths read found walk)
 turned_seen table paths read found (kept_turns.Done length) = Done found length
 
--- its types are of the table
-pub record IsKnownWalk (table : TypeTable) (walk : kept_walk.Walk) : Type 0 where
-  pub level : IsKnownLevel table walk.level
-  pub levels : All (IsKnownLevel table) walk.levels.items
+-- its types are of the table, and where its levels stand are paths
+pub record IsKnownWalk (table : TypeTable) (paths : List (List ℕ)) (walk : kept_walk.Walk) : Type 0 where
+  pub level : IsKnownLevel table paths walk.level
+  pub levels : All (IsKnownLevel table paths) walk.levels.items
 
-abbrev pub IsKnownTurned : TypeTable → kept_turned.Turned → Type 0
-IsKnownTurned table (kept_turns.Goes walk) = IsKnownWalk table walk
-IsKnownTurned table (kept_turns.Done length) = Unit {0}
+abbrev pub IsKnownTurned : TypeTable → (paths : List (List ℕ)) → kept_turned.Turned → Type 0
+IsKnownTurned table paths (kept_turns.Goes walk) = IsKnownWalk table paths walk
+IsKnownTurned table paths (kept_turns.Done length) = Unit {0}
 
 -- behind a level of this length
 abbrev pub left_behind : Found → (length : ℕ) → (is_filled : Bool) → List Level → Items → Turned

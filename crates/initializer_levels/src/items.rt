@@ -1,11 +1,11 @@
 // The items that are left in braces, as they are kept.
-ghost use Rattle.std.specs.Prelude.{◌≡◌, ◌<◌, IfNone, IfOk, IfSome, List, length, nat_lt, true};
+ghost use Rattle.std.specs.Prelude.{◌≡◌, ◌<◌, ◌-◌, [], IfNone, IfOk, IfSome, List, length, nat_lt, true};
 ghost use Rattle.meaning_typing.specs.Facts.{Fact};
 ghost use Rattle.meaning_typing.specs.Units.{UnitNodes, children_at};
-ghost use Rattle.meaning_initializers.specs.Items.{NoItems};
+ghost use Rattle.meaning_initializers.specs.Items.{Item, NoItems, from_designator};
 ghost use Rattle.meaning_initializers.specs.Reading.{designators_of, initializer_at, items_of};
 ghost use Rattle.decl_judge.specs.Units.{handles_of, nodes_of};
-ghost use Rattle.initializer_levels.specs.Items.{item_seen, items_behind, items_in, items_left, last_part, parts_count};
+ghost use Rattle.initializer_levels.specs.Items.{item_seen, items_behind, items_in, items_left, last_part, led_list, parts_count};
 
 use c_tree::{Handle, Unit};
 use decl_judge::{child_at, node_at};
@@ -78,7 +78,7 @@ pub fn items_at(
 }
 
 // How many children a node has.
-fn count_of_parts(unit: &Unit, handle: Handle) -> u32
+pub fn count_of_parts(unit: &Unit, handle: Handle) -> u32
     requires { unit.now.first ≡ 0 }
     ensures { result ≡ parts_count (nodes_of unit.now) handle }
 {
@@ -104,6 +104,8 @@ impl ItemList {
         requires { unit.now.first ≡ 0 }
         ensures some { (facts : List Fact) → IfSome result (λ next. items_left (nodes_of unit.now) facts self.now ≡ item_seen (nodes_of unit.now) facts next (items_behind (nodes_of unit.now) facts self.now)) }
         ensures designated { (facts : List Fact) → IfSome result (λ next. next.is_designated ≡ true → 0 < length (designators_of (nodes_of unit.now) facts next.item)) }
+        ensures led { (facts : List Fact) → IfSome result (λ next. items_left (nodes_of unit.now) facts (led_list self.now) ≡ Item [] true (initializer_at (nodes_of unit.now) facts next.initializer) (items_behind (nodes_of unit.now) facts self.now)) }
+        ensures more { IfSome result (λ next. 0 < length self.now.left.items) }
         ensures none { (facts : List Fact) → IfNone result (items_left (nodes_of unit.now) facts self.now ≡ NoItems) }
     {
         let item = *self.left.last()?;
@@ -118,7 +120,8 @@ impl ItemList {
     /// Those behind the next one. It takes no memory.
     #[tactic(auto, using(crate::proofs::ItemLemmas::popped_behind))]
     pub fn behind(self) -> ItemList
-        ensures { (nodes : UnitNodes) (facts : List Fact) → items_left nodes facts result ≡ items_behind nodes facts self }
+        ensures behind { (nodes : UnitNodes) (facts : List Fact) → items_left nodes facts result ≡ items_behind nodes facts self }
+        ensures fewer { length result.left.items ≡ length self.left.items - 1 }
     {
         let mut left = self.left;
         left.pop();
@@ -127,5 +130,32 @@ impl ItemList {
             is_moved: false,
             is_led: false,
         }
+    }
+
+    /// Where the designators of the next one were followed.
+    pub fn led(self) -> ItemList
+        ensures { result ≡ led_list self }
+    {
+        ItemList {
+            is_moved: true,
+            is_led: true,
+            ..self
+        }
+    }
+
+    /// From the next one on that has a designator. It takes no memory, and a step for each that is passed over.
+    #[tactic(auto, using(crate::proofs::ItemLemmas::designated_first, crate::proofs::ItemLemmas::passed_over))]
+    pub fn from_designator(self, unit: &Unit) -> ItemList
+        requires { unit.now.first ≡ 0 }
+        ensures { (facts : List Fact) → items_left (nodes_of unit.now) facts result ≡ from_designator (items_left (nodes_of unit.now) facts self) }
+    {
+        let mut items = self;
+        'items: while let Some(next) = items.next(unit) {
+            if next.is_designated {
+                return items;
+            }
+            items = items.behind();
+        }
+        items
     }
 }

@@ -1,11 +1,11 @@
 // Objects and parts that are filled part by part, as they are kept.
-ghost use Rattle.std.specs.Prelude.{◌≡◌, ℕ, IfOk, List, option_map};
+ghost use Rattle.std.specs.Prelude.{◌≡◌, ℕ, IfOk, List, is_some, option_map};
 ghost use Rattle.meaning_initializers.specs.Items.{Items};
 ghost use Rattle.c_types.specs.Table.{IsTypeId, TypeTable};
 ghost use Rattle.initializer_levels.specs.Levels as meaning;
 ghost use Rattle.initializer_levels.specs.Kept.{IsKnownLevel, goes_on_kept, length_kept, level_seen};
 ghost use Rattle.initializer_levels.specs.Parts.{type_seen};
-ghost use Rattle.initializer_levels.specs.Paths.{path_at};
+ghost use Rattle.initializer_levels.specs.Paths.{IsPathIn, path_at};
 
 use crate::items::ItemList;
 use crate::parts::{PartType, Parts, parts_of};
@@ -55,8 +55,7 @@ impl Level {
     ) -> Level
         requires { IsTypeId types.now of.of }
         ensures level { (paths : List (List ℕ)) (read : ItemList → Items) → level_seen types.now paths read result ≡ meaning.opened (type_seen types.now of) (path_at paths path) (option_map read behind) }
-        ensures known { IsKnownLevel types.now result }
-        ensures path { result.path ≡ path }
+        ensures known { (paths : List (List ℕ)) → IsPathIn paths path → IsKnownLevel types.now paths result }
     {
         Level {
             of,
@@ -74,8 +73,7 @@ impl Level {
     /// While its part with this number is being filled.
     pub fn at_part(self, number: u64) -> Level
         ensures level { (table : TypeTable) (paths : List (List ℕ)) (read : ItemList → Items) → level_seen table paths read result ≡ meaning.at_part number (level_seen table paths read self) }
-        ensures known { (table : TypeTable) → IsKnownLevel table self → IsKnownLevel table result }
-        ensures path { result.path ≡ self.path }
+        ensures known { (table : TypeTable) (paths : List (List ℕ)) → IsKnownLevel table paths self → IsKnownLevel table paths result }
     {
         Level {
             number,
@@ -87,8 +85,7 @@ impl Level {
     /// The same, where a designator led there.
     pub fn designated_part(self, number: u64) -> Level
         ensures level { (table : TypeTable) (paths : List (List ℕ)) (read : ItemList → Items) → level_seen table paths read result ≡ meaning.designated_part number (level_seen table paths read self) }
-        ensures known { (table : TypeTable) → IsKnownLevel table self → IsKnownLevel table result }
-        ensures path { result.path ≡ self.path }
+        ensures known { (table : TypeTable) (paths : List (List ℕ)) → IsKnownLevel table paths self → IsKnownLevel table paths result }
     {
         Level {
             number,
@@ -100,13 +97,19 @@ impl Level {
     /// None of its parts takes the next item.
     pub fn ended(self) -> Level
         ensures level { (table : TypeTable) (paths : List (List ℕ)) (read : ItemList → Items) → level_seen table paths read result ≡ meaning.ended (level_seen table paths read self) }
-        ensures known { (table : TypeTable) → IsKnownLevel table self → IsKnownLevel table result }
-        ensures path { result.path ≡ self.path }
+        ensures known { (table : TypeTable) (paths : List (List ℕ)) → IsKnownLevel table paths self → IsKnownLevel table paths result }
     {
         Level {
             is_over: true,
             ..self
         }
+    }
+
+    /// It is for items in braces.
+    pub fn has_braces(&self) -> bool
+        ensures { result ≡ is_some self.now.behind }
+    {
+        self.behind.is_some()
     }
 
     // An element that takes no item ends its array, unless a designator led to it.
@@ -119,9 +122,8 @@ impl Level {
     /// Behind its part that was being filled, which took an item or didn't. An array with more than 2^64 elements is want of memory.
     #[tactic(auto, using(crate::proofs::LevelLemmas::behind_seen))]
     pub fn behind_part(self, is_filled: bool) -> Result<Level, AllocError>
-        ensures level { (table : TypeTable) (paths : List (List ℕ)) (read : ItemList → Items) → IsKnownLevel table self → IfOk result (λ level. level_seen table paths read level ≡ meaning.behind_part (level_seen table paths read self) is_filled) }
-        ensures known { (table : TypeTable) → IsKnownLevel table self → IfOk result (IsKnownLevel table) }
-        ensures path { IfOk result (λ level. level.path ≡ self.path) }
+        ensures level { (table : TypeTable) (paths : List (List ℕ)) (read : ItemList → Items) → IsKnownLevel table paths self → IfOk result (λ level. level_seen table paths read level ≡ meaning.behind_part (level_seen table paths read self) is_filled) }
+        ensures known { (table : TypeTable) (paths : List (List ℕ)) → IsKnownLevel table paths self → IfOk result (IsKnownLevel table paths) }
     {
         let Some(next) = self.number.checked_add(1) else {
             return Err(AllocError);

@@ -3,7 +3,7 @@ ghost use Rattle.std.specs.Prelude.{◌≡◌, ◌++◌, ◌∷◌, [], IfOk, On
 ghost use Rattle.c_types.specs.Table.{IsLonger, TypeTable};
 ghost use Rattle.meaning_initializers.specs.Parts.{path_to};
 ghost use Rattle.initializer_levels.specs.Parts.{part_seen, parts_in, parts_seen, type_seen};
-ghost use Rattle.initializer_levels.specs.Paths.{path_at};
+ghost use Rattle.initializer_levels.specs.Paths.{IsPathIn, path_at};
 
 use crate::parts::{Part, PartType, Parts};
 use std::alloc::{AllocError, Global};
@@ -63,7 +63,7 @@ impl Paths {
 
 /// Where a part of an object stands, by what the object has for parts: a scalar in braces stands where its braces' object does. A refusal
 /// changes nothing.
-#[tactic(auto, using(crate::proofs::PathLemmas::own_path, crate::proofs::PathLemmas::part_path, crate::proofs::PathLemmas::no_longer))]
+#[tactic(auto, using(crate::proofs::PathLemmas::own_path, crate::proofs::PathLemmas::part_path, crate::proofs::PathLemmas::last_is_path, crate::proofs::PathLemmas::no_longer))]
 pub fn path_of_part(
     paths: &mut Paths,
     parts: Parts,
@@ -71,6 +71,7 @@ pub fn path_of_part(
     part: Part,
 ) -> Result<Option<PathId>, AllocError>
     ensures path { (table : TypeTable) (of : PartType) → parts_seen table parts ≡ parts_in (type_seen table of) → IfOk result (λ path. path_at paths.new path ≡ path_to (type_seen table of) (path_at paths.old within) (part_seen table part)) }
+    ensures known { IsPathIn paths.old within → IfOk result (IsPathIn paths.new) }
     ensures keeps { OnOk result (IsLonger paths.old paths.new) }
     ensures err { OnErr result (paths.new ≡ paths.old) }
 {

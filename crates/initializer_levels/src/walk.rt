@@ -36,9 +36,9 @@ pub fn leave(
     is_filled: bool,
     items: ItemList,
 ) -> Result<Turned, AllocError>
-    ensures turned { (table : TypeTable) (paths : List (List ℕ)) (read : ItemList → Items) (found : meaning.Found) → All (IsKnownLevel table) levels.items
+    ensures turned { (table : TypeTable) (paths : List (List ℕ)) (read : ItemList → Items) (found : meaning.Found) → All (IsKnownLevel table paths) levels.items
         → IfOk result (λ turned. turned_seen table paths read found turned ≡ left_behind found length is_filled (levels_seen table paths read levels.items) (read items)) }
-    ensures known { (table : TypeTable) → All (IsKnownLevel table) levels.items → IfOk result (IsKnownTurned table) }
+    ensures known { (table : TypeTable) (paths : List (List ℕ)) → All (IsKnownLevel table paths) levels.items → IfOk result (IsKnownTurned table paths) }
 {
     let mut levels = levels;
     match levels.pop() {
@@ -64,7 +64,9 @@ pub fn descend(
 ) -> Result<Walk, AllocError>
     ensures walk { (table : TypeTable) (paths : List (List ℕ)) (read : ItemList → Items) (found : meaning.Found)
         → IfOk result (λ walk. walk_seen table paths read found walk ≡ inner_walk found (level_seen table paths read inner) (level_seen table paths read level) (levels_seen table paths read levels.items) (read items)) }
-    ensures known { (table : TypeTable) → IsKnownLevel table inner → IsKnownLevel table level → All (IsKnownLevel table) levels.items → IfOk result (IsKnownWalk table) }
+    ensures items { IfOk result (λ walk. walk.items ≡ items) }
+    ensures known { (table : TypeTable) (paths : List (List ℕ)) → IsKnownLevel table paths inner → IsKnownLevel table paths level → All (IsKnownLevel table paths) levels.items
+        → IfOk result (IsKnownWalk table paths) }
 {
     let mut levels = levels;
     levels.push(level)?;

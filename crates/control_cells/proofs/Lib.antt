@@ -1,3 +1,17 @@
 pub mod PartLemmas
 pub mod PassLemmas
+pub mod ListLemmas
+pub mod OrderLemmas
+pub mod LabelLemmas
+pub mod FoundLemmas
+pub mod SeenLemmas
 pub mod TableLemmas
+pub mod JumpLemmas
+pub mod NextLemmas
+pub mod GoneLemmas
+pub mod MomentLemmas
+pub mod GraphLemmas
+pub mod ChoiceLemmas
+pub mod FlowLemmas
+pub mod ShapeLemmas
+pub mod SizeLemmas

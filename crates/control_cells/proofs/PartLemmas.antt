@@ -23,39 +23,39 @@ slice_get-set_other (first ∷ xs) (suc place) (suc other) x apart = slice_get-s
 
 -- Parts
 
-module _ (numbers : List BlockNumbers) (moment : ℕ) (around : Exits) (cell : Cell) where
-  pub length-with_handed : (place : ℕ) (parts : List ℕ) (exits : List Exits) → length (with_handed numbers moment around cell place parts exits) ≡ length exits
+module _ (numbers : List BlockNumbers) (number : ℕ) (around : Exits) (cell : Cell) where
+  pub length-with_handed : (place : ℕ) (parts : List ℕ) (exits : List Exits) → length (with_handed numbers number around cell place parts exits) ≡ length exits
   length-with_handed place [] exits = refl
   length-with_handed place (part ∷ parts) exits =
-      length-with_handed (place + 1) parts (slice_set exits part (handed numbers moment around cell place))
-      ∙ length-set exits part (handed numbers moment around cell place)
+      length-with_handed (place + 1) parts (slice_set exits part (handed numbers number around cell place))
+      ∙ length-set exits part (handed numbers number around cell place)
 
   -- a cell that is none of the parts
   pub with_handed-other : (place : ℕ) (parts : List ℕ) (exits : List Exits) (other : ℕ)
       → ((k part : ℕ) → slice_get parts k ≡ Some part → part ≡ other → ⊥)
-      → slice_get (with_handed numbers moment around cell place parts exits) other ≡ slice_get exits other
+      → slice_get (with_handed numbers number around cell place parts exits) other ≡ slice_get exits other
   with_handed-other place [] exits other none = refl
   with_handed-other place (part ∷ parts) exits other none =
-      with_handed-other (place + 1) parts (slice_set exits part (handed numbers moment around cell place)) other (λ k later at. none (suc k) later at)
-      ∙ slice_get-set_other exits part other (handed numbers moment around cell place) (none 0 part refl)
+      with_handed-other (place + 1) parts (slice_set exits part (handed numbers number around cell place)) other (λ k later at. none (suc k) later at)
+      ∙ slice_get-set_other exits part other (handed numbers number around cell place) (none 0 part refl)
 
   -- a part that is one only once
   pub with_handed-told : (place : ℕ) (parts : List ℕ) (exits : List Exits) (k part : ℕ)
       → slice_get parts k ≡ Some part → part < length exits
       → ((other later : ℕ) → slice_get parts other ≡ Some later → later ≡ part → other ≡ k)
-      → slice_get (with_handed numbers moment around cell place parts exits) part ≡ Some (handed numbers moment around cell (place + k))
+      → slice_get (with_handed numbers number around cell place parts exits) part ≡ Some (handed numbers number around cell (place + k))
   with_handed-told place [] exits k part at within once = absurd (none-some part at)
   with_handed-told place (first ∷ parts) exits zero part at within once =
       let same : first ≡ part = same_Some first part at in
-      let told : Exits = handed numbers moment around cell place in
+      let told : Exits = handed numbers number around cell place in
       with_handed-other (place + 1) parts (slice_set exits first told) part
       (λ other later is same. absurd (omega (arith, once (suc other) later is same)))
-      ∙ subst (λ (c : ℕ). slice_get (slice_set exits first told) c ≡ Some (handed numbers moment around cell (place + 0))) same
+      ∙ subst (λ (c : ℕ). slice_get (slice_set exits first told) c ≡ Some (handed numbers number around cell (place + 0))) same
       (slice_get-set_same exits first told (subst (λ (c : ℕ). c < length exits) (sym same) within)
-      ∙ ap (λ at. Some (handed numbers moment around cell at)) (omega arith))
+      ∙ ap (λ at. Some (handed numbers number around cell at)) (omega arith))
   with_handed-told place (first ∷ parts) exits (suc k) part at within once =
-      let told : Exits = handed numbers moment around cell place in
+      let told : Exits = handed numbers number around cell place in
       with_handed-told (place + 1) parts (slice_set exits first told) k part at
       (omega (arith, within, length-set exits first told))
       (λ other later is same. omega (arith, once (suc other) later is same))
-      ∙ ap (λ at. Some (handed numbers moment around cell at)) (omega arith)
+      ∙ ap (λ at. Some (handed numbers number around cell at)) (omega arith)

@@ -7,7 +7,6 @@ use Rattle.std.proofs.lemmas.Option.{none-some, slice_get-map, slice_get_past, s
 use Rattle.sparse_model.specs.declared.ids.NameId.{NameId}
 use Rattle.meaning_control.specs.laws.Cells.{Cell}
 use Rattle.control_cells.specs.Exits.{AreExits, EachIsPartOnce, HasPart, exits_at, exits_to, handed, with_handed}
-use Rattle.control_cells.specs.Numbers.{numbers_at}
 use Rattle.control_cells.specs.Seen.{cell_at, cell_seen, cells_seen, no_cell}
 use Rattle.control_cells.specs.declared.cell.Cell.{Cell as KeptCell}
 use Rattle.control_cells.specs.declared.exits.Exits.{Exits}
@@ -25,7 +24,7 @@ pub record HaveTold (cells : List Cell) (numbers : List BlockNumbers) (closing f
   pub count : length exits ≡ length cells
   pub root : 0 < length cells → slice_get exits (length cells - 1) ≡ Some (exits_to closing)
   pub parts : (number place part : ℕ) → first ≤ number → HasPart cells number place part
-      → slice_get exits part ≡ Some (handed numbers (numbers_at numbers number).moment (exits_at exits number) (cell_at cells number) place)
+      → slice_get exits part ≡ Some (handed numbers number (exits_at exits number) (cell_at cells number) place)
 
 -- behind the last cell there are no parts
 no_part : (cells : List Cell) (number place part : ℕ) → length cells ≤ number → HasPart cells number place part → ⊥
@@ -62,15 +61,15 @@ none_told cells numbers closing count exits whole is = record {
 module _ (cells : List Cell) (each : EachIsPartOnce cells) (numbers : List BlockNumbers) (closing : ℕ) (exits : List Exits) (number : ℕ)
     (within : number < length cells) (have : HaveTold cells numbers closing (number + 1) exits) where
   abbrev told : List Exits
-  told = with_handed numbers (numbers_at numbers number).moment (exits_at exits number) (cell_at cells number) 0 (cell_at cells number).parts exits
+  told = with_handed numbers number (exits_at exits number) (cell_at cells number) 0 (cell_at cells number).parts exits
 
   told-length : length told ≡ length exits
-  told-length = length-with_handed numbers (numbers_at numbers number).moment (exits_at exits number) (cell_at cells number) 0 (cell_at cells number).parts exits
+  told-length = length-with_handed numbers number (exits_at exits number) (cell_at cells number) 0 (cell_at cells number).parts exits
 
   -- what is no part of the cell stays
   told-other : (other : ℕ) → ((place part : ℕ) → HasPart cells number place part → part ≡ other → ⊥) → slice_get told other ≡ slice_get exits other
   told-other other none =
-      with_handed-other numbers (numbers_at numbers number).moment (exits_at exits number) (cell_at cells number) 0 (cell_at cells number).parts exits other none
+      with_handed-other numbers number (exits_at exits number) (cell_at cells number) 0 (cell_at cells number).parts exits other none
 
   -- so does the cell, and what stands behind it
   told-behind : (other : ℕ) → number ≤ other → slice_get told other ≡ slice_get exits other
@@ -81,24 +80,24 @@ module _ (cells : List Cell) (each : EachIsPartOnce cells) (numbers : List Block
 
   -- its own parts are told
   own_part : (place part : ℕ) → HasPart cells number place part
-      → slice_get told part ≡ Some (handed numbers (numbers_at numbers number).moment (exits_at told number) (cell_at cells number) place)
+      → slice_get told part ≡ Some (handed numbers number (exits_at told number) (cell_at cells number) place)
   own_part place part has =
-      with_handed-told numbers (numbers_at numbers number).moment (exits_at exits number) (cell_at cells number) 0 (cell_at cells number).parts exits place part has
+      with_handed-told numbers number (exits_at exits number) (cell_at cells number) 0 (cell_at cells number).parts exits place part has
       (omega (arith, each.before number place part has, within, have.count))
       (λ other later is same.
       (each.once number other number place part (subst (λ (p : ℕ). HasPart cells number other p) same is) has).1)
-      ∙ ap₂ (λ at around. Some (handed numbers (numbers_at numbers number).moment around (cell_at cells number) at)) (omega arith)
+      ∙ ap₂ (λ at around. Some (handed numbers number around (cell_at cells number) at)) (omega arith)
       (told-at number (omega arith))
 
   -- and those of the cells behind it stay told
   later_part : (other place part : ℕ) → number + 1 ≤ other → HasPart cells other place part
-      → slice_get told part ≡ Some (handed numbers (numbers_at numbers other).moment (exits_at told other) (cell_at cells other) place)
+      → slice_get told part ≡ Some (handed numbers other (exits_at told other) (cell_at cells other) place)
   later_part other place part behind has =
       told-other part
       (λ elsewhere later is same.
       absurd (omega (arith, behind, (each.once number elsewhere other place part (subst (λ (p : ℕ). HasPart cells number elsewhere p) same is) has).0)))
       ∙ have.parts other place part behind has
-      ∙ ap (λ around. Some (handed numbers (numbers_at numbers other).moment around (cell_at cells other) place)) (told-at other (omega (arith, behind)))
+      ∙ ap (λ around. Some (handed numbers other around (cell_at cells other) place)) (told-at other (omega (arith, behind)))
 
   this_or_later : (other : ℕ) → number ≤ other → (number ≡ other) ⊎ (number + 1 ≤ other)
   this_or_later other behind = grind arith
@@ -111,7 +110,7 @@ module _ (cells : List Cell) (each : EachIsPartOnce cells) (numbers : List Block
         elim (this_or_later other behind) [
           | inl this ↦
               subst (λ (n : ℕ). HasPart cells n place part
-              → slice_get told part ≡ Some (handed numbers (numbers_at numbers n).moment (exits_at told n) (cell_at cells n) place)) this (own_part place part) has
+              → slice_get told part ≡ Some (handed numbers n (exits_at told n) (cell_at cells n) place)) this (own_part place part) has
           | inr later ↦ later_part other place part later has
         ];
   }
@@ -123,7 +122,7 @@ all_told cells numbers closing exits have =
 
 -- As the code has cells
 
-slice_get-get_or : {X : Type 0} (xs : List X) (place : ℕ) (d : X) → place < length xs → slice_get xs place ≡ Some (get_or xs place d)
+pub slice_get-get_or : {X : Type 0} (xs : List X) (place : ℕ) (d : X) → place < length xs → slice_get xs place ≡ Some (get_or xs place d)
 slice_get-get_or [] place d within = absurd (omega (arith, within))
 slice_get-get_or (x ∷ xs) zero d within = refl
 slice_get-get_or (x ∷ xs) (suc place) d within = slice_get-get_or xs place d (omega (arith, within))
@@ -143,10 +142,10 @@ parts_before cells each number cell is =
 -- one more cell has told its parts
 pub next_told : (cells : List Cell) (each : EachIsPartOnce cells) (numbers : List BlockNumbers) (closing : ℕ) (exits later : List Exits) (number : ℕ) (cell : Cell)
     → 0 < number → number - 1 < length cells → cell_at cells (number - 1) ≡ cell
-    → later ≡ with_handed numbers (numbers_at numbers (number - 1)).moment (exits_at exits (number - 1)) cell 0 cell.parts exits
+    → later ≡ with_handed numbers (number - 1) (exits_at exits (number - 1)) cell 0 cell.parts exits
     → HaveTold cells numbers closing number exits → HaveTold cells numbers closing (number - 1) later
 next_told cells each numbers closing exits later number cell some within is told have =
     let next : number ≡ number - 1 + 1 = omega (arith, some) in
     subst (HaveTold cells numbers closing (number - 1))
-    (ap (λ (c : Cell). with_handed numbers (numbers_at numbers (number - 1)).moment (exits_at exits (number - 1)) c 0 c.parts exits) is ∙ sym told)
+    (ap (λ (c : Cell). with_handed numbers (number - 1) (exits_at exits (number - 1)) c 0 c.parts exits) is ∙ sym told)
     (one_more_told cells each numbers closing exits (number - 1) within (subst (λ (n : ℕ). HaveTold cells numbers closing n exits) next have))

@@ -1,27 +1,26 @@
 -- Numbers and exits, cell by cell.
-use Rattle.std.proofs.Common.{◌≡◌, ℕ, zero, suc, ◌+◌, ◌-◌, ◌<◌, Bool, true, false, List, [], ◌∷◌, ◌++◌, Option, Some, None, length, get_or, slice_get, if◌then◌else◌, refl, sym, ap, ◌∙◌, arith}
+use Rattle.std.proofs.Common.{◌≡◌, ℕ, zero, suc, ◌+◌, ◌-◌, ◌<◌, Bool, true, false, List, [], ◌∷◌, ◌++◌, Option, Some, None, length, slice_get, refl, sym, ap, ◌∙◌, arith, if◌then◌else◌}
 use Rattle.std.proofs.lemmas.List.{get_or_push, length_push}
 use Rattle.std.proofs.lemmas.Option.{none-some, same_Some, get_or_from_slice_get}
-use Rattle.meaning_control.specs.Kinds.{is_statement, is_loop_body}
+use Rattle.meaning_control.specs.Kinds.{is_body, is_case, is_label, is_loop_body, is_statement}
 use Rattle.meaning_control.specs.Rows.{Way, Into, Moment, Out, behind}
-use Rattle.meaning_control.specs.laws.Cells.{Cell, entry_or as entry_in, led_block, stops, is_without}
+use Rattle.meaning_control.specs.States.{ends_cases}
+use Rattle.meaning_control.specs.laws.Cells.{AreTables, Cell, LabelledBlock, Tables, entry_or as entry_in, led_block, stops, is_without}
 use Rattle.control_cells.specs.Exits.{AreExits, EachIsPartOnce, HasPart, block_behind, block_on, entry_or, exits_at, exits_to, handed}
 use Rattle.control_cells.specs.Numbers.{blocks_in, closing_of, entry_of_first, no_numbers, numbers_at, numbers_from, numbers_of, numbers_row}
 use Rattle.control_cells.specs.Seen.{cell_at, no_cell}
-use Rattle.control_cells.specs.Tables.{KeepEquations, tables_of}
+use Rattle.control_cells.specs.Tables.{tables_of}
+use Rattle.control_cells.specs.Trees.{IsOneTree}
 use Rattle.control_cells.specs.declared.exits.Exits.{Exits}
 use Rattle.control_cells.specs.declared.numbers.BlockNumbers.{BlockNumbers}
+use Rattle.control_cells.proofs.FoundLemmas.{found_of}
+use Rattle.control_cells.proofs.ListLemmas.{get_or-more}
+use Rattle.control_cells.proofs.SeenLemmas.{none_around, seen_of_part}
 
 -- Numbers
 
--- an element stays where one more joins the list
-get_or-more : {X : Type 0} (xs : List X) (x d : X) (k : ℕ) → k < length xs → get_or (xs ++ x ∷ []) k d ≡ get_or xs k d
-get_or-more [] x d k within = absurd (omega (arith, within))
-get_or-more (first ∷ xs) x d zero within = refl
-get_or-more (first ∷ xs) x d (suc k) within = get_or-more xs x d k (omega (arith, within))
-
 -- numbers stay where those of more cells come behind them
-numbers-kept : (numbers : List BlockNumbers) (next : ℕ) (cells : List Cell) (k : ℕ) → k < length numbers
+pub numbers-kept : (numbers : List BlockNumbers) (next : ℕ) (cells : List Cell) (k : ℕ) → k < length numbers
     → numbers_at (numbers_from numbers next cells) k ≡ numbers_at numbers k
 numbers-kept numbers next [] k within = refl
 numbers-kept numbers next (cell ∷ cells) k within =
@@ -84,44 +83,66 @@ entry-first cells each number first parts cell has are is =
 
 -- Exits
 
-into-tables : (numbers : List BlockNumbers) (exits : List Exits) (number : ℕ) (part : Option ℕ)
-    → entry_or numbers part (exits_at exits number).hit ≡ entry_in (tables_of numbers exits) part (exits_at exits number).hit
-into-tables numbers exits number None = refl
-into-tables numbers exits number (Some part) = refl
+-- tables by numbers and exits, whatever labels are
+abbrev pub tables_by : List BlockNumbers → List Exits → (labels cases seen : ℕ → List LabelledBlock) → Tables
+tables_by numbers exits labels cases seen =
+    record {
+      entry = λ number. (numbers_at numbers number).entry;
+      moment = λ number. (numbers_at numbers number).moment;
+      hit = λ number. (exits_at exits number).hit;
+      miss = λ number. (exits_at exits number).miss;
+      broken = λ number. (exits_at exits number).broken;
+      continued = λ number. (exits_at exits number).continued;
+      labels = labels;
+      cases = cases;
+      seen = seen;
+    }
 
--- what a way leads to is the same in tables
-on-tables : (numbers : List BlockNumbers) (exits : List Exits) (number : ℕ) (parts : List ℕ) (way : Way)
-    → block_on numbers (numbers_at numbers number).moment (exits_at exits number) parts way ≡ led_block (tables_of numbers exits) number parts way
-on-tables numbers exits number parts (Into place) = into-tables numbers exits number (slice_get parts place)
-on-tables numbers exits number parts Moment = refl
-on-tables numbers exits number parts (Out true) = refl
-on-tables numbers exits number parts (Out false) = refl
+module _ (numbers : List BlockNumbers) (exits : List Exits) (labels cases seen : ℕ → List LabelledBlock) where
+  into-tables : (number : ℕ) (part : Option ℕ)
+      → entry_or numbers part (exits_at exits number).hit ≡ entry_in (tables_by numbers exits labels cases seen) part (exits_at exits number).hit
+  into-tables number None = refl
+  into-tables number (Some part) = refl
+
+  -- what a way leads to is the same in tables
+  pub on-tables : (number : ℕ) (parts : List ℕ) (way : Way)
+      → block_on numbers (numbers_at numbers number).moment (exits_at exits number) parts way ≡ led_block (tables_by numbers exits labels cases seen) number parts way
+  on-tables number parts (Into place) = into-tables number (slice_get parts place)
+  on-tables number parts Moment = refl
+  on-tables number parts (Out true) = refl
+  on-tables number parts (Out false) = refl
 
 module _ (cells : List Cell) (exits : List Exits) (are : AreExits cells (numbers_of cells) (closing_of cells) exits) where
+  abbrev tables : Tables
+  tables = tables_of cells (numbers_of cells) exits
+
   -- the exits of a part are handed to it
   exits-of : (number place part : ℕ) (cell : Cell) → slice_get cells number ≡ Some cell → slice_get cell.parts place ≡ Some part
-      → exits_at exits part ≡ handed (numbers_of cells) (numbers_at (numbers_of cells) number).moment (exits_at exits number) cell place
+      → exits_at exits part ≡ handed (numbers_of cells) number (exits_at exits number) cell place
   exits-of number place part cell has at =
       let is : cell_at cells number ≡ cell = get_or_from_slice_get cells number cell no_cell has in
       get_or_from_slice_get exits part _ (exits_to 0) (are.parts number place part (ap (λ (c : Cell). slice_get c.parts place) is ∙ at))
-      ∙ ap (λ (c : Cell). handed (numbers_of cells) (numbers_at (numbers_of cells) number).moment (exits_at exits number) c place) is
+      ∙ ap (λ (c : Cell). handed (numbers_of cells) number (exits_at exits number) c place) is
 
   led-behind : (number place : ℕ) (cell : Cell) (outcome : Bool)
       → block_behind (numbers_of cells) (numbers_at (numbers_of cells) number).moment (exits_at exits number) cell place outcome
-      ≡ led_block (tables_of (numbers_of cells) exits) number cell.parts (behind cell.kind (length cell.parts) place outcome)
+      ≡ led_block tables number cell.parts (behind cell.kind (length cell.parts) place outcome)
   led-behind number place cell outcome =
-      on-tables (numbers_of cells) exits number cell.parts (behind cell.kind (length cell.parts) place outcome)
+      on-tables (numbers_of cells) exits tables.labels tables.cases tables.seen number cell.parts (behind cell.kind (length cell.parts) place outcome)
 
-  pub keep : 0 < length cells → EachIsPartOnce cells → KeepEquations cells (length cells - 1) (closing_of cells) (tables_of (numbers_of cells) exits)
-  keep some each =
-      let root : exits_at exits (length cells - 1) ≡ exits_to (closing_of cells) =
-      get_or_from_slice_get exits (length cells - 1) (exits_to (closing_of cells)) (exits_to 0) (are.root some) in
+  pub root-exits : 0 < length cells → exits_at exits (length cells - 1) ≡ exits_to (closing_of cells)
+  root-exits some = get_or_from_slice_get exits (length cells - 1) (exits_to (closing_of cells)) (exits_to 0) (are.root some)
+
+  pub keep : IsOneTree cells → AreTables cells (length cells - 1) (closing_of cells) tables
+  keep tree =
+      let root : exits_at exits (length cells - 1) ≡ exits_to (closing_of cells) = root-exits tree.some in
       record {
-        first_part = entry-first cells each;
+        first_part = entry-first cells tree.each;
         root_hit = ap (λ (e : Exits). e.hit) root;
         root_miss = ap (λ (e : Exits). e.miss) root;
         root_broken = ap (λ (e : Exits). e.broken) root;
         root_continued = ap (λ (e : Exits). e.continued) root;
+        root_seen = none_around cells tree tables.labels (length cells - 1) (length cells) 0 (omega (arith, tree.some));
         hit_part = λ number place part cell has at.
             ap (λ (e : Exits). e.hit) (exits-of number place part cell has at) ∙ led-behind number place cell true;
         miss_part = λ number place part cell has at.
@@ -131,4 +152,10 @@ module _ (cells : List Cell) (exits : List Exits) (are : AreExits cells (numbers
             ap (λ (e : Exits). e.continued) (exits-of number place part cell has at)
             ∙ ap (λ (block : ℕ). if is_loop_body cell.kind place then block else (exits_at exits number).continued)
             (sym (ap (λ (e : Exits). e.hit) (exits-of number place part cell has at)));
+        seen_part = λ number place part cell has at.
+            let is : cell_at cells number ≡ cell = get_or_from_slice_get cells number cell no_cell has in
+            seen_of_part cells tree tables.labels number place part (ap (λ (c : Cell). slice_get c.parts place) is ∙ at)
+            ∙ ap (λ (c : Cell). (if is_body c.kind then tables.labels number else []) ++ tables.seen number) is;
+        labels_of = found_of is_label is_body cells tree tables.entry;
+        cases_of = found_of is_case ends_cases cells tree tables.entry;
       }

@@ -1,7 +1,8 @@
--- The blocks to which control goes where a cell is left: each part is told them by the cell around.
+-- The blocks to which control goes where a cell is left, and the body and the switch around it: each part is told by its cell.
 use Rattle.std.specs.Prelude.{◌≡◌, ℕ, ◌+◌, ◌-◌, ◌<◌, Bool, true, false, List, [], ◌∷◌, length, get_or, slice_get, slice_set, Option, Some, None, if◌then◌else◌}
-use Rattle.meaning_control.specs.Kinds.{is_loop_body, is_broken}
+use Rattle.meaning_control.specs.Kinds.{is_body, is_loop_body, is_broken}
 use Rattle.meaning_control.specs.Rows.{Way, Into, Moment, Out, behind}
+use Rattle.meaning_control.specs.States.{ends_cases}
 use Rattle.meaning_control.specs.laws.Cells.{Cell}
 use Rattle.control_cells.specs.Seen.{cell_at}
 use Rattle.control_cells.specs.Numbers.{numbers_at}
@@ -34,25 +35,27 @@ abbrev pub block_behind : List BlockNumbers → (moment : ℕ) → Exits → Cel
 block_behind numbers moment exits cell place outcome =
     block_on numbers moment exits cell.parts (behind cell.kind (length cell.parts) place outcome)
 
--- the exits of a part, by its cell
-abbrev pub handed : List BlockNumbers → (moment : ℕ) → Exits → Cell → (place : ℕ) → Exits
-handed numbers moment exits cell place =
+-- the exits of a part, by its cell with this number
+abbrev pub handed : List BlockNumbers → (number : ℕ) → Exits → Cell → (place : ℕ) → Exits
+handed numbers number exits cell place =
     record {
-      hit = block_behind numbers moment exits cell place true;
-      miss = block_behind numbers moment exits cell place false;
+      hit = block_behind numbers (numbers_at numbers number).moment exits cell place true;
+      miss = block_behind numbers (numbers_at numbers number).moment exits cell place false;
       broken = if is_broken cell.kind place then exits.hit else exits.broken;
-      continued = if is_loop_body cell.kind place then block_behind numbers moment exits cell place true else exits.continued;
+      continued = if is_loop_body cell.kind place then block_behind numbers (numbers_at numbers number).moment exits cell place true else exits.continued;
+      body = if is_body cell.kind then Some number else exits.body;
+      chooser = if ends_cases cell.kind then Some number else exits.chooser;
     }
 
 -- what becomes of the exits of all cells where the parts of one, of which the first stands at this place, are told theirs
-abbrev pub with_handed : List BlockNumbers → (moment : ℕ) → Exits → Cell → (place : ℕ) → List ℕ → List Exits → List Exits
-with_handed numbers moment exits cell place [] all = all
-with_handed numbers moment exits cell place (part ∷ parts) all =
-    with_handed numbers moment exits cell (place + 1) parts (slice_set all part (handed numbers moment exits cell place))
+abbrev pub with_handed : List BlockNumbers → (number : ℕ) → Exits → Cell → (place : ℕ) → List ℕ → List Exits → List Exits
+with_handed numbers number exits cell place [] all = all
+with_handed numbers number exits cell place (part ∷ parts) all =
+    with_handed numbers number exits cell (place + 1) parts (slice_set all part (handed numbers number exits cell place))
 
--- all lead to this block
+-- all lead to this block, and nothing is around
 abbrev pub exits_to : (closing : ℕ) → Exits
-exits_to closing = record { hit = closing; miss = closing; broken = closing; continued = closing }
+exits_to closing = record { hit = closing; miss = closing; broken = closing; continued = closing; body = None; chooser = None }
 
 abbrev pub exits_at : List Exits → (number : ℕ) → Exits
 exits_at all number = get_or all number (exits_to 0)
@@ -62,4 +65,4 @@ pub record AreExits (cells : List Cell) (numbers : List BlockNumbers) (closing :
   pub count : length all ≡ length cells
   pub root : 0 < length cells → slice_get all (length cells - 1) ≡ Some (exits_to closing)
   pub parts : (number place part : ℕ) → HasPart cells number place part
-      → slice_get all part ≡ Some (handed numbers (numbers_at numbers number).moment (exits_at all number) (cell_at cells number) place)
+      → slice_get all part ≡ Some (handed numbers number (exits_at all number) (cell_at cells number) place)

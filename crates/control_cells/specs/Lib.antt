@@ -1,5 +1,11 @@
 pub mod Seen
 pub mod Numbers
 pub mod Exits
-pub mod Tables
+pub mod Trees
+pub mod Labels
+pub mod Jumps
 pub mod Passing
+pub mod Flows
+pub mod Blocks
+pub mod Tables
+pub mod Sizes

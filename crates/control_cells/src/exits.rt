@@ -1,17 +1,18 @@
-// Where control goes when a cell is left, from the last cell to the first: each cell tells its parts.
+// Where control goes when a cell is left, and in which body and switch it stands, from the last cell to the first: each cell tells
+// its parts.
 ghost use Rattle.std.specs.Prelude.{◌≡◌, ◌<◌, ◌≤◌, All, ℕ, List, IfOk, length, slice_get};
 ghost use Rattle.sparse_model.specs.declared.ids.NameId.{NameId as Name};
 ghost use Rattle.control_cells.specs.Exits as meaning;
-ghost use Rattle.control_cells.specs.Numbers.{numbers_at};
+ghost use Rattle.control_cells.specs.Numbers.{most_cells};
 ghost use Rattle.control_cells.specs.Seen.{cell_seen, cells_seen, way_seen};
 
 use crate::cell::Cell;
-use crate::kind::{is_broken, is_loop_body};
+use crate::kind::{ends_cases, is_body, is_broken, is_loop_body};
 use crate::numbers::BlockNumbers;
 use crate::rows::{Way, behind};
 use std::alloc::{AllocError, Global};
 
-/// The blocks to which control goes where a cell is left.
+/// The blocks to which control goes where a cell is left, and what is around it.
 #[derive(Clone, Copy, Debug, PartialEq, Eq)]
 pub struct Exits {
     /// As true.
@@ -22,6 +23,10 @@ pub struct Exits {
     pub broken: u32,
     /// By a `continue` inside.
     pub continued: u32,
+    /// The innermost body around it, by its cell.
+    pub body: Option<u32>,
+    /// The innermost `switch` or body around it: whose label a `case` is (C11 6.8.4.2 p4).
+    pub chooser: Option<u32>,
 }
 
 // Before the part at a place; one that isn't there is passed.
@@ -35,8 +40,14 @@ fn entry_or(numbers: &[BlockNumbers], parts: &[u32], place: usize, otherwise: u3
     }
 }
 
-// The block to which a way leads in a cell with such a moment and such exits.
-fn block_on(numbers: &[BlockNumbers], moment: u32, exits: Exits, parts: &[u32], way: Way) -> u32
+/// The block to which a way leads in a cell with such a moment and such exits.
+pub(crate) fn block_on(
+    numbers: &[BlockNumbers],
+    moment: u32,
+    exits: Exits,
+    parts: &[u32],
+    way: Way,
+) -> u32
     requires { All (λ part. part < length numbers.now) parts.now }
     ensures { result ≡ meaning.block_on numbers.now moment exits parts.now (way_seen way) }
 {
@@ -65,12 +76,14 @@ fn block_behind(
     block_on(numbers, moment, exits, cell.parts.as_slice(), way)
 }
 
-// The exits of the part at a place, by those of its cell.
-fn handed(numbers: &[BlockNumbers], moment: u32, exits: Exits, cell: &Cell, place: usize) -> Exits
+// The exits of the part at a place, by those of its cell, which has this number.
+fn handed(numbers: &[BlockNumbers], number: u32, exits: Exits, cell: &Cell, place: usize) -> Exits
+    requires number { number < length numbers.now }
     requires parts { All (λ part. part < length numbers.now) cell.now.parts.items }
     requires place { place < length cell.now.parts.items }
-    ensures { (names : Name → List ℕ) → result ≡ meaning.handed numbers.now moment exits (cell_seen names cell.now) place }
+    ensures { (names : Name → List ℕ) → result ≡ meaning.handed numbers.now number exits (cell_seen names cell.now) place }
 {
+    let moment = numbers[number as usize].moment;
     let hit = block_behind(numbers, moment, exits, cell, place, true);
     Exits {
         hit,
@@ -85,22 +98,31 @@ fn handed(numbers: &[BlockNumbers], moment: u32, exits: Exits, cell: &Cell, plac
         } else {
             exits.continued
         },
+        body: if is_body(cell.kind) {
+            Some(number)
+        } else {
+            exits.body
+        },
+        chooser: if ends_cases(cell.kind) {
+            Some(number)
+        } else {
+            exits.chooser
+        },
     }
 }
 
 // Tells the parts of a cell where they lead.
-fn hand_down(exits: &mut Vec<Exits>, numbers: &[BlockNumbers], number: usize, cell: &Cell)
+fn hand_down(exits: &mut Vec<Exits>, numbers: &[BlockNumbers], number: u32, cell: &Cell)
     requires cell { number < length exits.old.items }
     requires numbered { length exits.old.items ≡ length numbers.now }
     requires parts { All (λ part. part < number) cell.now.parts.items }
     ensures { (names : Name → List ℕ) → exits.new.items
-        ≡ meaning.with_handed numbers.now (numbers_at numbers.now number).moment (meaning.exits_at exits.old.items number) (cell_seen names cell.now) 0 cell.now.parts.items exits.old.items }
+        ≡ meaning.with_handed numbers.now number (meaning.exits_at exits.old.items number) (cell_seen names cell.now) 0 cell.now.parts.items exits.old.items }
 {
-    let moment = numbers[number].moment;
-    let own = exits[number];
+    let own = exits[number as usize];
     for place in 0..cell.parts.len() {
         let part = cell.parts[place] as usize;
-        exits[part] = handed(numbers, moment, own, cell, place);
+        exits[part] = handed(numbers, number, own, cell, place);
     }
 }
 
@@ -115,6 +137,7 @@ pub fn exits_of(
     closing: u32,
 ) -> Result<Vec<Exits>, AllocError>
     requires numbered { length cells.now ≡ length numbers.now }
+    requires few { length cells.now ≤ most_cells }
     requires parts { (names : Name → List ℕ) → meaning.EachIsPartOnce (cells_seen names cells.now) }
     ensures { IfOk result (λ exits. (names : Name → List ℕ) → meaning.AreExits (cells_seen names cells.now) numbers.now closing exits.items) }
 {
@@ -123,10 +146,12 @@ pub fn exits_of(
         miss: closing,
         broken: closing,
         continued: closing,
+        body: None,
+        chooser: None,
     };
     let mut exits = vec![in alloc; to_closing; cells.len()]?;
     for number in (0..cells.len()).rev() {
-        hand_down(&mut exits, numbers, number, &cells[number]);
+        hand_down(&mut exits, numbers, number as u32, &cells[number]);
     }
     Ok(exits)
 }

@@ -2,6 +2,7 @@
 ghost use Rattle.std.specs.Prelude.{◌≡◌, ℕ, List};
 ghost use Rattle.sparse_model.specs.declared.ids.NameId.{NameId as Name};
 ghost use Rattle.meaning_control.specs.Kinds as meaning;
+ghost use Rattle.meaning_control.specs.States.{ends_cases};
 ghost use Rattle.control_cells.specs.Seen.{kind_seen};
 
 use control_flow::ContextNote;
@@ -17,7 +18,7 @@ pub enum Outcomes {
 }
 
 /// What a node of a function is to control. The parts of a node stand in the order in which they are passed.
-#[derive(Clone, Copy)]
+#[derive(Clone, Copy, Debug, PartialEq, Eq)]
 pub enum ControlKind {
     /// An expression whose value is tested, and which isn't one of those below.
     Value(Outcomes),
@@ -86,6 +87,27 @@ pub fn is_statement(kind: ControlKind) -> bool
         ControlKind::Conditional => false,
         ControlKind::Expect => false,
         _ => true,
+    }
+}
+
+/// Whether it is the items of a function, or of a statement expression.
+pub fn is_body(kind: ControlKind) -> bool
+    ensures { (names : Name → List ℕ) (token : ℕ) → result ≡ meaning.is_body (kind_seen names token kind) }
+{
+    match kind {
+        ControlKind::Body => true,
+        _ => false,
+    }
+}
+
+/// Whether a `case` below a node of this kind is no label of a switch around it (6.8.4.2 p4).
+pub fn ends_cases(kind: ControlKind) -> bool
+    ensures { (names : Name → List ℕ) (token : ℕ) → result ≡ ends_cases (kind_seen names token kind) }
+{
+    match kind {
+        ControlKind::Switch(_) => true,
+        ControlKind::Body => true,
+        _ => false,
     }
 }
 

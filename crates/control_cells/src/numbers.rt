@@ -26,8 +26,8 @@ pub struct Numbering {
     pub closing: u32,
 }
 
-// Whether something is passed or chosen before the cell.
-fn stops(cell: &Cell) -> bool
+/// Whether something is passed or chosen before the cell.
+pub(crate) fn stops(cell: &Cell) -> bool
     ensures { (names : Name → List ℕ) → result ≡ law.stops (cell_seen names cell.now) }
 {
     is_statement(cell.kind) || cell.parts.is_empty()

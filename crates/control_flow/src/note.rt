@@ -1,14 +1,14 @@
 // What is said of a function's count of contexts: before its paths are walked, and by the walk.
 
 /// The counts with which a function is entered, and with which it is to be left.
-#[derive(Clone, Copy)]
+#[derive(Clone, Copy, Debug, PartialEq, Eq)]
 pub struct ContextNote {
     pub enters: i64,
     pub leaves: i64,
 }
 
 /// What holds of all paths of a flow. Each number of a token is that of the step at which it stands.
-#[derive(Clone, Copy)]
+#[derive(Clone, Copy, Debug, PartialEq, Eq)]
 pub enum ContextAnswer {
     /// No path breaks a rule.
     Balanced,

@@ -3,3 +3,10 @@ pub mod RunLemmas
 pub mod ChangeLemmas
 pub mod PassedLemmas
 pub mod QuietLemmas
+pub mod CountLemmas
+pub mod ControlLemmas
+pub mod CellLemmas
+pub mod TreeLemmas
+pub mod FlowLemmas
+pub mod TaskLemmas
+pub mod SizeLemmas

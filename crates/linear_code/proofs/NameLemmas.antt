@@ -93,7 +93,7 @@ module _ (unit : JudgedUnit) where
             ∙ control-later count handle before
       ]
 
-  no-control : (count handle : ℕ) → count ≤ handle → control_at (controls_of unit count) handle ≡ nothing_there
+  pub no-control : (count handle : ℕ) → count ≤ handle → control_at (controls_of unit count) handle ≡ nothing_there
   no-control count handle past = get_or_past (controls_of unit count) handle nothing_there (omega (arith, counted count, past))
 
   -- what a node names, over those before it

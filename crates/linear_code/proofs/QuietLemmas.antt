@@ -65,31 +65,33 @@ module _ (unit : JudgedUnit) (is_among : ℕ → Bool) (past : (k : ℕ) → len
       append-among (if list_any (nat_eq part) objects then initializer_first unit.nodes parts else []) (initializers_of unit.nodes objects parts)
       (if-among (list_any (nat_eq part) objects) (initializer_first unit.nodes parts) (first-in parts among.1)) (initializers-in objects parts among.1)
 
-  get-in : (parts : List ℕ) (place otherwise : ℕ) → AreAmong is_among parts → is_among otherwise ≡ true → is_among (get_or parts place otherwise) ≡ true
+  pub get-in : (parts : List ℕ) (place otherwise : ℕ) → AreAmong is_among parts → is_among otherwise ≡ true → is_among (get_or parts place otherwise) ≡ true
   get-in [] place otherwise among last = last
   get-in (part ∷ parts) zero otherwise among last = among.0
   get-in (part ∷ parts) (suc place) otherwise among last = get-in parts place otherwise among.1 last
 
-  child-in : (handle place : ℕ) → is_among handle ≡ true → is_among (child_at unit.nodes handle place) ≡ true
-  child-in handle place among = get-in (children_at unit.nodes handle) place (length unit.nodes) (closed handle among) (past (length unit.nodes) (omega arith))
+  child-in : (handle place : ℕ) → AreAmong is_among (children_at unit.nodes handle) → is_among (child_at unit.nodes handle place) ≡ true
+  child-in handle place among = get-in (children_at unit.nodes handle) place (length unit.nodes) among (past (length unit.nodes) (omega arith))
 
   under-in : (kind : NodeKind) (operand : ℕ) → is_among operand ≡ true → AreAmong is_among (under_address unit.nodes kind operand)
-  under-in kinds.Indirection operand among = (child-in operand 0 among, tt)
+  under-in kinds.Indirection operand among = (child-in operand 0 (closed operand among), tt)
   under-in kind operand among = (among, tt)
 
-  evaluated-of-in : (handle : ℕ) (kind : NodeKind) → is_among handle ≡ true → AreAmong is_among (evaluated_of unit.nodes unit.facts handle kind)
+  pub evaluated-of-in : (handle : ℕ) (kind : NodeKind) → AreAmong is_among (children_at unit.nodes handle)
+      → AreAmong is_among (evaluated_of unit.nodes unit.facts handle kind)
   evaluated-of-in handle kinds.StringLiteral among = tt
   evaluated-of-in handle kinds.Declaration among =
       filter-in (λ part. is_automatic (fact_at unit.facts part)) (evaluated_among (node_at unit.nodes handle).children)
-      (evaluated-in (node_at unit.nodes handle).children (closed handle among))
+      (evaluated-in (node_at unit.nodes handle).children among)
   evaluated-of-in handle kinds.Address among = under-in (kind_at unit.nodes (child_at unit.nodes handle 0)) (child_at unit.nodes handle 0) (child-in handle 0 among)
-  evaluated-of-in handle kind among = evaluated-in (node_at unit.nodes handle).children (closed handle among)
+  evaluated-of-in handle kind among = evaluated-in (node_at unit.nodes handle).children among
 
-  pub passed-in : (handle : ℕ) (kind : NodeKind) → is_among handle ≡ true → AreAmong is_among (passed_of unit handle kind)
+  pub passed-in : (handle : ℕ) (kind : NodeKind) → AreAmong is_among (children_at unit.nodes handle) → AreAmong is_among (passed_of unit handle kind)
   passed-in handle kinds.Declaration among =
-      initializers-in (evaluated_of unit.nodes unit.facts handle (kind_at unit.nodes handle)) (children_at unit.nodes handle) (closed handle among)
+      initializers-in (evaluated_of unit.nodes unit.facts handle (kind_at unit.nodes handle)) (children_at unit.nodes handle) among
   passed-in handle kinds.StatementExpression among =
-      evaluated-of-in (child_at unit.nodes handle 0) (kind_at unit.nodes (child_at unit.nodes handle 0)) (child-in handle 0 among)
+      evaluated-of-in (child_at unit.nodes handle 0) (kind_at unit.nodes (child_at unit.nodes handle 0))
+      (closed (child_at unit.nodes handle 0) (child-in handle 0 among))
   passed-in handle kind among = evaluated-of-in handle (kind_at unit.nodes handle) among
 
 -- What doesn't change counts keeps them
@@ -207,7 +209,7 @@ module _ (list : NodeList NameId) (known : KnownFacts) (function : ℕ) (quiet :
     pub without : AreWithoutContexts unit (among size)
     without = record {
       keep = keep-among;
-      parts = λ handle is. passed-in unit (among size) past-among children-among handle (kind_at unit.nodes handle) is;
+      parts = λ handle is. passed-in unit (among size) past-among children-among handle (kind_at unit.nodes handle) (children-among handle is);
     }
 
     pub root-among : among size root ≡ true

@@ -3,3 +3,7 @@ pub mod Changes
 pub mod Run
 pub mod Passed
 pub mod Quiet
+pub mod Kinds
+pub mod Cells
+pub mod Tasks
+pub mod Sizes

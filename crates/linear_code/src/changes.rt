@@ -57,8 +57,8 @@ pub fn has_changes<J: ControlFacts>(unit: &Unit, facts: &J, function: Handle) ->
     changes(unit, facts, body)
 }
 
-// The compound statement of a function.
-fn body_of(unit: &Unit, function: Handle) -> Handle
+/// The compound statement of a function.
+pub fn body_of(unit: &Unit, function: Handle) -> Handle
     requires whole { unit.now.first ≡ 0 }
     requires kind { meaning.kind_at (nodes_of unit.now) function ≡ kinds.FunctionDefinition }
     ensures { (facts : KnownFacts) → result ≡ statement_of (judged_unit unit.now facts) function }

@@ -3,7 +3,7 @@ use c_tree::Handle;
 use control_flow::ContextNote;
 
 /// What is known of a function, over all its declarations.
-#[derive(Clone, Copy)]
+#[derive(Clone, Copy, Debug, PartialEq, Eq)]
 pub struct FunctionNote {
     /// The counts with which it is entered and left, where it has contexts.
     pub contexts: Option<ContextNote>,

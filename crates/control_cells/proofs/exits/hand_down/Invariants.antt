@@ -9,7 +9,7 @@ abbrev pub invariant-loop-place : goal.invariant-loop-place
 invariant-loop-place l =
     record {
       told :
-          (names : Name → List ℕ) → with_handed l.numbers l.moment l.own (cell_seen names l.cell) l.place (drop l.place l.cell.parts.items) l.exits.items
-          ≡ with_handed l.numbers l.moment l.own (cell_seen names l.cell) 0 l.cell.parts.items l.initial.exits.items;
+          (names : Name → List ℕ) → with_handed l.numbers l.number l.own (cell_seen names l.cell) l.place (drop l.place l.cell.parts.items) l.exits.items
+          ≡ with_handed l.numbers l.number l.own (cell_seen names l.cell) 0 l.cell.parts.items l.initial.exits.items;
       count : length l.exits.items ≡ length l.initial.exits.items;
     }

@@ -4,9 +4,9 @@ ghost use Rattle.meaning_control.specs.Nodes as meaning;
 
 use sparse_model::NodeKind;
 
-/// Whether a part of a node of this kind is tested, where the node itself is or isn't, by the place of the part among those that
-/// are passed, and whether it is the last of them.
-pub fn tests(kind: NodeKind, is_tested: bool, place: usize, is_last: bool) -> bool
+/// Whether control goes by the value of a part of a node of this kind, where it goes by the value of the node itself or doesn't, by
+/// the place of the part among those that are passed, and whether it is the last of them.
+pub fn is_condition(kind: NodeKind, is_tested: bool, place: usize, is_last: bool) -> bool
     ensures { result ≡ meaning.tests kind is_tested place is_last }
 {
     match kind {

@@ -1,4 +1,5 @@
 pub mod DigitLemmas
 pub mod ElementLemmas
+pub mod BlockLemmas
 pub mod AskedLemmas
 pub mod LineLemmas

@@ -1,4 +1,4 @@
--- The first line of a text ends at its first new-line; and what is answered for a text, line by line.
+-- A text up to a byte; and what is answered for a text, line by line.
 use Rattle.std.proofs.Common.{◌≡◌, ℕ, zero, suc, ◌+◌, ◌-◌, ◌<◌, ◌≤◌, ◌==◌, Bool, true, false, Option, Some, Result, Ok, Err, IfErr, IfOk, IsErrAnd, OnOk, is_err, List, [], ◌∷◌, ◌++◌, take, drop, length, slice_index, if◌then◌else◌, refl, sym, ap, ◌∙◌, subst, arith}
 use Rattle.std.proofs.lemmas.List.{length-drop, take_all}
 use Rattle.std.proofs.lemmas.Result.{err_from_is_err_and}
@@ -8,16 +8,19 @@ use Rattle.flows.specs.declared.line.NoLine.{NoLine}
 use Rattle.flows.specs.declared.line.NoLine.TheVariants as no_line
 use Rattle.flows.specs.declared.wrong.Fault.{Fault}
 use Rattle.flows.specs.declared.wrong.Place.{Place}
-use Rattle.flows.specs.declared.wrong.Wrong.{Wrong}
-use Rattle.flows.specs.Reading.{Reading, Reads}
-use Rattle.flows.specs.Lines.{FlowLine, block_at, line_at}
+use Rattle.flows.specs.Reading.{Reading, Reads, behind_spaces, reads_on}
+use Rattle.flows.specs.Lines.{FlowLine, before_byte, behind_byte, block_at, blocks_at, from_block, line_at, line_with, note_at}
 use Rattle.flows.specs.Shown.{shown_answer}
-use Rattle.flows.specs.Answers.{IsAnswerFor, IsAnswerOf, IsFaultFor, IsFaultOf, IsReadingOf, Shows, behind_line, fault_of, first_line, goes, line_fault, place_of, stops}
-use Rattle.flows.proofs.ElementLemmas.{ReadsBlocksOn, no-block}
+use Rattle.flows.specs.Answers.{IsAnswerFor, IsAnswerOf, IsFaultFor, IsFaultOf, IsOneMore, IsReadingOf, Shows, behind_line, fault_of, first_line, goes, line_fault, place_of, stops}
 
 never : (test : Bool) → (test ≡ true → ⊥) → test ≡ false
 never true isnt = absurd (isnt refl)
 never false isnt = refl
+
+-- a text that isn't empty has a first byte
+pub some-left : (text : List ℕ) → (length text == 0) ≡ false → 0 < length text
+some-left [] is = absurd (cc)
+some-left (byte ∷ rest) is = omega arith
 
 -- what a slice up to the end of a text is
 pub to-end : (text : List ℕ) (place : ℕ) → take (length text - place) (drop place text) ≡ drop place text
@@ -34,42 +37,61 @@ pub went-well : {T E P : Type 0} (result : Result T E) → is_err result ≡ fal
 went-well (Ok value) well holds = holds
 went-well (Err fault) well holds = absurd (cc well)
 
-pub ended-at : (text : List ℕ) (place : ℕ) → place < length text → (slice_index text place == 10) ≡ true → ((k : ℕ) → 0 ≤ k → k < place → (slice_index text k == 10) ≡ true → ⊥)
-    → (first_line text ≡ take place text) × (behind_line text ≡ drop (suc place) text)
-ended-at [] place within here before = absurd (omega (arith, within))
-ended-at (byte ∷ rest) zero within here before = (
-  ap (λ (ends : Bool). if ends then [] else byte ∷ first_line rest) here,
-  ap (λ (ends : Bool). if ends then rest else behind_line rest) here,
+-- where the first byte that is this one stands, and where none does
+pub split-at : (mark : ℕ) (text : List ℕ) (place : ℕ) → place < length text → (slice_index text place == mark) ≡ true → ((k : ℕ) → 0 ≤ k → k < place → (slice_index text k == mark) ≡ true → ⊥)
+    → (before_byte mark text ≡ take place text) × (behind_byte mark text ≡ drop (suc place) text)
+split-at mark [] place within here before = absurd (omega (arith, within))
+split-at mark (byte ∷ rest) zero within here before = (
+  ap (λ (ends : Bool). if ends then [] else byte ∷ before_byte mark rest) here,
+  ap (λ (ends : Bool). if ends then rest else behind_byte mark rest) here,
 )
-ended-at (byte ∷ rest) (suc place) within here before =
-    let goes_on = never (byte == 10) (before 0 (omega arith) (omega arith)) in
-    let later = ended-at rest place (omega (arith, within)) here (λ k low below. before (suc k) (omega arith) (omega (arith, below))) in (
-      ap (λ (ends : Bool). if ends then [] else byte ∷ first_line rest) goes_on ∙ ap (λ (line : List ℕ). byte ∷ line) later.0,
-      ap (λ (ends : Bool). if ends then rest else behind_line rest) goes_on ∙ later.1,
+split-at mark (byte ∷ rest) (suc place) within here before =
+    let goes_on = never (byte == mark) (before 0 (omega arith) (omega arith)) in
+    let later = split-at mark rest place (omega (arith, within)) here (λ k low below. before (suc k) (omega arith) (omega (arith, below))) in (
+      ap (λ (ends : Bool). if ends then [] else byte ∷ before_byte mark rest) goes_on ∙ ap (λ (line : List ℕ). byte ∷ line) later.0,
+      ap (λ (ends : Bool). if ends then rest else behind_byte mark rest) goes_on ∙ later.1,
     )
 
-pub endless : (text : List ℕ) → ((k : ℕ) → 0 ≤ k → k < length text → (slice_index text k == 10) ≡ true → ⊥) → (first_line text ≡ text) × (behind_line text ≡ [])
-endless [] nowhere = (refl, refl)
-endless (byte ∷ rest) nowhere =
-    let goes_on = never (byte == 10) (nowhere 0 (omega arith) (omega arith)) in
-    let later = endless rest (λ k low below. nowhere (suc k) (omega arith) (omega (arith, below))) in (
-      ap (λ (ends : Bool). if ends then [] else byte ∷ first_line rest) goes_on ∙ ap (λ (line : List ℕ). byte ∷ line) later.0,
-      ap (λ (ends : Bool). if ends then rest else behind_line rest) goes_on ∙ later.1,
+pub unsplit : (mark : ℕ) (text : List ℕ) → ((k : ℕ) → 0 ≤ k → k < length text → (slice_index text k == mark) ≡ true → ⊥) → (before_byte mark text ≡ text) × (behind_byte mark text ≡ [])
+unsplit mark [] nowhere = (refl, refl)
+unsplit mark (byte ∷ rest) nowhere =
+    let goes_on = never (byte == mark) (nowhere 0 (omega arith) (omega arith)) in
+    let later = unsplit mark rest (λ k low below. nowhere (suc k) (omega arith) (omega (arith, below))) in (
+      ap (λ (ends : Bool). if ends then [] else byte ∷ before_byte mark rest) goes_on ∙ ap (λ (line : List ℕ). byte ∷ line) later.0,
+      ap (λ (ends : Bool). if ends then rest else behind_byte mark rest) goes_on ∙ later.1,
     )
+
+-- one bar is passed
+pub one-bar : (number : ℕ) (text : List ℕ) → 0 < number → from_block (number - 1) (behind_byte 124 text) ≡ from_block number text
+one-bar zero text some = absurd (omega (arith, some))
+one-bar (suc number) text some =
+    let same : suc number - 1 ≡ number = omega arith in
+    ap (λ (k : ℕ). from_block k (behind_byte 124 text)) same
 
 -- what a line says is answered or lacks something, and so does the line
 pub line-answered : (text : List ℕ) (line : FlowLine) (result : Result ContextAnswer NoLine) → line_at text ≡ Reads line [] → IfOk result (IsAnswerFor line) → IfOk result (IsAnswerOf text)
 line-answered text line (Ok answer) read says = record { line = line; read = read; says = says }
 line-answered text line (Err why) read says = tt
 
-pub line-lacking : (text : List ℕ) (line : FlowLine) (result : Result ContextAnswer NoLine) → line_at text ≡ Reads line [] → IfErr result (IsFaultFor line) → IfErr result (IsFaultOf text)
+pub line-lacking : (text : List ℕ) (line : FlowLine) (result : Result ContextAnswer NoLine) → line_at text ≡ Reads line [] → IfErr result (IsFaultFor text line) → IfErr result (IsFaultOf text)
 line-lacking text line (Ok answer) read lacks = tt
-line-lacking text line (Err (no_line.Wrong fault)) read lacks = ap fault_of read ∙ lacks
+line-lacking text line (Err (no_line.Wrong fault)) read lacks = ap (fault_of text) read ∙ lacks
 line-lacking text line (Err no_line.NoMemory) read lacks = tt
 
-pub block-unread : (graph : List BasicBlock) (lefts text : List ℕ) (whole : Reading FlowLine) → ReadsBlocksOn graph lefts text whole → (why : NoLine) → IsReadingOf (block_at text) why → IsReadingOf whole why
-block-unread graph lefts text whole on (no_line.Wrong fault) is = no-block graph lefts text whole on fault.wrong fault.left is
-block-unread graph lefts text whole on no_line.NoMemory is = tt
+-- a block more stands behind others
+pub one-block-more : (before after : List BasicBlock) (text rest : List ℕ) (one : BasicBlock) → block_at text ≡ Reads one rest → after ≡ before ++ one ∷ [] → IsOneMore before after (block_at text) rest
+one-block-more before after text rest one read more = subst (λ (found : Reading BasicBlock). IsOneMore before after found rest) (sym read) (more, refl)
+
+-- a line that isn't read is one with that fault
+pub line-unread : (text : List ℕ) (why : NoLine) → IsReadingOf (line_at text) why → IsFaultOf text why
+line-unread text (no_line.Wrong fault) is = ap (fault_of text) is
+line-unread text no_line.NoMemory is = tt
+
+-- what isn't read of a line's parts
+pub blocks-unread : (text spaced : List ℕ) (why : NoLine) → spaced ≡ behind_spaces text → IsReadingOf (blocks_at spaced) why → IsReadingOf (line_at text) why
+blocks-unread text spaced (no_line.Wrong fault) same is =
+    ap (λ (found : Reading (List BasicBlock)). reads_on found (λ graph rest. reads_on (note_at rest) (λ note last. Reads (line_with graph note) last))) (ap blocks_at (sym same) ∙ is)
+blocks-unread text spaced no_line.NoMemory same is = tt
 
 -- one line more is answered
 pub line-goes : (number : ℕ) (before text line others more after : List ℕ) (stop : Option Place) (answer : ContextAnswer) → 0 < length text → line ≡ first_line text → others ≡ behind_line text

@@ -1,10 +1,9 @@
 -- What is answered for a line, for a text of lines, and for a file.
-use Rattle.std.specs.Prelude.{◌≡◌, ℕ, ◌+◌, ◌-◌, ◌<◌, ◌==◌, Option, Some, None, Result, Ok, Err, List, [], ◌∷◌, ◌++◌, length, slice_index_or, if◌then◌else◌}
+use Rattle.std.specs.Prelude.{◌≡◌, ℕ, ◌+◌, ◌-◌, ◌<◌, Option, Some, None, Result, Ok, Err, List, [], ◌∷◌, ◌++◌, length}
 use Rattle.meaning_paths.specs.Graphs.{IsPathOf}
 use Rattle.meaning_paths.specs.ContextRules.{IsAnswer}
 use Rattle.control_flow.specs.declared.note.ContextAnswer.{ContextAnswer}
-use Rattle.control_flow.specs.Seen.{answer_of, graph_of, the_key}
-use Rattle.flows.specs.declared.line.Line.{Line}
+use Rattle.control_flow.specs.Seen.{answer_of, the_key}
 use Rattle.flows.specs.declared.line.NoLine.{NoLine}
 use Rattle.flows.specs.declared.line.NoLine.TheVariants as no_line
 use Rattle.flows.specs.declared.text.NoAnswer.{NoAnswer}
@@ -12,37 +11,35 @@ use Rattle.flows.specs.declared.text.NoAnswer.TheVariants as no_answer
 use Rattle.flows.specs.declared.wrong.Wrong.{Wrong}
 use Rattle.flows.specs.declared.wrong.Fault.{Fault}
 use Rattle.flows.specs.declared.wrong.Place.{Place}
-use Rattle.flows.specs.Reading.{Reading, Reads, Fails}
-use Rattle.flows.specs.Lines.{FlowLine, line_at}
+use Rattle.flows.specs.Reading.{Reading, Reads, Fails, fault_at}
+use Rattle.flows.specs.Lines.{FlowLine, before_byte, behind_byte, from_block, line_at}
 use Rattle.flows.specs.Asked.{asked_fault}
 use Rattle.flows.specs.Shown.{shown_answer}
-
--- what a line that was read says
-abbrev pub line_of : Line → FlowLine
-line_of line = record { graph = graph_of line.flow; lefts = line.lefts.items; note = line.note }
 
 -- nothing was read for this reason; want of memory alone is free
 abbrev pub IsReadingOf : {X : Type 0} → Reading X → NoLine → Type 0
 IsReadingOf reading (no_line.Wrong fault) = reading ≡ Fails fault.wrong fault.left
 IsReadingOf reading no_line.NoMemory = Unit {0}
 
+-- what was read was appended, and this stands behind it
+abbrev pub IsOneMore : {X : Type 0} → (before after : List X) → Reading X → List ℕ → Type 0
+IsOneMore before after (Reads one behind) rest = (after ≡ before ++ one ∷ []) × (behind ≡ rest)
+IsOneMore before after (Fails wrong left) rest = ⊥
+
 -- Lines
 
-abbrev pub fault_at : (wrong : Wrong) (left : ℕ) → Fault
-fault_at wrong left = record { left = left; wrong = wrong }
-
 -- what a graph lacks stands at its block
-abbrev pub block_fault_at : (lefts : List ℕ) → Option (ℕ × Wrong) → Option Fault
-block_fault_at lefts None = None
-block_fault_at lefts (Some found) = Some (fault_at found.1 (slice_index_or lefts found.0 0))
+abbrev pub block_fault_at : (text : List ℕ) → Option (ℕ × Wrong) → Option Fault
+block_fault_at text None = None
+block_fault_at text (Some found) = Some (fault_at found.1 (length (from_block found.0 text)))
 
-abbrev pub fault_of : Reading FlowLine → Option Fault
-fault_of (Fails wrong left) = Some (fault_at wrong left)
-fault_of (Reads line rest) = block_fault_at line.lefts (asked_fault line.graph line.note.enters)
+abbrev pub fault_of : (text : List ℕ) → Reading FlowLine → Option Fault
+fault_of text (Fails wrong left) = Some (fault_at wrong left)
+fault_of text (Reads line rest) = block_fault_at text (asked_fault line.graph line.note.enters)
 
 -- what is wrong with a line, if anything is: it isn't in the notation, or its flow isn't what the walk asks for
 abbrev pub line_fault : List ℕ → Option Fault
-line_fault text = fault_of (line_at text)
+line_fault text = fault_of text (line_at text)
 
 -- nothing is wrong with what a line says, and this is the rules' answer for its flow and its counts
 pub record IsAnswerFor (line : FlowLine) (answer : ContextAnswer) : Type 0 where
@@ -55,10 +52,10 @@ pub record IsAnswerOf (text : List ℕ) (answer : ContextAnswer) : Type 0 where
   pub read : line_at text ≡ Reads line []
   pub says : IsAnswerFor line answer
 
--- the walk doesn't take what a line says
-abbrev pub IsFaultFor : (line : FlowLine) → NoLine → Type 0
-IsFaultFor line (no_line.Wrong fault) = block_fault_at line.lefts (asked_fault line.graph line.note.enters) ≡ Some fault
-IsFaultFor line no_line.NoMemory = Unit {0}
+-- the walk doesn't take what the line says
+abbrev pub IsFaultFor : (text : List ℕ) (line : FlowLine) → NoLine → Type 0
+IsFaultFor text line (no_line.Wrong fault) = block_fault_at text (asked_fault line.graph line.note.enters) ≡ Some fault
+IsFaultFor text line no_line.NoMemory = Unit {0}
 
 abbrev pub IsFaultOf : (text : List ℕ) → NoLine → Type 0
 IsFaultOf text (no_line.Wrong fault) = line_fault text ≡ Some fault
@@ -66,14 +63,12 @@ IsFaultOf text no_line.NoMemory = Unit {0}
 
 -- Texts
 
--- the first line without its new-line
+-- the first line without its new-line, and what stands behind that
 abbrev pub first_line : List ℕ → List ℕ
-first_line [] = []
-first_line (byte ∷ rest) = if byte == 10 then [] else byte ∷ first_line rest
+first_line text = before_byte 10 text
 
 abbrev pub behind_line : List ℕ → List ℕ
-behind_line [] = []
-behind_line (byte ∷ rest) = if byte == 10 then rest else behind_line rest
+behind_line text = behind_byte 10 text
 
 abbrev pub place_of : (number : ℕ) (line : List ℕ) → Fault → Place
 place_of number line fault = record { line = number; column = (length line - fault.left) + 1; wrong = fault.wrong }

@@ -1,5 +1,6 @@
 -- What is read at the front of a text: spaces, marks and numbers.
 use Rattle.std.specs.Prelude.{ℕ, ◌+◌, ◌-◌, ◌*◌, ◌^◌, ℤ, pos, neg_ℤ, Bool, ◌&&◌, ◌==◌, nat_le, List, [], ◌∷◌, length, if◌then◌else◌}
+use Rattle.flows.specs.declared.wrong.Fault.{Fault}
 use Rattle.flows.specs.declared.wrong.Wrong.{Wrong}
 use Rattle.flows.specs.declared.wrong.Wrong.TheVariants.{NoNumber, LargeNumber}
 
@@ -7,6 +8,9 @@ use Rattle.flows.specs.declared.wrong.Wrong.TheVariants.{NoNumber, LargeNumber}
 pub data Reading (X : Type 0) : Type 0 where
   Reads : X → List ℕ → Reading X
   Fails : Wrong → (left : ℕ) → Reading X
+
+abbrev pub fault_at : (wrong : Wrong) (left : ℕ) → Fault
+fault_at wrong left = record { left = left; wrong = wrong }
 
 -- what is read on behind something, if that was read
 abbrev pub reads_on : {X Y : Type 0} → Reading X → (X → List ℕ → Reading Y) → Reading Y
@@ -39,22 +43,16 @@ abbrev pub number_at : (most : ℕ) → List ℕ → Reading ℕ
 number_at most [] = Fails NoNumber 0
 number_at most (byte ∷ rest) = if is_digit byte then bounded most (1 + length rest) (digits_from (byte - 48) rest) else Fails NoNumber (1 + length rest)
 
--- the number of a token or of a block
-abbrev pub index_at : List ℕ → Reading ℕ
-index_at text = number_at (2 ^ 32 - 1) text
+abbrev pub positive_at : List ℕ → Reading ℤ
+positive_at text = reads_on (number_at (2 ^ 63 - 1) text) (λ number rest. Reads (pos number) rest)
 
-abbrev pub positive : Reading ℕ → Reading ℤ
-positive (Reads number rest) = Reads (pos number) rest
-positive (Fails wrong left) = Fails wrong left
-
-abbrev pub negative : Reading ℕ → Reading ℤ
-negative (Reads number rest) = Reads (neg_ℤ (pos number)) rest
-negative (Fails wrong left) = Fails wrong left
+abbrev pub negative_at : List ℕ → Reading ℤ
+negative_at text = reads_on (number_at (2 ^ 63) text) (λ number rest. Reads (neg_ℤ (pos number)) rest)
 
 -- a number between -2^63 and 2^63 - 1, with a sign or without one
 abbrev pub signed_at : List ℕ → Reading ℤ
 signed_at [] = Fails NoNumber 0
 signed_at (byte ∷ rest) =
-    if byte == 45 then negative (number_at (2 ^ 63) rest)
-    else if byte == 43 then positive (number_at (2 ^ 63 - 1) rest)
-    else positive (number_at (2 ^ 63 - 1) (byte ∷ rest))
+    if byte == 45 then negative_at rest
+    else if byte == 43 then positive_at rest
+    else positive_at (byte ∷ rest)

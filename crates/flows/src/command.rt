@@ -5,9 +5,8 @@ ghost use Rattle.meaning_outside.specs.Files.{FileMap, file_at};
 ghost use Rattle.flows.specs.Shown.{shown_place, stop_text};
 ghost use Rattle.flows.specs.Files.{IsFileAnswered};
 
-use crate::text::{NoAnswer, push_answers};
+use crate::text::{NoAnswer, push_answers, push_number};
 use crate::wrong::Place;
-use itoa::Buffer;
 use sparse_outside::{Files, Load, load_leaves_buffer};
 use std::alloc::{AllocError, Global};
 
@@ -77,24 +76,25 @@ pub fn push_stop(text: &mut Vec<u8>, path: &[u8], stop: Stop) -> Result<(), Allo
     ensures { OnOk result (text.new.items ≡ text.old.items ++ path.now ++ stop_text stop ++ codes "\n") }
 {
     text.extend_from_slice(path)?;
+    push_reason(text, stop)?;
+    text.extend_from_slice(b"\n")
+}
+
+fn push_reason(text: &mut Vec<u8>, stop: Stop) -> Result<(), AllocError>
+    ensures { OnOk result (text.new.items ≡ text.old.items ++ stop_text stop) }
+{
     match stop {
-        Stop::Wrong(place) => push_place(text, place)?,
-        Stop::NoFile => text.extend_from_slice(b": no such file, or more than 1073741824 bytes")?,
-        Stop::ReadFault => text.extend_from_slice(b": reading failed")?,
-        Stop::NoMemory => text.extend_from_slice(b": out of memory")?,
+        Stop::Wrong(place) => push_place(text, place),
+        Stop::NoFile => text.extend_from_slice(b": no such file, or more than 1073741824 bytes"),
+        Stop::ReadFault => text.extend_from_slice(b": reading failed"),
+        Stop::NoMemory => text.extend_from_slice(b": out of memory"),
     }
-    text.push(b'\n')?;
-    Ok(())
 }
 
 fn push_place(text: &mut Vec<u8>, place: Place) -> Result<(), AllocError>
     ensures { OnOk result (text.new.items ≡ text.old.items ++ shown_place place) }
 {
-    let mut buffer = Buffer::new();
-    text.push(b':')?;
-    text.extend_from_slice(buffer.format(place.line).as_bytes())?;
-    text.push(b':')?;
-    text.extend_from_slice(buffer.format(place.column).as_bytes())?;
-    text.extend_from_slice(b": ")?;
+    push_number(text, b":", place.line as u64, b":")?;
+    push_number(text, b"", place.column as u64, b": ")?;
     text.extend_from_slice(place.wrong.text())
 }

@@ -1,15 +1,15 @@
 // A flow and its counts, read from a line.
-ghost use Rattle.std.specs.Prelude.{◌≡◌, ◌<◌, ◌≤◌, ◌^◌, ◌++◌, [], ◌∷◌, IfErr, IfOk, OnOk, length, map};
-ghost use Rattle.control_flow.specs.Seen.{block_of, step_of, targets};
+ghost use Rattle.std.specs.Prelude.{◌≡◌, ◌<◌, ◌≤◌, ◌^◌, ◌++◌, [], ◌∷◌, IfErr, IfOk, IfSome, MatchOption, OnOk, false, true, length, map};
+ghost use Rattle.control_flow.specs.Seen.{graph_of_blocks, step_of, targets};
 ghost use Rattle.flows.specs.Reading.{Reads, Fails};
-ghost use Rattle.flows.specs.Lines.{another_at, begins_number, begins_step, block_at, line_at, note_at, steps_at, successor_at, successors_at};
-ghost use Rattle.flows.specs.Answers.{IsReadingOf, line_of};
+ghost use Rattle.flows.specs.Lines.{begins_block, begins_number, begins_step, behind_bar, block_at, block_with, blocks_at, counts_at, line_at, line_with, note_at, steps_at, successors_at};
+ghost use Rattle.flows.specs.Answers.{IsOneMore, IsReadingOf};
 
-use crate::number::{behind_mark, behind_spaces, read_index, read_signed};
+use crate::number::{behind_mark, behind_spaces, read_number, read_signed};
 use crate::step::read_step;
-use crate::wrong::{Fault, Wrong};
+use crate::wrong::{Fault, Wrong, fault_at};
 use context_walk::ContextNote;
-use control_flow::{Block, BlockList, Flow, StepList};
+use control_flow::{Block, BlockList, StepList};
 use std::alloc::{AllocError, Global};
 use tag_list::TagList;
 
@@ -42,108 +42,131 @@ impl From<AllocError> for NoLine {
     }
 }
 
-/// What stands in a line.
-#[derive(Drop)]
-pub(crate) struct Line {
-    pub(crate) flow: Flow,
-    pub(crate) note: ContextNote,
-    /// For each block, how many bytes of the line stand at it and behind.
-    pub(crate) lefts: Vec<usize>,
-}
-
-/// The flow of a line, with its counts.
-pub(crate) fn read_line(alloc: Global, text: &[u8]) -> Result<Line, NoLine>
-    requires { length text.now ≤ 2 ^ 30 }
-    ensures reads { IfOk result (λ line. line_at text.now ≡ Reads (line_of line) []) }
+/// Reads the blocks of a line, and gives the counts behind them.
+pub(crate) fn read_line(
+    blocks: &mut BlockList,
+    alloc: Global,
+    text: &[u8],
+) -> Result<ContextNote, NoLine>
+    requires small { length text.now ≤ 2 ^ 30 }
+    requires empty { blocks.old ≡ [] }
+    ensures reads { IfOk result (λ note. line_at text.now ≡ Reads (line_with (graph_of_blocks blocks.new) note) []) }
     ensures fails { IfErr result (IsReadingOf (line_at text.now)) }
 {
-    let mut blocks = BlockList::new(alloc);
-    let mut lefts = Vec::new(alloc);
-    let mut rest = behind_spaces(text);
-    'parts: loop {
-        push_left(&mut lefts, rest.len())?;
-        let (block, behind) = read_block(alloc, rest)?;
-        if blocks.push(block).is_err() {
-            return Err(NoLine::NoMemory);
-        }
-        let (another, behind) = read_another(behind)?;
-        if !another {
-            let note = read_note(behind)?;
-            let flow = Flow { blocks };
-            return Ok(Line { flow, note, lefts });
-        }
-        rest = behind;
-    }
+    let rest = read_blocks(blocks, alloc, behind_spaces(text))?;
+    let note = read_note(rest)?;
+    Ok(note)
 }
 
-// How many bytes are left at a block.
-fn push_left(lefts: &mut Vec<usize>, left: usize) -> Result<(), AllocError>
-    ensures { OnOk result (lefts.new.items ≡ lefts.old.items ++ left ∷ []) }
-{
-    lefts.push(left)?;
-    Ok(())
-}
-
-// What stands behind a block: another one, or the counts; and the text of that.
-fn read_another(text: &[u8]) -> Result<(bool, &[u8]), Fault>
-    ensures reads { IfOk result (λ read. another_at text.now ≡ Reads read.0 read.1.now) }
-    ensures fails { IfErr result (λ fault. another_at text.now ≡ Fails fault.wrong fault.left) }
-    ensures shorter { IfOk result (λ read. length read.1.now < length text.now) }
-{
-    match text.split_first() {
-        Some((b'|', others)) => Ok((true, behind_spaces(others))),
-        Some((b';', others)) => Ok((false, behind_spaces(others))),
-        _ => Err(Fault {
-            left: text.len(),
-            wrong: Wrong::NoCounts,
-        }),
-    }
-}
-
-// The counts behind a flow, which end the line.
+// The counts behind the blocks, which end the line.
 fn read_note(text: &[u8]) -> Result<ContextNote, Fault>
     ensures reads { IfOk result (λ note. note_at text.now ≡ Reads note []) }
     ensures fails { IfErr result (λ fault. note_at text.now ≡ Fails fault.wrong fault.left) }
+{
+    let rest = behind_mark(text, b';', Wrong::NoCounts)?;
+    read_counts(behind_spaces(rest))
+}
+
+fn read_counts(text: &[u8]) -> Result<ContextNote, Fault>
+    ensures reads { IfOk result (λ note. counts_at text.now ≡ Reads note []) }
+    ensures fails { IfErr result (λ fault. counts_at text.now ≡ Fails fault.wrong fault.left) }
 {
     let (enters, rest) = read_signed(text)?;
     let rest = behind_mark(behind_spaces(rest), b',', Wrong::NoComma)?;
     let (leaves, rest) = read_signed(behind_spaces(rest))?;
     let rest = behind_spaces(rest);
     if rest.is_empty() {
-        Ok(ContextNote { enters, leaves })
-    } else {
-        Err(Fault {
-            left: rest.len(),
-            wrong: Wrong::NoEnd,
-        })
+        return Ok(ContextNote { enters, leaves });
     }
+    Err(fault_at(rest, Wrong::NoEnd))
 }
 
-// A block, and the text behind it and its spaces.
-fn read_block(alloc: Global, text: &[u8]) -> Result<(Block, &[u8]), NoLine>
-    requires { length text.now ≤ 2 ^ 30 }
-    ensures reads { IfOk result (λ read. block_at text.now ≡ Reads (block_of read.0) read.1.now) }
-    ensures fails { IfErr result (IsReadingOf (block_at text.now)) }
-    ensures shorter { IfOk result (λ read. length read.1.now < length text.now) }
+// Appends blocks, one behind another, and gives the text behind them.
+fn read_blocks<'t>(
+    blocks: &mut BlockList,
+    alloc: Global,
+    text: &'t [u8],
+) -> Result<&'t [u8], NoLine>
+    requires small { length text.now ≤ 2 ^ 30 }
+    requires empty { blocks.old ≡ [] }
+    ensures reads { IfOk result (λ rest. blocks_at text.now ≡ Reads (graph_of_blocks blocks.new) rest.now) }
+    ensures fails { IfErr result (IsReadingOf (blocks_at text.now)) }
 {
-    let (steps, rest) = read_steps(alloc, text)?;
-    if let Some((b'>', others)) = rest.split_first() {
-        let (next, rest) = read_successors(alloc, behind_spaces(others))?;
-        return Ok((Block { steps, next }, rest));
+    let mut rest = text;
+    'parts: loop {
+        let after = read_block(blocks, alloc, rest)?;
+        let behind = behind_spaces(after);
+        match behind_bar(behind) {
+            Some(onward) => rest = onward,
+            None => return Ok(behind),
+        }
     }
-    let next = TagList::new(alloc);
-    Ok((Block { steps, next }, rest))
 }
 
-// The steps of a block, or the mark for none.
-fn read_steps(alloc: Global, text: &[u8]) -> Result<(StepList, &[u8]), NoLine>
-    ensures reads { IfOk result (λ read. steps_at text.now ≡ Reads (map step_of read.0) read.1.now) }
-    ensures fails { IfErr result (IsReadingOf (steps_at text.now)) }
-    ensures shorter { IfOk result (λ read. length read.1.now < length text.now) }
+// Where the next block begins, if one does.
+fn behind_bar(text: &[u8]) -> Option<&[u8]>
+    ensures begins { MatchOption result (begins_block text.now ≡ false) (λ _. begins_block text.now ≡ true) }
+    ensures onward { IfSome result (λ rest. rest.now ≡ behind_bar text.now) }
+    ensures shorter { IfSome result (λ rest. length rest.now < length text.now) }
+{
+    match text.split_first() {
+        Some((b'|', others)) => Some(behind_spaces(others)),
+        _ => None,
+    }
+}
+
+// Appends a block, and gives the text behind it.
+fn read_block<'t>(blocks: &mut BlockList, alloc: Global, text: &'t [u8]) -> Result<&'t [u8], NoLine>
+    requires { length text.now ≤ 2 ^ 30 }
+    ensures reads { IfOk result (λ rest. IsOneMore (graph_of_blocks blocks.old) (graph_of_blocks blocks.new) (block_at text.now) rest.now) }
+    ensures fails { IfErr result (IsReadingOf (block_at text.now)) }
+    ensures shorter { IfOk result (λ rest. length rest.now < length text.now) }
 {
     let mut steps = StepList::new(alloc);
+    let mut next = TagList::new(alloc);
+    let rest = read_parts(&mut steps, &mut next, text)?;
+    push_block(blocks, Block { steps, next })?;
+    Ok(rest)
+}
+
+fn push_block(blocks: &mut BlockList, block: Block) -> Result<(), AllocError>
+    ensures { OnOk result (blocks.new ≡ blocks.old ++ block ∷ []) }
+{
+    match blocks.push(block) {
+        Ok(()) => Ok(()),
+        Err(_) => Err(AllocError),
+    }
+}
+
+// Reads the steps and the successors of a block.
+fn read_parts<'t>(
+    steps: &mut StepList,
+    next: &mut TagList,
+    text: &'t [u8],
+) -> Result<&'t [u8], NoLine>
+    requires small { length text.now ≤ 2 ^ 30 }
+    requires steps { steps.old ≡ [] }
+    requires next { next.old ≡ [] }
+    ensures reads { IfOk result (λ rest. block_at text.now ≡ Reads (block_with (map step_of steps.new) (targets next.new)) rest.now) }
+    ensures fails { IfErr result (IsReadingOf (block_at text.now)) }
+    ensures shorter { IfOk result (λ rest. length rest.now < length text.now) }
+{
+    let rest = read_steps(steps, text)?;
+    match rest.split_first() {
+        Some((b'>', others)) => read_successors(next, behind_spaces(others)),
+        _ => Ok(rest),
+    }
+}
+
+// Reads the steps of a block, or the mark for none.
+fn read_steps<'t>(steps: &mut StepList, text: &'t [u8]) -> Result<&'t [u8], NoLine>
+    requires { steps.old ≡ [] }
+    ensures reads { IfOk result (λ rest. steps_at text.now ≡ Reads (map step_of steps.new) rest.now) }
+    ensures fails { IfErr result (IsReadingOf (steps_at text.now)) }
+    ensures shorter { IfOk result (λ rest. length rest.now < length text.now) }
+{
     if let Some((b'-', others)) = text.split_first() {
-        return Ok((steps, behind_spaces(others)));
+        return Ok(behind_spaces(others));
     }
     let mut rest = text;
     'steps: loop {
@@ -153,7 +176,7 @@ fn read_steps(alloc: Global, text: &[u8]) -> Result<(StepList, &[u8]), NoLine>
         }
         rest = behind_spaces(behind);
         if !begins_step(rest) {
-            return Ok((steps, rest));
+            return Ok(rest);
         }
     }
 }
@@ -165,21 +188,21 @@ fn begins_step(text: &[u8]) -> bool
     !matches!(text.first(), None | Some(b'>' | b'|' | b';'))
 }
 
-// The numbers of successors, of which there is one at least.
-fn read_successors(alloc: Global, text: &[u8]) -> Result<(TagList, &[u8]), NoLine>
-    requires { length text.now ≤ 2 ^ 30 }
-    ensures reads { IfOk result (λ read. successors_at text.now ≡ Reads (targets read.0) read.1.now) }
+// Reads the numbers of successors, of which there is one at least.
+fn read_successors<'t>(next: &mut TagList, text: &'t [u8]) -> Result<&'t [u8], NoLine>
+    requires small { length text.now ≤ 2 ^ 30 }
+    requires empty { next.old ≡ [] }
+    ensures reads { IfOk result (λ rest. successors_at text.now ≡ Reads (targets next.new) rest.now) }
     ensures fails { IfErr result (IsReadingOf (successors_at text.now)) }
-    ensures shorter { IfOk result (λ read. length read.1.now < length text.now) }
+    ensures shorter { IfOk result (λ rest. length rest.now < length text.now) }
 {
-    let mut next = TagList::new(alloc);
     let mut rest = text;
     'numbers: loop {
-        let (number, behind) = read_successor(rest)?;
-        next.push(number, 0)?;
+        let (number, behind) = read_number(rest, 1_073_741_823)?;
+        next.push(number as u32, 0)?;
         rest = behind_spaces(behind);
         if !begins_number(rest) {
-            return Ok((next, rest));
+            return Ok(rest);
         }
     }
 }
@@ -188,22 +211,4 @@ fn begins_number(text: &[u8]) -> bool
     ensures { result ≡ begins_number text.now }
 {
     !matches!(text.first(), None | Some(b'|' | b';'))
-}
-
-// The number of a successor.
-fn read_successor(text: &[u8]) -> Result<(u32, &[u8]), Fault>
-    ensures reads { IfOk result (λ read. successor_at text.now ≡ Reads read.0 read.1.now) }
-    ensures fails { IfErr result (λ fault. successor_at text.now ≡ Fails fault.wrong fault.left) }
-    ensures small { IfOk result (λ read. read.0 < 2 ^ 30) }
-    ensures shorter { IfOk result (λ read. length read.1.now < length text.now) }
-{
-    let (number, rest) = read_index(text)?;
-    if number < 1 << 30 {
-        Ok((number, rest))
-    } else {
-        Err(Fault {
-            left: text.len(),
-            wrong: Wrong::LargeNumber,
-        })
-    }
 }

@@ -8,13 +8,14 @@
 
 mod check;
 mod command;
+mod front;
 mod line;
 mod number;
 mod step;
 mod text;
 mod wrong;
 
-use crate::command::{flow_answers, push_stop};
+use crate::command::{Stop, flow_answers, push_stop};
 use sparse_outside::RealFiles;
 use std::env;
 use std::io::{self, Write};
@@ -38,9 +39,13 @@ fn answer_file(rt: &HostRuntime, path: &[u8]) -> io::Result<ExitCode> {
     let mut shown = Vec::new(rt.alloc());
     let ended = flow_answers(&mut shown, rt.alloc(), path, &mut RealFiles::new(rt));
     rt.stdout().write_all(shown.as_slice())?;
-    let Err(stop) = ended else {
-        return Ok(ExitCode::SUCCESS);
-    };
+    match ended {
+        Ok(()) => Ok(ExitCode::SUCCESS),
+        Err(stop) => tell_stop(rt, path, stop),
+    }
+}
+
+fn tell_stop(rt: &HostRuntime, path: &[u8], stop: Stop) -> io::Result<ExitCode> {
     let mut told = Vec::new(rt.alloc());
     push_stop(&mut told, path, stop)?;
     rt.stderr().write_all(told.as_slice())?;

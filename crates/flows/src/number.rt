@@ -1,8 +1,8 @@
 // Numbers and marks at the front of a text.
 ghost use Rattle.std.specs.Prelude.{◌≡◌, ◌<◌, ◌≤◌, ◌+◌, ◌-◌, ◌*◌, ◌^◌, IfErr, IfOk, IfSome, MatchOption, length};
-ghost use Rattle.flows.specs.Reading.{Reads, Fails, behind_spaces, digits_from, index_at, mark_at, negative, number_at, positive, signed_at};
+ghost use Rattle.flows.specs.Reading.{Reads, Fails, behind_spaces, digits_from, mark_at, negative_at, number_at, positive_at, signed_at};
 
-use crate::wrong::{Fault, Wrong};
+use crate::wrong::{Fault, Wrong, fault_at};
 
 /// The text behind the spaces at its front.
 pub(crate) fn behind_spaces(text: &[u8]) -> &[u8]
@@ -27,53 +27,26 @@ pub(crate) fn behind_mark(text: &[u8], mark: u8, wrong: Wrong) -> Result<&[u8], 
 {
     match text.split_first() {
         Some((byte, others)) if *byte == mark => Ok(others),
-        _ => Err(Fault {
-            left: text.len(),
-            wrong,
-        }),
+        _ => Err(fault_at(text, wrong)),
     }
 }
 
-// A number in decimal that is at most so large.
-fn read_number(text: &[u8], most: u64) -> Result<(u64, &[u8]), Fault>
+/// A number in decimal that is at most so large.
+pub(crate) fn read_number(text: &[u8], most: u64) -> Result<(u64, &[u8]), Fault>
     ensures reads { IfOk result (λ read. number_at most text.now ≡ Reads read.0 read.1.now) }
     ensures fails { IfErr result (λ fault. number_at most text.now ≡ Fails fault.wrong fault.left) }
     ensures most { IfOk result (λ read. read.0 ≤ most) }
     ensures shorter { IfOk result (λ read. length read.1.now < length text.now) }
 {
     let Some((digit, others)) = text.split_first() else {
-        return Err(no_number(text));
+        return Err(fault_at(text, Wrong::NoNumber));
     };
     if !digit.is_ascii_digit() {
-        return Err(no_number(text));
+        return Err(fault_at(text, Wrong::NoNumber));
     }
-    let Some((number, rest)) = read_digits(u64::from(*digit - b'0'), others) else {
-        return Err(large_number(text));
-    };
-    if number <= most {
-        Ok((number, rest))
-    } else {
-        Err(large_number(text))
-    }
-}
-
-fn no_number(text: &[u8]) -> Fault
-    ensures left { result.left ≡ length text.now }
-    ensures wrong { result.wrong ≡ Wrong.NoNumber }
-{
-    Fault {
-        left: text.len(),
-        wrong: Wrong::NoNumber,
-    }
-}
-
-fn large_number(text: &[u8]) -> Fault
-    ensures left { result.left ≡ length text.now }
-    ensures wrong { result.wrong ≡ Wrong.LargeNumber }
-{
-    Fault {
-        left: text.len(),
-        wrong: Wrong::LargeNumber,
+    match read_digits(u64::from(*digit - b'0'), others) {
+        Some((number, rest)) if number <= most => Ok((number, rest)),
+        _ => Err(fault_at(text, Wrong::LargeNumber)),
     }
 }
 
@@ -102,16 +75,6 @@ fn one_digit_more(number: u64, digit: u8) -> Option<u64>
     number.checked_mul(10)?.checked_add(u64::from(digit))
 }
 
-/// The number of a token or of a block.
-pub(crate) fn read_index(text: &[u8]) -> Result<(u32, &[u8]), Fault>
-    ensures reads { IfOk result (λ read. index_at text.now ≡ Reads read.0 read.1.now) }
-    ensures fails { IfErr result (λ fault. index_at text.now ≡ Fails fault.wrong fault.left) }
-    ensures shorter { IfOk result (λ read. length read.1.now < length text.now) }
-{
-    let (number, rest) = read_number(text, 4_294_967_295)?;
-    Ok((number as u32, rest))
-}
-
 /// A number with a sign, or without one.
 pub(crate) fn read_signed(text: &[u8]) -> Result<(i64, &[u8]), Fault>
     ensures reads { IfOk result (λ read. signed_at text.now ≡ Reads read.0 read.1.now) }
@@ -126,8 +89,8 @@ pub(crate) fn read_signed(text: &[u8]) -> Result<(i64, &[u8]), Fault>
 }
 
 fn read_positive(digits: &[u8]) -> Result<(i64, &[u8]), Fault>
-    ensures reads { IfOk result (λ read. positive (number_at (2 ^ 63 - 1) digits.now) ≡ Reads read.0 read.1.now) }
-    ensures fails { IfErr result (λ fault. positive (number_at (2 ^ 63 - 1) digits.now) ≡ Fails fault.wrong fault.left) }
+    ensures reads { IfOk result (λ read. positive_at digits.now ≡ Reads read.0 read.1.now) }
+    ensures fails { IfErr result (λ fault. positive_at digits.now ≡ Fails fault.wrong fault.left) }
     ensures shorter { IfOk result (λ read. length read.1.now < length digits.now) }
 {
     let (number, rest) = read_number(digits, 9_223_372_036_854_775_807)?;
@@ -135,8 +98,8 @@ fn read_positive(digits: &[u8]) -> Result<(i64, &[u8]), Fault>
 }
 
 fn read_negative(digits: &[u8]) -> Result<(i64, &[u8]), Fault>
-    ensures reads { IfOk result (λ read. negative (number_at (2 ^ 63) digits.now) ≡ Reads read.0 read.1.now) }
-    ensures fails { IfErr result (λ fault. negative (number_at (2 ^ 63) digits.now) ≡ Fails fault.wrong fault.left) }
+    ensures reads { IfOk result (λ read. negative_at digits.now ≡ Reads read.0 read.1.now) }
+    ensures fails { IfErr result (λ fault. negative_at digits.now ≡ Fails fault.wrong fault.left) }
     ensures shorter { IfOk result (λ read. length read.1.now < length digits.now) }
 {
     let (number, rest) = read_number(digits, 9_223_372_036_854_775_808)?;

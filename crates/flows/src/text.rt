@@ -1,15 +1,18 @@
 // The lines of a text to their answers, a line each.
-ghost use Rattle.std.specs.Prelude.{◌≡◌, ◌<◌, ◌≤◌, ◌+◌, ◌^◌, ◌++◌, IfErr, IfOk, OnOk, codes, length};
+ghost use Rattle.std.specs.Prelude.{◌≡◌, ◌<◌, ◌≤◌, ◌+◌, ◌^◌, ◌++◌, IfErr, IfOk, OnOk, length};
 ghost use Rattle.std.specs.Fmt.{decimal};
 ghost use Rattle.flows.specs.Shown.{shown_answer, shown_exit};
-ghost use Rattle.flows.specs.Answers.{EndsSo, IsAnswerFor, IsAnswerOf, IsFaultFor, IsFaultOf, behind_line, first_line, line_of, place_of};
+ghost use Rattle.control_flow.specs.Seen.{graph_of};
+ghost use Rattle.flows.specs.Lines.{line_with};
+ghost use Rattle.flows.specs.Answers.{EndsSo, IsAnswerFor, IsAnswerOf, IsFaultFor, IsFaultOf, place_of};
 
 use crate::check::asked_fault;
-use crate::line::{Line, NoLine, read_line};
-use crate::wrong::{Fault, Place};
-use context_walk::{ContextAnswer, walk};
+use crate::front::{from_block, split_at_byte};
+use crate::line::{NoLine, read_line};
+use crate::wrong::{Fault, Place, fault_at};
+use context_walk::{ContextAnswer, ContextNote, walk};
+use control_flow::{BlockList, Flow};
 use itoa::Buffer;
-use memchr::memchr;
 use std::alloc::{AllocError, Global};
 
 /// Why a text is answered no further.
@@ -38,7 +41,7 @@ pub(crate) fn push_answers(shown: &mut Vec<u8>, alloc: Global, text: &[u8]) -> R
     let mut rest = text;
     let mut number: usize = 1;
     'lines: while !rest.is_empty() {
-        let (line, others) = first_line(rest);
+        let (line, others) = split_at_byte(rest, b'\n');
         match answer_line(alloc, line) {
             Ok(answer) => push_answer(shown, answer)?,
             Err(NoLine::NoMemory) => return Err(NoAnswer::NoMemory),
@@ -48,20 +51,6 @@ pub(crate) fn push_answers(shown: &mut Vec<u8>, alloc: Global, text: &[u8]) -> R
         rest = others;
     }
     Ok(())
-}
-
-// The first line without its new-line, and what stands behind that.
-fn first_line(text: &[u8]) -> (&[u8], &[u8])
-    requires { 0 < length text.now }
-    ensures line { result.0.now ≡ first_line text.now }
-    ensures behind { result.1.now ≡ behind_line text.now }
-    ensures within { length result.0.now ≤ length text.now }
-    ensures shorter { length result.1.now < length text.now }
-{
-    match memchr(b'\n', text) {
-        Some(end) => (&text[..end], &text[end + 1..]),
-        None => (text, &[]),
-    }
 }
 
 fn place_of(number: usize, line: &[u8], fault: Fault) -> Place
@@ -81,20 +70,27 @@ fn answer_line(alloc: Global, text: &[u8]) -> Result<ContextAnswer, NoLine>
     ensures answer { IfOk result (IsAnswerOf text.now) }
     ensures fault { IfErr result (IsFaultOf text.now) }
 {
-    let line = read_line(alloc, text)?;
-    answer_flow(alloc, &line)
+    let mut flow = Flow {
+        blocks: BlockList::new(alloc),
+    };
+    let note = read_line(&mut flow.blocks, alloc, text)?;
+    answer_flow(alloc, text, &flow, &note)
 }
 
-// The answer for the flow that a line has.
-fn answer_flow(alloc: Global, line: &Line) -> Result<ContextAnswer, NoLine>
-    ensures answer { IfOk result (IsAnswerFor (line_of line.now)) }
-    ensures fault { IfErr result (IsFaultFor (line_of line.now)) }
+// The answer for the flow and the counts that a line has.
+fn answer_flow(
+    alloc: Global,
+    text: &[u8],
+    flow: &Flow,
+    note: &ContextNote,
+) -> Result<ContextAnswer, NoLine>
+    ensures answer { IfOk result (IsAnswerFor (line_with (graph_of flow.now) note.now)) }
+    ensures fault { IfErr result (IsFaultFor text.now (line_with (graph_of flow.now) note.now)) }
 {
-    if let Some((number, wrong)) = asked_fault(line.flow.blocks.as_slice(), line.note.enters) {
-        let left = line.lefts.get(number).copied().unwrap_or(0);
-        return Err(NoLine::Wrong(Fault { left, wrong }));
+    if let Some((number, wrong)) = asked_fault(flow.blocks.as_slice(), note.enters) {
+        return Err(NoLine::Wrong(fault_at(from_block(text, number), wrong)));
     }
-    Ok(walk(alloc, &line.flow, &line.note)?)
+    Ok(walk(alloc, flow, note)?)
 }
 
 fn push_answer(shown: &mut Vec<u8>, answer: ContextAnswer) -> Result<(), AllocError>
@@ -102,28 +98,34 @@ fn push_answer(shown: &mut Vec<u8>, answer: ContextAnswer) -> Result<(), AllocEr
 {
     match answer {
         ContextAnswer::Balanced => shown.extend_from_slice(b"Balanced\n"),
-        ContextAnswer::Different(token) => push_token(shown, b"Different(", token),
-        ContextAnswer::Below(token) => push_token(shown, b"Below(", token),
+        ContextAnswer::Different(token) => {
+            push_number(shown, b"Different(", u64::from(token), b")\n")
+        }
+        ContextAnswer::Below(token) => push_number(shown, b"Below(", u64::from(token), b")\n"),
         ContextAnswer::WrongExit(token, found) => push_exit(shown, token, found),
     }
-}
-
-fn push_token(shown: &mut Vec<u8>, front: &[u8], token: u32) -> Result<(), AllocError>
-    ensures { OnOk result (shown.new.items ≡ shown.old.items ++ front.now ++ decimal token ++ codes ")\n") }
-{
-    let mut buffer = Buffer::new();
-    shown.extend_from_slice(front)?;
-    shown.extend_from_slice(buffer.format(token).as_bytes())?;
-    shown.extend_from_slice(b")\n")
 }
 
 fn push_exit(shown: &mut Vec<u8>, token: u32, found: i64) -> Result<(), AllocError>
     ensures { OnOk result (shown.new.items ≡ shown.old.items ++ shown_exit token found) }
 {
     let mut buffer = Buffer::new();
-    shown.extend_from_slice(b"WrongExit(")?;
-    shown.extend_from_slice(buffer.format(token).as_bytes())?;
-    shown.extend_from_slice(b", ")?;
+    push_number(shown, b"WrongExit(", u64::from(token), b", ")?;
     shown.extend_from_slice(buffer.format(found).as_bytes())?;
     shown.extend_from_slice(b")\n")
+}
+
+/// Appends a number in decimal, between these texts.
+pub(crate) fn push_number(
+    text: &mut Vec<u8>,
+    front: &[u8],
+    number: u64,
+    back: &[u8],
+) -> Result<(), AllocError>
+    ensures { OnOk result (text.new.items ≡ text.old.items ++ front.now ++ decimal number ++ back.now) }
+{
+    let mut buffer = Buffer::new();
+    text.extend_from_slice(front)?;
+    text.extend_from_slice(buffer.format(number).as_bytes())?;
+    text.extend_from_slice(back)
 }

@@ -1,5 +1,6 @@
 // What can be wrong with a line, and where.
-ghost use Rattle.std.specs.Prelude.{◌≡◌};
+ghost use Rattle.std.specs.Prelude.{◌≡◌, length};
+ghost use Rattle.flows.specs.Reading.{fault_at};
 ghost use Rattle.flows.specs.Shown.{wrong_text};
 
 /// What is wrong with a line.
@@ -44,6 +45,18 @@ impl Wrong {
 pub(crate) struct Fault {
     pub(crate) left: usize,
     pub(crate) wrong: Wrong,
+}
+
+/// What is wrong at the front of a text.
+pub(crate) fn fault_at(text: &[u8], wrong: Wrong) -> Fault
+    ensures left { result.left ≡ length text.now }
+    ensures wrong { result.wrong ≡ wrong }
+    ensures whole { result ≡ fault_at wrong (length text.now) }
+{
+    Fault {
+        left: text.len(),
+        wrong,
+    }
 }
 
 /// What is wrong with a text, by line and column, both counted from 1.

@@ -7,5 +7,5 @@ use Rattle.flows.proofs.text.answer_flow.Goals as goal
 
 pub walk-requires-clause-closed : goal.walk-requires-clause-closed
 walk-requires-clause-closed c =
-    let same : c.as_slice.result.now ≡ c.args.line.now.flow.blocks = cc in
+    let same : c.as_slice.result.now ≡ c.args.flow.now.blocks = cc in
     subst (λ (blocks : List Block). IsClosed (graph_of_blocks blocks)) same c.in_default.ensures.asked.closed

@@ -1,0 +1,9 @@
+pub mod StayLemmas
+pub mod BodyLemmas
+pub mod PlainLemmas
+pub mod KindLemmas
+pub mod KnownLemmas
+pub mod MemberLemmas
+pub mod NameLemmas
+pub mod RowLemmas
+pub mod TellLemmas

@@ -1,0 +1,5 @@
+pub mod Places
+pub mod Bodies
+pub mod Known
+pub mod Members
+pub mod Rows

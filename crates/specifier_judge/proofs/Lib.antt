@@ -1,0 +1,5 @@
+pub mod KindLemmas
+pub mod PartLemmas
+pub mod RowLemmas
+pub mod LoadedLemmas
+pub mod KeptLemmas

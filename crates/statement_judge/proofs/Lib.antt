@@ -1,0 +1,14 @@
+pub mod AboveLemmas
+pub mod EnclosingLemmas
+pub mod FactLemmas
+pub mod GotoLemmas
+pub mod KeepingLemmas
+pub mod KeptLemmas
+pub mod KindLemmas
+pub mod LaidLemmas
+pub mod OnlyLemmas
+pub mod OwnerLemmas
+pub mod PartLemmas
+pub mod RowLemmas
+pub mod RunLemmas
+pub mod StatementLemmas

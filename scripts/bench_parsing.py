@@ -46,7 +46,9 @@ def passes(family, check, expand, most_nanoseconds):
     counted = ", ".join(f"{it:,.0f}" for it in instructions_of(family, check, largest) if it is not None)
     cells = [family.name, f"{tokens:,}", counted, f"{shorter:.3f}, {seconds:.3f}", f"{seconds / max(shorter, bench.LEAST_CALL_SECONDS):.1f}"]
     print("|", " | ".join([*cells, f"{nanoseconds:.0f}", f"{memory:.0f}"]), "|", flush=True)
-    grows_in_step = bench.takes_in_step({largest // 10: shorter, largest: seconds}, bench.MOST_CALL_RATIO)
+    grows_in_step = bench.takes_in_step({largest // 10: shorter, largest: seconds}, bench.MOST_CALL_RATIO) or bench.pairs_take_in_step(
+        check, family.name, family.make(largest // 10), whole, bench.MOST_CALL_RATIO
+    )
     is_small = memory <= MOST_BYTES or kibibytes < bench.LEAST_KIBIBYTES
     return grows_in_step and is_small and nanoseconds <= most_nanoseconds
 

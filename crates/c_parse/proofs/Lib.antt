@@ -4,6 +4,7 @@ pub mod Expanded
 pub mod Running
 pub mod Waiting
 pub mod Opened
+pub mod Absent
 pub mod Looked
 pub mod Moving
 pub mod Finishing

@@ -1,5 +1,5 @@
 -- Each kind of step, whole.
-use Rattle.std.proofs.Common.{◌≡◌, ℕ, ◌^◌, ◌≤◌, true, ◌&&◌, List, [], ◌∷◌, ◌++◌, Option, Some, None, drop, length, sym, ap, subst, ◌∙◌, arith, if◌then◌else◌}
+use Rattle.std.proofs.Common.{◌≡◌, ℕ, ◌^◌, ◌≤◌, true, List, [], ◌∷◌, ◌++◌, Option, Some, None, drop, length, sym, ap, subst, ◌∙◌, arith, length-append, if◌then◌else◌}
 use Rattle.std.specs.List.{list_all}
 use Rattle.std.proofs.lemmas.Bool.{and_parts}
 use Rattle.vocabulary.specs.declared.symbol.Symbol.{Symbol}
@@ -7,6 +7,7 @@ use Rattle.vocabulary.specs.declared.action.Action.{Action}
 use Rattle.vocabulary.specs.declared.production_item.ProductionItem.{ProductionItem}
 use Rattle.vocabulary.specs.declared.production_item.ProductionItem.TheVariants.{Nonterminal, Do}
 use Rattle.meaning_grammar.specs.Terminals.{Terminal}
+use Rattle.meaning_grammar.specs.Choice.{choice}
 use Rattle.meaning_grammar.specs.Sorts.{ATree}
 use Rattle.meaning_derivation.specs.State.{State, Done, Goes, with_waiting}
 use Rattle.meaning_derivation.specs.Taking.{take_one}
@@ -23,7 +24,9 @@ use Rattle.c_parse.specs.Moments.{MayBeLooks, IsReady, Moves, standing_with}
 use Rattle.c_parse.specs.declared.looks.Looks.{Looks}
 use Rattle.c_parse.specs.declared.parser.Parser.{Parser}
 use Rattle.meaning_derivation.proofs.Taken.{taken_sorted, taken_shortens, unended_behind}
-use Rattle.c_parse.proofs.Expanded.{expanded_looks}
+use Rattle.c_opening.specs.Absent.{AreAbsent}
+use Rattle.c_parse.proofs.Absent.{absent_opened, absent_there}
+use Rattle.c_parse.proofs.Expanded.{chosen_there, expanded_looks}
 use Rattle.c_parse.proofs.Looked.{looks_after}
 use Rattle.c_parse.proofs.Opened.{Opened, opened}
 
@@ -73,19 +76,17 @@ act_moves action before after ready goes same names looks =
       shorter = omega (arith, ap length left);
     }
 
--- what a symbol opens to stands in its place
-pub opening_moves : (symbol : Symbol) (row : List ProductionItem) (looks : Looks) (before after : Parser) (count : ℕ)
+-- other items stand in the place of a symbol, and no terminal is taken
+opened_moves : (symbol : Symbol) (looks : Looks) (before after : Parser) (count : ℕ)
     → IsReady (Nonterminal symbol ∷ before.pending) before → AreLooks (state_of before.state) before.terminals.terminals looks
-    → Opens looks.next looks.behind symbol row → after.pending ≡ row ++ before.pending → count ≡ symbols after.pending → length after.pending ≤ 2 ^ 40
-    → state_of after.state ≡ with_waiting count (state_of before.state) → after.terminals ≡ before.terminals
+    → Opened (Nonterminal symbol ∷ before.pending) after.pending (state_of before.state) (with_waiting count (state_of before.state)) before.terminals.terminals
+    → length after.pending ≤ 2 ^ 40 → state_of after.state ≡ with_waiting count (state_of before.state) → after.terminals ≡ before.terminals
     → after.state.names ≡ before.state.names → after.looks ≡ Some looks → Moves (Nonterminal symbol ∷ before.pending) before after
-opening_moves symbol row looks before after count ready looked opens pending counted few state same names later =
+opened_moves symbol looks before after count ready looked there few state same names later =
     let left : after.terminals.terminals ≡ before.terminals.terminals = ap (λ terminals. terminals.terminals) same in
     let s : State = state_of before.state in
     let next : State = state_of after.state in
     let terminals : List Terminal = before.terminals.terminals in
-    let here = opened looks.next looks.behind opens before.pending s terminals count looked.next looked.behind (counted ∙ ap symbols pending) in
-    let there = subst (λ (items : List ProductionItem). Opened (Nonterminal symbol ∷ before.pending) items s (with_waiting count s) terminals) (sym pending) here in
     let moved = subst (λ (last : State). Opened (Nonterminal symbol ∷ before.pending) after.pending s last terminals) (sym state) there in
     let shortens = moved.shorter in
     record {
@@ -102,3 +103,33 @@ opening_moves symbol row looks before after count ready looked opens pending cou
       names = names;
       shorter = omega (arith, ap length left, shortens);
     }
+
+-- what a symbol opens to stands in its place
+pub opening_moves : (symbol : Symbol) (row : List ProductionItem) (looks : Looks) (before after : Parser) (count : ℕ)
+    → IsReady (Nonterminal symbol ∷ before.pending) before → AreLooks (state_of before.state) before.terminals.terminals looks
+    → Opens looks.next looks.behind symbol row → after.pending ≡ row ++ before.pending → count ≡ symbols after.pending → length after.pending ≤ 2 ^ 40
+    → state_of after.state ≡ with_waiting count (state_of before.state) → after.terminals ≡ before.terminals
+    → after.state.names ≡ before.state.names → after.looks ≡ Some looks → Moves (Nonterminal symbol ∷ before.pending) before after
+opening_moves symbol row looks before after count ready looked opens pending counted few state same names later =
+    let s : State = state_of before.state in
+    let terminals : List Terminal = before.terminals.terminals in
+    let here = opened looks.next looks.behind opens before.pending s terminals count looked.next looked.behind (counted ∙ ap symbols pending) in
+    let there = subst (λ (items : List ProductionItem). Opened (Nonterminal symbol ∷ before.pending) items s (with_waiting count s) terminals) (sym pending) here in
+    opened_moves symbol looks before after count ready looked there few state same names later
+
+-- operators that aren't there are passed over
+pub absent_moves : (symbol : Symbol) (passed : List ProductionItem) (looks : Looks) (before after : Parser) (count : ℕ)
+    → IsReady (Nonterminal symbol ∷ before.pending) before → AreLooks (state_of before.state) before.terminals.terminals looks
+    → choice symbol looks.next looks.behind ≡ Some [] → AreAbsent looks.next looks.behind passed → before.pending ≡ passed ++ after.pending
+    → count ≡ symbols before.pending → length before.pending ≤ 2 ^ 40
+    → state_of after.state ≡ with_waiting count (state_of before.state) → after.terminals ≡ before.terminals
+    → after.state.names ≡ before.state.names → after.looks ≡ Some looks → Moves (Nonterminal symbol ∷ before.pending) before after
+absent_moves symbol passed looks before after count ready looked chosen absent pending counted few state same names later =
+    let s : State = state_of before.state in
+    let terminals : List Terminal = before.terminals.terminals in
+    let chosen_here = chosen_there symbol s terminals looks (Some []) looked chosen in
+    let absent_here = absent_there passed s terminals looks looked absent in
+    let here = absent_opened symbol passed after.pending s terminals count chosen_here absent_here (counted ∙ ap symbols pending) in
+    let there = subst (λ (items : List ProductionItem). Opened (Nonterminal symbol ∷ items) after.pending s (with_waiting count s) terminals) (sym pending) here in
+    let fewer : length after.pending ≤ 2 ^ 40 = omega (arith, few, ap length pending, length-append passed after.pending) in
+    opened_moves symbol looks before after count ready looked there fewer state same names later

@@ -31,7 +31,7 @@ first_again : (passed : Option Passed) (other : Passed) → first_passed (first_
 first_again None other = refl
 first_again (Some earlier) other = refl
 
-limit_again : (s : State) → with_limit ParseStack (with_limit ParseStack s) ≡ with_limit ParseStack s
+pub limit_again : (s : State) → with_limit ParseStack (with_limit ParseStack s) ≡ with_limit ParseStack s
 limit_again s = ap (λ passed. record s { passed = passed }) (first_again s.passed (record { limit = ParseStack; terminal = s.taken }))
 
 noted_twice : (first second : Bool) (s : State) → (first ≡ true → second ≡ true)
@@ -42,7 +42,7 @@ noted_twice true false s on = let clash : false ≡ true = on refl in absurd (cc
 noted_twice false true s on = refl
 noted_twice false false s on = refl
 
-over_more : (few more : ℕ) → few ≤ more → nat_lt most_pending few ≡ true → nat_lt most_pending more ≡ true
+pub over_more : (few more : ℕ) → few ≤ more → nat_lt most_pending few ≡ true → nat_lt most_pending more ≡ true
 over_more few more is over = let past = ltb-true most_pending few over in lt-ltb most_pending more (omega (arith, is, past))
 
 -- what waited before at the same terminal adds nothing where more waits now
@@ -58,7 +58,7 @@ pub record Opened (before after : List ProductionItem) (s next : State) (left : 
   pub usual : list_all is_usual before ≡ true → list_all is_usual after ≡ true
   pub shorter : live after < live before
 
-one_row : (symbol : Symbol) (row others : List ProductionItem) (s : State) (left : List Terminal) (count : ℕ)
+pub one_row : (symbol : Symbol) (row others : List ProductionItem) (s : State) (left : List Terminal) (count : ℕ)
     → choice symbol (look_of s left) (second_of s left) ≡ Some row → count ≡ symbols (row ++ others)
     → Opened (Nonterminal symbol ∷ others) (row ++ others) s (with_waiting count s) left
 one_row symbol row others s left count chosen counted =
@@ -70,7 +70,7 @@ one_row symbol row others s left count chosen counted =
       shorter = row_shortens symbol row others fits.falls;
     }
 
-then_opened : (first second third : List ProductionItem) (s middle last : State) (left : List Terminal)
+pub then_opened : (first second third : List ProductionItem) (s middle last : State) (left : List Terminal)
     → Opened first second s middle left → Opened second third middle last left → Opened first third s last left
 then_opened first second third s middle last left one further =
     let short = one.shorter in
@@ -90,10 +90,10 @@ symbols_begin (Nonterminal symbol ∷ items) others begins = omega (arith, symbo
 symbols_begin (item ∷ items) others begins = absurd (cc begins)
 
 -- the classes of the next two terminals stay
-look_stays : (s : State) (left : List Terminal) (count : ℕ) → look_of (with_waiting count s) left ≡ look_of s left
+pub look_stays : (s : State) (left : List Terminal) (count : ℕ) → look_of (with_waiting count s) left ≡ look_of s left
 look_stays s left count = ap (λ scopes. look_at scopes left) (waiting_scopes count s (with_waiting count s) refl)
 
-second_stays : (s : State) (left : List Terminal) (count : ℕ) → second_of (with_waiting count s) left ≡ second_of s left
+pub second_stays : (s : State) (left : List Terminal) (count : ℕ) → second_of (with_waiting count s) left ≡ second_of s left
 second_stays s left count = ap (λ scopes. second_look scopes left) (waiting_scopes count s (with_waiting count s) refl)
 
 chosen_before : (symbol : Symbol) (row : List ProductionItem) (first second : TokenClass) (s : State) (left : List Terminal)

@@ -4,9 +4,10 @@ ghost use Rattle.std.specs.List.{list_all};
 ghost use Rattle.c_parse.specs.Rows.{is_short, items_in};
 
 use crate::items::{count_symbols, symbol_count};
+use c_opening::absent_in_front;
 use std::alloc::{AllocError, Global};
 use std::marker::Model;
-use vocabulary::ProductionItem;
+use vocabulary::{ProductionItem, TokenClass};
 
 // How many rows may wait behind another.
 const MOST_ROWS: usize = 1 << 32;
@@ -60,7 +61,10 @@ impl Model for Pending {
 }
 
 impl Pending {
-    ghost use Rattle.std.specs.Prelude.{◌≡◌, ◌≤◌, ◌∷◌, ◌++◌, [], IfNone, IfSome, OnOk, length};
+    ghost use Rattle.std.specs.Prelude.{◌≡◌, ◌≤◌, ◌∷◌, ◌++◌, [], IfNone, IfSome, List, OnOk, length};
+    ghost use Rattle.vocabulary.specs.declared.production_item.ProductionItem.{ProductionItem};
+    ghost use Rattle.vocabulary.specs.declared.token_class.TokenClass.{TokenClass};
+    ghost use Rattle.c_opening.specs.Absent.{AreAbsent};
     ghost use Rattle.meaning_derivation.specs.Derivation.{symbols};
     ghost use Rattle.c_parse.specs.Rows.{most_waiting};
 
@@ -118,6 +122,18 @@ impl Pending {
         self.front = Row { items };
         self.count += count;
         Ok(())
+    }
+
+    /// Passes over operators that aren't there before a token of this class: as many items of the next row as stand for them, one
+    /// behind the other.
+    pub(crate) fn pass_absent(&mut self, next: TokenClass)
+        ensures { (passed : List ProductionItem) × (self.old ≡ passed ++ self.new) × ((second : TokenClass) → AreAbsent next second passed) }
+    {
+        let passed = absent_in_front(self.front.items, next);
+        self.front = Row {
+            items: &self.front.items[passed..],
+        };
+        self.count -= passed;
     }
 
     /// How many symbols of the grammar wait.

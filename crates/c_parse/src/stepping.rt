@@ -1,8 +1,9 @@
 // One step: the next item arrives, and is taken, done, or replaced by a row; what is read and what waits leave so. What an
 // action does isn't known here, nor the rows.
-ghost use Rattle.std.specs.Prelude.{◌≡◌, ◌≤◌, ◌∷◌, IfErr, OnOk, true, length};
+ghost use Rattle.std.specs.Prelude.{◌≡◌, ◌≤◌, ◌∷◌, [], IfErr, OnOk, Some, true, length};
 ghost use Rattle.vocabulary.specs.declared.production_item.ProductionItem.TheVariants.{Do, Nonterminal};
 ghost use Rattle.c_opening.specs.Opening.{Opens};
+ghost use Rattle.meaning_grammar.specs.Choice.{choice};
 ghost use Rattle.meaning_derivation.specs.Actions.{act};
 ghost use Rattle.meaning_derivation.specs.Derivation.{is_terminal_item};
 ghost use Rattle.meaning_derivation.specs.Leading.{ComesTo};
@@ -17,7 +18,7 @@ use crate::looks::{Looks, known_looks, looks_after};
 use crate::parser::Parser;
 use crate::refusing::refusal;
 use crate::taking::take;
-use c_opening::open;
+use c_opening::{is_absent, open};
 use std::alloc::AllocError;
 use vocabulary::{Action, ProductionItem, Symbol};
 
@@ -69,6 +70,19 @@ fn replace(
     Ok(())
 }
 
+// A symbol of operators that aren't there is passed over, and so are those that stand right behind it.
+fn pass_absent(parser: &mut Parser<'_>, symbol: Symbol, looks: Looks)
+    requires ready { IsReady (Nonterminal symbol ∷ parser.old.pending) parser.old }
+    requires looked { AreLooks (state_of parser.old.state) parser.old.terminals.terminals looks }
+    requires absent { choice symbol looks.next looks.behind ≡ Some [] }
+    ensures { Moves (Nonterminal symbol ∷ parser.old.pending) parser.old parser.new }
+{
+    let count = parser.pending.count();
+    parser.state.note_waiting(count);
+    parser.pending.pass_absent(looks.next);
+    parser.looks = Some(looks);
+}
+
 // A symbol is replaced by what the next two terminals open it to.
 fn expand(parser: &mut Parser<'_>, symbol: Symbol) -> Result<(), ParseFault>
     requires { IsReady (Nonterminal symbol ∷ parser.old.pending) parser.old }
@@ -76,6 +90,10 @@ fn expand(parser: &mut Parser<'_>, symbol: Symbol) -> Result<(), ParseFault>
     ensures told { IfErr result (IsTold (ComesTo act (standing_with (Nonterminal symbol ∷ parser.old.pending) parser.old))) }
 {
     let looks = known_looks(parser.looks, &parser.state, &parser.terminals);
+    if is_absent(symbol, looks.next) {
+        pass_absent(parser, symbol, looks);
+        return Ok(());
+    }
     match open(symbol, [looks.next, looks.behind]) {
         None => Err(refusal(
             &parser.state,

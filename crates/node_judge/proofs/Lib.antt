@@ -7,3 +7,5 @@ pub mod MemberLemmas
 pub mod NameLemmas
 pub mod RowLemmas
 pub mod TellLemmas
+pub mod JudgingLemmas
+pub mod NamedTypeLemmas

@@ -3,3 +3,5 @@ pub mod Bodies
 pub mod Known
 pub mod Members
 pub mod Rows
+pub mod Judging
+pub mod NamedTypes

@@ -84,9 +84,9 @@ fn tell(
     types.complete(aggregate, body)
 }
 
-// The number of an aggregate as the table has it. No specifier that was read has one of more than 32 bits, so one that has is want of
-// memory.
-fn aggregate_number(number: u64) -> Result<u32, AllocError>
+/// The number of an aggregate as the table has it. No specifier that was read has one of more than 32 bits, so one that has is want of
+/// memory.
+pub fn aggregate_number(number: u64) -> Result<u32, AllocError>
     ensures { IfOk result (λ aggregate. aggregate ≡ number) }
 {
     match u32::try_from(number) {

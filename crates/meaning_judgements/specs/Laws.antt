@@ -1,14 +1,21 @@
 -- What holds of what is known of a unit, and of its judgement.
-use Rattle.std.specs.Prelude.{◌≡◌, ◌↔◌, List, Contains}
+use Rattle.std.specs.Prelude.{◌≡◌, ◌↔◌, ℕ, List, Contains}
 use Rattle.meaning_operands.specs.Failures.{Failure, Broken}
 use Rattle.meaning_rules.specs.Rules.{Judgement}
 use Rattle.meaning_typing.specs.Facts.{Fact}
 use Rattle.meaning_typing.specs.Surroundings.{Surrounding, AreSurroundings}
 use Rattle.meaning_typing.specs.Units.{UnitNodes}
-use Rattle.meaning_typing.specs.WholeTyping.{whole_facts_of}
+use Rattle.meaning_typing.specs.WholeTyping.{whole_facts_of, whole_row_at}
 use Rattle.meaning_typing.specs.laws.Surroundings.{IsLaidUnit}
+use Rattle.meaning_judgements.specs.UnitRows.{unit_row_at}
 use Rattle.meaning_judgements.specs.WholeFacts.{AreWholeFacts}
 use Rattle.meaning_judgements.specs.WholeRules.{IsWholeJudgement, WholeBreaks, WholeFails, whole_broken_in, whole_failures_in}
+
+-- the row of a statement tells nothing of what is known of its node
+abbrev pub StatementsTellNoFacts : Type 0
+StatementsTellNoFacts =
+    (nodes : UnitNodes) (surroundings : List Surrounding) (earlier : List Fact) (handle : ℕ)
+    → (unit_row_at nodes surroundings earlier handle).fact ≡ (whole_row_at nodes surroundings earlier handle).fact
 
 -- in the same surroundings a unit has at most one list of facts
 abbrev pub WholeFactsAreUnique : Type 0

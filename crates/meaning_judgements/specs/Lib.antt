@@ -1,3 +1,4 @@
+pub mod UnitRows
 pub mod WholeFacts
 pub mod WholeRules
 pub mod Laws

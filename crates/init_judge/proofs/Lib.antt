@@ -1,0 +1,6 @@
+mod StringLemmas
+mod RefusalLemmas
+mod LeafLemmas
+mod SaidLemmas
+mod WholeLemmas
+mod JudgingLemmas

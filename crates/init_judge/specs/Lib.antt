@@ -1,0 +1,4 @@
+pub mod Leaves
+pub mod Said
+pub mod Whole
+pub mod Judging

@@ -1,0 +1,3 @@
+pub mod ConversionLemmas
+mod ConstantLemmas
+mod CompletingLemmas

@@ -4,3 +4,4 @@ mod LeafLemmas
 mod SaidLemmas
 mod WholeLemmas
 mod JudgingLemmas
+mod AggregateLemmas

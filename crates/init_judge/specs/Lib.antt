@@ -2,3 +2,4 @@ pub mod Leaves
 pub mod Said
 pub mod Whole
 pub mod Judging
+pub mod Laws

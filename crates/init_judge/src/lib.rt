@@ -11,6 +11,7 @@ mod appending;
 mod fault;
 mod findings;
 mod judging;
+mod laws;
 mod leaf;
 mod strings;
 mod value;
@@ -18,3 +19,4 @@ mod whole;
 
 pub use fault::InitFault;
 pub use judging::{InitPlan, judge_init};
+pub use laws::tables_know_aggregates;

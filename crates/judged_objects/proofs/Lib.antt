@@ -1,0 +1,3 @@
+mod FactLemmas
+mod NoteLemmas
+mod KeptLemmas

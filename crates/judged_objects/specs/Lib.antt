@@ -1,0 +1,3 @@
+pub mod Noreturn
+pub mod Notes
+pub mod Kept

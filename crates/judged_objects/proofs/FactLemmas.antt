@@ -1,9 +1,10 @@
 -- What is told of facts, where one more is known.
-use Rattle.std.proofs.Common.{◌≡◌, ℕ, zero, suc, ◌+◌, ◌<◌, Bool, true, false, ◌&&◌, ◌||◌, nat_eq, List, [], ◌∷◌, ◌++◌, length, get_or, Option, Some, None, if◌then◌else◌, refl, sym, ap, ap₂, ◌∙◌, arith}
+use Rattle.std.proofs.Common.{◌≡◌, ℕ, zero, suc, ◌+◌, ◌<◌, Bool, true, false, ◌&&◌, ◌||◌, nat_eq, List, [], ◌∷◌, ◌++◌, length, get_or, Option, None, if◌then◌else◌, refl, sym, ap, ◌∙◌, arith}
 use Rattle.std.specs.Option.{option_or}
+use Rattle.std.proofs.lemmas.Bool.{eq-eqb, eqb-false, eqb-true, ne_eqb}
 use Rattle.meaning_typing.specs.ContextSums.{LinkedDeclaration, contexts_of, declarations_with, first_contexts, linked_from}
 use Rattle.meaning_typing.specs.DeclarationRows.{is_linked_before}
-use Rattle.meaning_typing.specs.Facts.{Fact, Unknown, Expression, Specified, Declared, NamedType, DeclaredFact, fact_at}
+use Rattle.meaning_typing.specs.Facts.{Fact, Unknown, Expression, Specified, Declared, NamedType, fact_at}
 use Rattle.meaning_typing.specs.Names.{links_name}
 use Rattle.meaning_typing.specs.Surroundings.{Surrounding}
 use Rattle.meaning_typing.specs.Units.{UnitNodes}
@@ -94,11 +95,19 @@ module _ (nodes : UnitNodes) (name : List ℕ) where
 
 -- The fact of a handle
 
+eq-suc : (one other : ℕ) → nat_eq one other ≡ nat_eq (suc one) (suc other)
+eq-suc one other = by (nat_eq one other) refl
+  where
+    by : (test : Bool) → nat_eq one other ≡ test → test ≡ nat_eq (suc one) (suc other)
+    by true same = sym (eq-eqb (suc one) (suc other) (ap suc (eqb-true one other same)))
+    by false apart = sym (ne_eqb (suc one) (suc other) (λ same. eqb-false one other apart (omega (arith, same))))
+
 pub fact-more : (facts : List Fact) (fact : Fact) (handle : ℕ) → fact_at (facts ++ fact ∷ []) handle ≡ (if nat_eq (length facts) handle then fact else fact_at facts handle)
 fact-more [] fact zero = refl
-fact-more [] fact (suc handle) = refl
-fact-more (other ∷ facts) fact zero = refl
-fact-more (other ∷ facts) fact (suc handle) = fact-more facts fact handle
+fact-more [] fact (suc handle) = ap (λ test. if test then fact else Unknown) (sym (ne_eqb 0 (suc handle) (λ same. omega (arith, same))))
+fact-more (other ∷ facts) fact zero = ap (λ test. if test then fact else other) (sym (ne_eqb (suc (length facts)) 0 (λ same. omega (arith, same))))
+fact-more (other ∷ facts) fact (suc handle) =
+    fact-more facts fact handle ∙ ap (λ test. if test then fact else fact_at facts handle) (eq-suc (length facts) handle)
 
 -- nothing is known behind the last one
 pub fact-behind : (facts : List Fact) → fact_at facts (length facts) ≡ Unknown

@@ -1,17 +1,16 @@
 -- What is kept of objects, where one node more is known.
-use Rattle.std.proofs.Common.{◌≡◌, ℕ, ◌+◌, ◌<◌, Bool, true, false, ◌&&◌, ◌||◌, not, nat_eq, bytes_eq, List, [], ◌∷◌, ◌++◌, length, Option, Some, None, cond, option_map, if◌then◌else◌, refl, sym, ap, ap₂, subst, ◌∙◌, arith}
+use Rattle.std.proofs.Common.{◌≡◌, ℕ, ◌+◌, ◌<◌, Bool, true, false, ◌&&◌, not, nat_eq, bytes_eq, List, [], ◌∷◌, ◌++◌, length, Option, Some, None, option_map, if◌then◌else◌, refl, sym, ap, ap₂, ◌∙◌, arith}
 use Rattle.std.specs.Option.{option_or}
 use Rattle.std.proofs.lemmas.Bool.{eqb-true}
 use Rattle.std.proofs.lemmas.Bool.Decides.{nat_tests}
 use Rattle.sparse_model.specs.declared.ids.NameId.{NameId}
 use Rattle.meaning_typing.specs.DeclarationRows.{is_linked_before}
-use Rattle.meaning_typing.specs.Facts.{Fact, Unknown, Declared, fact_at}
-use Rattle.meaning_typing.specs.Names.{links_name}
+use Rattle.meaning_typing.specs.Facts.{Fact, Declared, fact_at}
 use Rattle.meaning_typing.specs.Surroundings.{Surrounding, of_unit, surrounding_at}
 use Rattle.meaning_typing.specs.Units.{UnitNodes}
-use Rattle.meaning_objects.specs.Objects.{first_linked, handle_if}
-use Rattle.meaning_objects.specs.Carried.{is_own_noreturn, own_contexts, says_noreturn}
-use Rattle.meaning_typing.specs.ContextSums.{contexts_of}
+use Rattle.meaning_objects.specs.Objects.{handle_if}
+use Rattle.meaning_objects.specs.Carried.{contexts_declared, contexts_of_object, is_declared_noreturn, is_linked_noreturn, is_noreturn, is_own_noreturn, own_contexts, says_noreturn}
+use Rattle.meaning_typing.specs.ContextSums.{contexts_of, first_contexts, linked_from}
 use Rattle.c_types.specs.Table.{TypeTable}
 use Rattle.node_facts.specs.declared.declared.DeclaredFact.{DeclaredFact}
 use Rattle.node_facts.specs.Facts.{declared_seen, name_seen}
@@ -68,10 +67,7 @@ told_alone-if nodes surroundings declarator false one other = refl
 
 module _ (nodes : UnitNodes) (surroundings : List Surrounding) (facts : List Fact) (fact : Fact) (linked later : NameId → Option LinkedObject) (unlinked alone : ℕ → Option ObjectNote)
     (within : length facts < length surroundings) (kept : AreKept nodes surroundings facts linked unlinked) where
-  last : ℕ
-  last = length facts
-
-  said : ObjectNote
+  abbrev said : ObjectNote
   said = note_said nodes (length facts) (surrounding_at surroundings (length facts))
 
   -- what names with linkage need, and what handles need
@@ -236,3 +232,49 @@ module _ (nodes : UnitNodes) (surroundings : List Surrounding) (facts : List Fac
       by other true true same speaks = sym (told-other other (eqb-true handle other same))
       by other true false same silent = silent-before other (eqb-true handle other same) ∙ sym (says-nothing note silent) ∙ sym (told-other other (eqb-true handle other same))
       by other false something apart speaks = refl
+
+-- What is asked
+
+-- by what is known of a declarator
+abbrev pub note_by : UnitNodes → List Surrounding → List Fact → (declarator : ℕ) → Fact → ObjectNote
+note_by nodes surroundings facts declarator fact =
+    note_told (contexts_declared nodes surroundings facts declarator fact) (is_declared_noreturn nodes surroundings facts declarator fact)
+
+module _ (nodes : UnitNodes) (surroundings : List Surrounding) (facts : List Fact) (table : TypeTable) (declarator : ℕ) (declaration : DeclaredFact)
+    (is : fact_at facts declarator ≡ Declared (declared_seen table declaration)) where
+  by-linkage : (test : Bool) → declaration.has_linkage ≡ test
+      → note_by nodes surroundings facts declarator (fact_at facts declarator)
+      ≡ (if test then told_linked nodes (name_seen declaration.name) 0 surroundings facts
+      else note_told (own_contexts nodes surroundings declarator (declared_seen table declaration)) (is_own_noreturn nodes surroundings declarator (declared_seen table declaration)))
+  by-linkage test links =
+      ap (note_by nodes surroundings facts declarator) is
+      ∙ ap
+      (λ test. note_told
+      (if test then first_contexts (linked_from nodes (name_seen declaration.name) 0 surroundings facts) else own_contexts nodes surroundings declarator (declared_seen table declaration))
+      (if test then is_linked_noreturn nodes (name_seen declaration.name) 0 surroundings facts else is_own_noreturn nodes surroundings declarator (declared_seen table declaration)))
+      links
+      ∙ together test
+    where
+      together : (test : Bool)
+          → note_told
+          (if test then first_contexts (linked_from nodes (name_seen declaration.name) 0 surroundings facts) else own_contexts nodes surroundings declarator (declared_seen table declaration))
+          (if test then is_linked_noreturn nodes (name_seen declaration.name) 0 surroundings facts else is_own_noreturn nodes surroundings declarator (declared_seen table declaration))
+          ≡ (if test then told_linked nodes (name_seen declaration.name) 0 surroundings facts
+          else note_told (own_contexts nodes surroundings declarator (declared_seen table declaration)) (is_own_noreturn nodes surroundings declarator (declared_seen table declaration)))
+      together true = refl
+      together false = refl
+
+  pub note_of_linked : declaration.has_linkage ≡ true
+      → note_told (contexts_of_object nodes surroundings facts declarator) (is_noreturn nodes surroundings facts declarator)
+      ≡ told_linked nodes (name_seen declaration.name) 0 surroundings facts
+  note_of_linked links = by-linkage true links
+
+  pub note_of_alone : declaration.has_linkage ≡ false
+      → note_told (contexts_of_object nodes surroundings facts declarator) (is_noreturn nodes surroundings facts declarator)
+      ≡ told_alone nodes surroundings declarator (Declared (declared_seen table declaration))
+  note_of_alone links =
+      by-linkage false links
+      ∙ ap
+      (λ test. if test then no_note
+      else note_told (own_contexts nodes surroundings declarator (declared_seen table declaration)) (is_own_noreturn nodes surroundings declarator (declared_seen table declaration)))
+      (sym links)

@@ -86,17 +86,14 @@ fn in_lists_after(unit: &Unit, children: &TagList, place: u32) -> bool
     requires { unit.now.first ≡ 0 }
     ensures { result ≡ has_noreturn (nodes_of unit.now) (attributes_among (nodes_of unit.now) (lists_from (nodes_of unit.now) children.now (place + 1))) }
 {
+    let mut found = false;
     for next in place.saturating_add(1)..children.len() {
         match attributes_at(unit, children.get(next).0) {
-            Some(attributes) => {
-                if among_attributes(unit, attributes) {
-                    return true;
-                }
-            }
-            None => return false,
+            Some(attributes) => found |= among_attributes(unit, attributes),
+            None => return found,
         }
     }
-    false
+    found
 }
 
 /// Whether one of those directly behind the child at this place does.

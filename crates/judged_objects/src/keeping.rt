@@ -8,8 +8,8 @@ ghost use Rattle.node_surroundings.specs.Seen.{surrounding_seen};
 ghost use Rattle.judged_objects.specs.Kept.{linked_with, same_handle, same_name};
 ghost use Rattle.judged_objects.specs.Notes.{counts_noted, note_said, says_something};
 
-use crate::note::ObjectNote;
 use crate::noreturn::says_noreturn;
+use crate::note::ObjectNote;
 use c_tree::{Handle, Unit};
 use control_flow::ContextNote;
 use declared_contexts::contexts_of;
@@ -68,12 +68,12 @@ pub fn note_of(
     requires { unit.now.first ≡ 0 }
     ensures { IfOk result (λ note. note ≡ note_said (nodes_of unit.now) declarator (surrounding_seen surrounding)) }
 {
-    let Surrounding { parent, place, .. } = surrounding;
-    let sums = contexts_of(unit, declarator, parent, place)?;
+    let sums = contexts_of(unit, declarator, surrounding.parent, surrounding.place)?;
     let contexts = counts_if(sums)?;
+    let is_noreturn = says_noreturn(unit, declarator, surrounding.parent, surrounding.place);
     Ok(ObjectNote {
         contexts,
-        is_noreturn: says_noreturn(unit, declarator, parent, place),
+        is_noreturn,
     })
 }
 
@@ -118,8 +118,9 @@ pub fn keep_unlinked(
 ) -> Result<(), AllocError>
     ensures { OnOk result ((other : ℕ) → get same_handle unlinked.new other ≡ (if same_handle declarator other && says_something note then Some note else get same_handle unlinked.old other)) }
 {
-    if note.says_something() {
-        unlinked.insert(declarator, note)?;
+    if !note.says_something() {
+        return Ok(());
     }
+    unlinked.insert(declarator, note)?;
     Ok(())
 }

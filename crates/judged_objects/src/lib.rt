@@ -8,8 +8,8 @@
 
 mod attributes;
 mod keeping;
-mod note;
 mod noreturn;
+mod note;
 mod objects;
 mod pass;
 

@@ -137,6 +137,7 @@ pub fn says_noreturn(unit: &Unit, declarator: Handle, parent: Handle, place: u32
     requires { unit.now.first ≡ 0 }
     ensures { (surrounding : Surrounding) → surrounding.parent ≡ parent → surrounding.place ≡ place → result ≡ meaning.says_noreturn (nodes_of unit.now) declarator surrounding }
 {
-    has_specifier_below(unit, child_at(unit, parent, 0))
-        || in_attributes(unit, declarator, parent, place)
+    let specified = has_specifier_below(unit, child_at(unit, parent, 0));
+    let listed = in_attributes(unit, declarator, parent, place);
+    specified | listed
 }

@@ -10,8 +10,9 @@ ghost use Rattle.c_types.specs.Table.{TypeTable};
 ghost use Rattle.decl_judge.specs.Units.{nodes_of};
 ghost use Rattle.node_facts.specs.Facts.{declared_seen, node_seen, nodes_seen};
 ghost use Rattle.node_surroundings.specs.Seen.{surrounding_seen};
-ghost use Rattle.judged_objects.specs.Kept.{AreObjects};
-ghost use Rattle.judged_objects.specs.Notes.{note_told};
+ghost use Rattle.indexmap.specs.IndexMap.{get};
+ghost use Rattle.judged_objects.specs.Kept.{AreObjects, note_linked, same_handle, same_name};
+ghost use Rattle.judged_objects.specs.Notes.{note_or_none, note_told};
 
 use crate::keeping::{LinkedObject, keep_linked, keep_unlinked, note_of};
 use crate::note::ObjectNote;
@@ -53,15 +54,15 @@ impl JudgedObjects {
         requires { unit.now.first ≡ 0 }
         ensures { OnOk result ((table : TypeTable) (surroundings : List around.Surrounding) (known : List facts.Fact) → length known ≡ handle → handle < length surroundings → around.surrounding_at surroundings handle ≡ surrounding_seen surrounding → AreObjects (nodes_of unit.now) surroundings known self.old → AreObjects (nodes_of unit.now) surroundings (known ++ facts.Declared (declared_seen table declaration) ∷ []) self.new) }
     {
-        if declaration.is_typedef && !declaration.has_linkage {
+        if declaration.has_linkage {
+            let note = note_of(unit, handle, surrounding)?;
+            return keep_linked(&mut self.linked, declaration.name, handle, note);
+        }
+        if declaration.is_typedef {
             return Ok(());
         }
         let note = note_of(unit, handle, surrounding)?;
-        if declaration.has_linkage {
-            keep_linked(&mut self.linked, declaration.name, handle, note)
-        } else {
-            keep_unlinked(&mut self.unlinked, handle, note)
-        }
+        keep_unlinked(&mut self.unlinked, handle, note)
     }
 
     /// The next node is known, which has this handle and stands so: what it declares is kept. It takes a few steps, and one for
@@ -116,20 +117,33 @@ impl JudgedObjects {
         }
     }
 
+    // That of a name with linkage.
+    fn note_linked(&self, name: NameId) -> ObjectNote
+        ensures { result ≡ note_linked (get same_name self.now.linked name) }
+    {
+        match self.linked.get(&name) {
+            Some(linked) => linked.note,
+            None => ObjectNote::none(),
+        }
+    }
+
+    // That of a declarator without linkage.
+    fn note_alone(&self, declarator: Handle) -> ObjectNote
+        ensures { result ≡ note_or_none (get same_handle self.now.unlinked declarator) }
+    {
+        match self.unlinked.get(&declarator) {
+            Some(note) => *note,
+            None => ObjectNote::none(),
+        }
+    }
+
     fn note_declared(&self, declarator: Handle, declaration: DeclaredFact) -> ObjectNote
         ensures { (table : TypeTable) (nodes : UnitNodes) (surroundings : List around.Surrounding) (known : List facts.Fact) → AreObjects nodes surroundings known self.now → facts.fact_at known declarator ≡ facts.Declared (declared_seen table declaration) → result ≡ note_told (carried.contexts_of_object nodes surroundings known declarator) (carried.is_noreturn nodes surroundings known declarator) }
     {
         if declaration.has_linkage {
-            match self.linked.get(&declaration.name) {
-                Some(linked) => linked.note,
-                None => ObjectNote::none(),
-            }
-        } else {
-            match self.unlinked.get(&declarator) {
-                Some(note) => *note,
-                None => ObjectNote::none(),
-            }
+            return self.note_linked(declaration.name);
         }
+        self.note_alone(declarator)
     }
 
     /// What the declarations of an object or a function come to, among the nodes of which this is known, by any of its declarators:

@@ -1,5 +1,5 @@
--- So far no list had it.
-use Rattle.std.proofs.Common.{◌≡◌, ◌+◌}
+-- What was found so far, and what the lists that are left have, is what all have.
+use Rattle.std.proofs.Common.{◌≡◌, ◌+◌, ◌||◌}
 use Rattle.meaning_typing.specs.Specifiers.{attributes_among}
 use Rattle.decl_judge.specs.Seen.{lists_from}
 use Rattle.decl_judge.specs.Units.{nodes_of}
@@ -8,5 +8,5 @@ use Rattle.judged_objects.proofs.attributes.in_lists_after.Given as goal
 
 abbrev pub invariant-loop-next : goal.invariant-loop-next
 invariant-loop-next l =
-    has_noreturn (nodes_of l.unit) (attributes_among (nodes_of l.unit) (lists_from (nodes_of l.unit) l.children l.next))
+    l.found || has_noreturn (nodes_of l.unit) (attributes_among (nodes_of l.unit) (lists_from (nodes_of l.unit) l.children l.next))
     ≡ has_noreturn (nodes_of l.unit) (attributes_among (nodes_of l.unit) (lists_from (nodes_of l.unit) l.children (l.fn.place + 1)))

@@ -14,7 +14,7 @@ pub record ReadsOn {X : Type 0} (element : List ℕ → Reading X) (goes_on : Li
   pub same : elements_from element goes_on onward turns before text ≡ whole
 
 module _ {X : Type 0} (element : List ℕ → Reading X) (goes_on : List ℕ → Bool) (onward : List ℕ → List ℕ) where
-  one-more : (turns : ℕ) (before : List X) (text : List ℕ) (one : X) (rest : List ℕ) (test : Bool) → element text ≡ Reads one rest → goes_on (behind_spaces rest) ≡ test
+  pub one-more : (turns : ℕ) (before : List X) (text : List ℕ) (one : X) (rest : List ℕ) (test : Bool) → element text ≡ Reads one rest → goes_on (behind_spaces rest) ≡ test
       → elements_from element goes_on onward (suc turns) before text
       ≡ (if test then elements_from element goes_on onward turns (before ++ one ∷ []) (onward (behind_spaces rest)) else Reads (before ++ one ∷ []) (behind_spaces rest))
   one-more turns before text one rest test read goes =

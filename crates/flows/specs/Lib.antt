@@ -6,3 +6,4 @@ pub mod Shown
 pub mod Answers
 pub mod Stops
 pub mod Files
+pub mod Written

@@ -9,6 +9,7 @@
 mod check;
 mod command;
 mod front;
+mod law;
 mod line;
 mod number;
 mod step;

@@ -48,34 +48,34 @@ module _ (nodes : UnitNodes) (facts : List Fact) (is_static : Bool) (table : Typ
 -- Where more paths are added
 
 module _ (nodes : UnitNodes) (facts : List Fact) (is_static : Bool) (table : TypeTable) (old new : List (List ℕ)) (longer : IsLonger old new) where
-  finding_stays : (finding : Finding) → IsFindingIn old finding
+  finding_stays : (finding : Finding) → IsFindingIn table old finding
       → finding_plan nodes facts is_static table new finding ≡ finding_plan nodes facts is_static table old finding
   finding_stays (finds.Leaf placed) known =
       ap (λ (path : List ℕ). value_plan is_static (type_seen table placed.of) path placed.is_moved (given_at nodes facts placed.initializer))
-      (path_stays old new placed.path longer known)
+      (path_stays old new placed.path longer known.1)
   finding_stays (finds.Extra initializer) known = refl
   finding_stays (finds.NoPart designator) known = refl
 
-  pub found_stays : (found : Found) (findings : List Finding) → All (IsFindingIn old) findings
+  pub found_stays : (found : Found) (findings : List Finding) → All (IsFindingIn table old) findings
       → found_with nodes facts is_static table new found findings ≡ found_with nodes facts is_static table old found findings
   found_stays found [] known = refl
   found_stays found (finding ∷ findings) known =
       ap (λ (plan : Plan). found_with nodes facts is_static table new (found_behind found plan) findings)
-      (finding_stays finding (All-head (IsFindingIn old) finding findings known))
-      ∙ found_stays (found_behind found (finding_plan nodes facts is_static table old finding)) findings (All-tail (IsFindingIn old) finding findings known)
+      (finding_stays finding (All-head (IsFindingIn table old) finding findings known))
+      ∙ found_stays (found_behind found (finding_plan nodes facts is_static table old finding)) findings (All-tail (IsFindingIn table old) finding findings known)
 
-finding_longer : (old new : List (List ℕ)) (finding : Finding) → IsLonger old new → IsFindingIn old finding → IsFindingIn new finding
-finding_longer old new (finds.Leaf placed) longer known = path_longer old new placed.path longer known
-finding_longer old new (finds.Extra initializer) longer known = tt
-finding_longer old new (finds.NoPart designator) longer known = tt
+finding_longer : (table : TypeTable) (old new : List (List ℕ)) (finding : Finding) → IsLonger old new → IsFindingIn table old finding → IsFindingIn table new finding
+finding_longer table old new (finds.Leaf placed) longer known = (known.0, path_longer old new placed.path longer known.1)
+finding_longer table old new (finds.Extra initializer) longer known = tt
+finding_longer table old new (finds.NoPart designator) longer known = tt
 
-pub findings_longer : (old new : List (List ℕ)) (findings : List Finding) → IsLonger old new → All (IsFindingIn old) findings → All (IsFindingIn new) findings
-findings_longer old new findings longer known i e within = finding_longer old new _ longer (known i e within)
+pub findings_longer : (table : TypeTable) (old new : List (List ℕ)) (findings : List Finding) → IsLonger old new → All (IsFindingIn table old) findings → All (IsFindingIn table new) findings
+findings_longer table old new findings longer known i e within = finding_longer table old new _ longer (known i e within)
 
-one : (paths : List (List ℕ)) (finding : Finding) → IsFindingIn paths finding → All (IsFindingIn paths) (finding ∷ [])
-one paths finding known zero e within = known
-one paths finding known (suc i) e within = absurd (omega (arith, within))
+one : (table : TypeTable) (paths : List (List ℕ)) (finding : Finding) → IsFindingIn table paths finding → All (IsFindingIn table paths) (finding ∷ [])
+one table paths finding known zero e within = known
+one table paths finding known (suc i) e within = absurd (omega (arith, within))
 
-pub one_finding : (paths : List (List ℕ)) (findings : List Finding) (finding : Finding) → All (IsFindingIn paths) findings → IsFindingIn paths finding
-    → All (IsFindingIn paths) (findings ++ finding ∷ [])
-one_finding paths findings finding known is = All-append (IsFindingIn paths) findings (finding ∷ []) known (one paths finding is)
+pub one_finding : (table : TypeTable) (paths : List (List ℕ)) (findings : List Finding) (finding : Finding) → All (IsFindingIn table paths) findings → IsFindingIn table paths finding
+    → All (IsFindingIn table paths) (findings ++ finding ∷ [])
+one_finding table paths findings finding known is = All-append (IsFindingIn table paths) findings (finding ∷ []) known (one table paths finding is)

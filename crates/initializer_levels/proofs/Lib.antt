@@ -8,11 +8,11 @@ mod LevelLemmas
 mod NextLemmas
 mod PartLemmas
 mod PathLemmas
-mod ReadingLemmas
+pub mod ReadingLemmas
 mod StepLemmas
 mod TakeLemmas
-mod Telling
+pub mod Telling
 mod TurnLemmas
 mod WalkLemmas
-mod Walks
+pub mod Walks
 mod WayLemmas

@@ -55,4 +55,4 @@ module _ (nodes : UnitNodes) (facts : List Fact) (table : TypeTable) (paths : Li
 
 pub record IsKnownGoing (table : TypeTable) (paths : List (List ℕ)) (going : Going) : Type 0 where
   pub walk : IsKnownWalk table paths going.walk
-  pub met : IsMetIn paths going.met
+  pub met : IsMetIn table paths going.met

@@ -4,11 +4,12 @@ use Rattle.meaning_typing.specs.Facts.{Fact}
 use Rattle.meaning_typing.specs.Units.{UnitNodes}
 use Rattle.meaning_initializers.specs.Plans.{Plan, extra, no_part, no_plan, refused, string_alone, value_plan}
 use Rattle.meaning_initializers.specs.Reading.{designator_at, given_at, initializer_at}
-use Rattle.c_types.specs.Table.{TypeTable}
+use Rattle.c_types.specs.Table.{IsTypeId, TypeTable}
 use Rattle.initializer_levels.specs.declared.met.Finding.{Finding}
 use Rattle.initializer_levels.specs.declared.met.Finding.TheVariants as findings
 use Rattle.initializer_levels.specs.declared.met.Met.{Met}
 use Rattle.initializer_levels.specs.declared.met.Met.TheVariants as mets
+use Rattle.initializer_levels.specs.declared.met.Placed.{Placed}
 use Rattle.initializer_levels.specs.Items.{items_left}
 use Rattle.initializer_levels.specs.Parts.{type_seen}
 use Rattle.initializer_levels.specs.Paths.{IsPathIn, path_at}
@@ -33,13 +34,16 @@ module _ (nodes : UnitNodes) (facts : List Fact) (is_static : Bool) (table : Typ
   found_with found [] = found
   found_with found (finding ∷ findings) = found_with (found_behind found (finding_plan finding)) findings
 
--- where a leaf stands is one of the paths
-abbrev pub IsFindingIn : (paths : List (List ℕ)) → Finding → Type 0
-IsFindingIn paths (findings.Leaf placed) = IsPathIn paths placed.path
-IsFindingIn paths (findings.Extra initializer) = Unit {0}
-IsFindingIn paths (findings.NoPart designator) = Unit {0}
+-- the part has a type of the table, and where it stands is one of the paths
+abbrev pub IsPlacedIn : TypeTable → (paths : List (List ℕ)) → Placed → Type 0
+IsPlacedIn table paths placed = IsTypeId table placed.of.of × IsPathIn paths placed.path
 
-abbrev pub IsMetIn : (paths : List (List ℕ)) → Met → Type 0
-IsMetIn paths mets.Nothing = Unit {0}
-IsMetIn paths (mets.One finding) = IsFindingIn paths finding
-IsMetIn paths (mets.StringAlone placed behind) = IsPathIn paths placed.path
+abbrev pub IsFindingIn : TypeTable → (paths : List (List ℕ)) → Finding → Type 0
+IsFindingIn table paths (findings.Leaf placed) = IsPlacedIn table paths placed
+IsFindingIn table paths (findings.Extra initializer) = Unit {0}
+IsFindingIn table paths (findings.NoPart designator) = Unit {0}
+
+abbrev pub IsMetIn : TypeTable → (paths : List (List ℕ)) → Met → Type 0
+IsMetIn table paths mets.Nothing = Unit {0}
+IsMetIn table paths (mets.One finding) = IsFindingIn table paths finding
+IsMetIn table paths (mets.StringAlone placed behind) = IsPlacedIn table paths placed

@@ -34,4 +34,4 @@ TurnsTo aggregates nodes facts table old new walk turn =
 
 pub record IsKnownTurn (table : TypeTable) (paths : List (List ℕ)) (turn : Turn) : Type 0 where
   pub turned : IsKnownTurned table paths turn.turned
-  pub met : IsMetIn paths turn.met
+  pub met : IsMetIn table paths turn.met

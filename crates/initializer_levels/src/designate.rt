@@ -92,7 +92,7 @@ fn open_along(
 fn go_nowhere(unit: &Unit, met: Met, walk: Walk) -> Going
     requires { unit.now.first ≡ 0 }
     ensures walk { (facts : List Fact) (table : TypeTable) (paths : List (List ℕ)) → GoesTo (nodes_of unit.now) facts table paths result (nowhere_seen (nodes_of unit.now) facts table paths met walk) }
-    ensures known { (table : TypeTable) (paths : List (List ℕ)) → IsKnownWalk table paths walk → IsMetIn paths met → IsKnownGoing table paths result }
+    ensures known { (table : TypeTable) (paths : List (List ℕ)) → IsKnownWalk table paths walk → IsMetIn table paths met → IsKnownGoing table paths result }
 {
     let level = walk.level.ended();
     Going {

@@ -57,7 +57,7 @@ fn open_placed(
 fn behind_placed(met: Met, walk: Walk) -> Result<Going, AllocError>
     ensures walk { (nodes : UnitNodes) (facts : List Fact) (table : TypeTable) (paths : List (List ℕ)) → IsKnownLevel table paths walk.level
         → IfOk result (λ going. GoesTo nodes facts table paths going (behind_seen nodes facts table paths met walk)) }
-    ensures known { (table : TypeTable) (paths : List (List ℕ)) → IsKnownWalk table paths walk → IsMetIn paths met → IfOk result (IsKnownGoing table paths) }
+    ensures known { (table : TypeTable) (paths : List (List ℕ)) → IsKnownWalk table paths walk → IsMetIn table paths met → IfOk result (IsKnownGoing table paths) }
 {
     let level = walk.level.behind_part(true)?;
     Ok(Going {

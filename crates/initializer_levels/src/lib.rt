@@ -36,7 +36,7 @@ pub use next::next_part;
 pub use parts::{Part, PartType, Parts, parts_of};
 pub use paths::{PathId, PathStep, Paths, path_of_part};
 pub use plan::{Plan, walk_items};
-pub use reading::{is_braced, string_in, takes_whole};
+pub use reading::{elements_of, is_braced, is_string_for, string_in, takes_whole};
 pub use steps::{Index, Step, step_to_element, step_to_member};
 pub use takes::{are_characters, is_value};
 pub use turn::{Turn, take_turn};

@@ -18,7 +18,7 @@ fn push_extra(unit: &Unit, findings: &mut Vec<Finding>, items: ItemList) -> Resu
     requires { unit.now.first ≡ 0 }
     ensures found { (facts : List Fact) (is_static : Bool) (table : TypeTable) (paths : List (List ℕ)) (found : Found)
         → OnOk result (found_with (nodes_of unit.now) facts is_static table paths found findings.new.items ≡ found_behind (found_with (nodes_of unit.now) facts is_static table paths found findings.old.items) (refused (extra_items (items_left (nodes_of unit.now) facts items)) no_plan)) }
-    ensures known { (paths : List (List ℕ)) → All (IsFindingIn paths) findings.old.items → OnOk result (All (IsFindingIn paths) findings.new.items) }
+    ensures known { (table : TypeTable) (paths : List (List ℕ)) → All (IsFindingIn table paths) findings.old.items → OnOk result (All (IsFindingIn table paths) findings.new.items) }
 {
     let mut items = items;
     'items: while let Some(next) = items.next(unit) {
@@ -33,7 +33,7 @@ pub fn push_met(unit: &Unit, findings: &mut Vec<Finding>, met: Met) -> Result<()
     requires { unit.now.first ≡ 0 }
     ensures found { (facts : List Fact) (is_static : Bool) (table : TypeTable) (paths : List (List ℕ)) (found : Found)
         → OnOk result (found_with (nodes_of unit.now) facts is_static table paths found findings.new.items ≡ found_behind (found_with (nodes_of unit.now) facts is_static table paths found findings.old.items) (met_plan (nodes_of unit.now) facts is_static table paths met)) }
-    ensures known { (paths : List (List ℕ)) → All (IsFindingIn paths) findings.old.items → IsMetIn paths met → OnOk result (All (IsFindingIn paths) findings.new.items) }
+    ensures known { (table : TypeTable) (paths : List (List ℕ)) → All (IsFindingIn table paths) findings.old.items → IsMetIn table paths met → OnOk result (All (IsFindingIn table paths) findings.new.items) }
 {
     match met {
         Met::Nothing => Ok(()),

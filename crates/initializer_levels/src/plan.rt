@@ -71,7 +71,7 @@ pub fn walk_items(
     requires facts { All (IsKnownNodeFact types.now) facts.now }
     requires object { IsTypeId types.now object.of }
     ensures comes { (aggregates : Aggregates) (is_static : Bool) → AreKnownIn types.now aggregates → IfOk result (λ plan. Comes aggregates is_static (begun (type_seen types.now object) (items_left (nodes_of unit.now) (nodes_seen types.now facts.now) items)) (found_with (nodes_of unit.now) (nodes_seen types.now facts.now) is_static types.now plan.paths nothing_found plan.findings.items) plan.length) }
-    ensures known { IfOk result (λ plan. All (IsFindingIn plan.paths) plan.findings.items) }
+    ensures known { IfOk result (λ plan. All (IsFindingIn types.now plan.paths) plan.findings.items) }
 {
     let mut paths = Paths::new(alloc);
     let mut findings = Vec::new(alloc);

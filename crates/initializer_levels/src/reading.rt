@@ -62,15 +62,24 @@ fn elements_by(unit: &Unit, handle: Handle, kind: NodeKind) -> Option<u64>
     }
 }
 
+/// How many elements the string literal with this handle has, the last zero among them; of another initializer none. It takes no
+/// memory, and a few steps.
+pub fn elements_of(unit: &Unit, initializer: Handle) -> Option<u64>
+    requires { unit.now.first ≡ 0 }
+    ensures { result ≡ elements_of (nodes_of unit.now) initializer (units.kind_at (nodes_of unit.now) initializer) }
+{
+    elements_by(unit, initializer, kind_at(unit, initializer))
+}
+
 fn is_string(unit: &Unit, initializer: Handle) -> bool
     requires { unit.now.first ≡ 0 }
     ensures { result ≡ is_some (elements_of (nodes_of unit.now) initializer (units.kind_at (nodes_of unit.now) initializer)) }
 {
-    elements_by(unit, initializer, kind_at(unit, initializer)).is_some()
+    elements_of(unit, initializer).is_some()
 }
 
-// Whether a string literal gives an object its elements.
-fn is_string_for(unit: &Unit, types: &Types, parts: Parts, initializer: Handle) -> bool
+/// Whether a string literal gives an object its elements. It takes no memory, and a few steps.
+pub fn is_string_for(unit: &Unit, types: &Types, parts: Parts, initializer: Handle) -> bool
     requires whole { unit.now.first ≡ 0 }
     requires parts { IsKnownParts types.now parts }
     ensures { (facts : List Fact) (type_ : TypeTree) → parts_seen types.now parts ≡ parts_in type_ → result ≡ is_string_for type_ (given_at (nodes_of unit.now) facts initializer) }

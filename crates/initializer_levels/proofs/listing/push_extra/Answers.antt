@@ -28,6 +28,6 @@ items-preserved c =
           ∙ (extra_more nodes facts is_static table paths found c.items.findings.items c.in-Some.next.initializer (items_left nodes facts c.items.items) _ _ _
           (c.in-Some.ensures.some facts)
           ∙ c.items.invariant.found facts is_static table paths found));
-      known = λ paths known.
-          subst (All (IsFindingIn paths)) (sym c.in_ok-push.ensures.items) (one_finding paths c.items.findings.items extra (c.items.invariant.known paths known) tt);
+      known = λ table paths known.
+          subst (All (IsFindingIn table paths)) (sym c.in_ok-push.ensures.items) (one_finding table paths c.items.findings.items extra (c.items.invariant.known table paths known) tt);
     }

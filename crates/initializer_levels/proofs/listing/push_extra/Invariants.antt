@@ -17,7 +17,7 @@ invariant-items l =
           (refused (extra_items (items_left (nodes_of l.unit) facts l.items)) no_plan)
           ≡ found_behind (found_with (nodes_of l.unit) facts is_static table paths found l.fn.findings.items)
           (refused (extra_items (items_left (nodes_of l.unit) facts l.fn.items)) no_plan);
-      known : (paths : List (List ℕ)) → All (IsFindingIn paths) l.fn.findings.items → All (IsFindingIn paths) l.findings.items;
+      known : (table : TypeTable) (paths : List (List ℕ)) → All (IsFindingIn table paths) l.fn.findings.items → All (IsFindingIn table paths) l.findings.items;
     }
 
 abbrev pub decreases-items : goal.decreases-items

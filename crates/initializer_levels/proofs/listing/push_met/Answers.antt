@@ -42,7 +42,7 @@ returns-in_ok-push-in-StringAlone-clause-found c = λ facts is_static table path
     (c.push_extra.ensures.found facts is_static table paths found)
 
 pub returns-in_ok-push-in-StringAlone-clause-known : goal.returns-in_ok-push-in-StringAlone-clause-known
-returns-in_ok-push-in-StringAlone-clause-known c = λ paths known met.
-    c.push_extra.ensures.known paths
-    (subst (All (IsFindingIn paths)) (sym c.in_ok-push-in-StringAlone.ensures.items)
-    (one_finding paths c.args.findings.now.items (finds.Leaf c.in-StringAlone.placed) known (subst (IsMetIn paths) c.in-StringAlone.is met)))
+returns-in_ok-push-in-StringAlone-clause-known c = λ table paths known met.
+    c.push_extra.ensures.known table paths
+    (subst (All (IsFindingIn table paths)) (sym c.in_ok-push-in-StringAlone.ensures.items)
+    (one_finding table paths c.args.findings.now.items (finds.Leaf c.in-StringAlone.placed) known (subst (IsMetIn table paths) c.in-StringAlone.is met)))

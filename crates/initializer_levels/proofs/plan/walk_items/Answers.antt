@@ -45,7 +45,7 @@ returns-in-Done-clause-known c =
     let findings = c.loop-turn.findings.items in
     let met = c.in_ok-turn.turn.met in
     let keeps = c.in_ok-turn.ensures.keeps in
-    c.in_ok-push_met.ensures.known new (findings_longer old new findings keeps c.loop-turn.invariant.findings) c.in_ok-turn.ensures.known.met
+    c.in_ok-push_met.ensures.known table new (findings_longer table old new findings keeps c.loop-turn.invariant.findings) c.in_ok-turn.ensures.known.met
 
 pub loop-turn-preserved : goal.loop-turn-preserved
 loop-turn-preserved c =
@@ -73,5 +73,5 @@ loop-turn-preserved c =
           c.loop-turn.invariant.comes aggregates is_static end length known
           (turned (subst (λ (t : kept.Turned). Turns aggregates is_static walk (turned_seen table new read now t)) c.in-Goes.is turn) rest);
       known = subst (IsKnownTurned table new) c.in-Goes.is c.in_ok-turn.ensures.known.turned;
-      findings = c.in_ok-push_met.ensures.known new (findings_longer old new findings keeps c.loop-turn.invariant.findings) c.in_ok-turn.ensures.known.met;
+      findings = c.in_ok-push_met.ensures.known table new (findings_longer table old new findings keeps c.loop-turn.invariant.findings) c.in_ok-turn.ensures.known.met;
     }

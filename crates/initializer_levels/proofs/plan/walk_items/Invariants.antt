@@ -20,5 +20,5 @@ invariant-loop-turn l =
           (found_with (nodes_of l.unit) (nodes_seen l.types l.facts) is_static l.types l.paths nothing_found l.findings.items) l.walk) found length
           → Comes aggregates is_static (begun (type_seen l.types l.fn.object) (items_left (nodes_of l.unit) (nodes_seen l.types l.facts) l.fn.items)) found length;
       known : IsKnownWalk l.types l.paths l.walk;
-      findings : All (IsFindingIn l.paths) l.findings.items;
+      findings : All (IsFindingIn l.types l.paths) l.findings.items;
     }

@@ -23,13 +23,13 @@ use Rattle.initializer_levels.specs.declared.met.Finding.{Finding}
 use Rattle.initializer_levels.specs.declared.met.Finding.TheVariants as findings
 use Rattle.initializer_levels.specs.declared.met.Placed.{Placed}
 use Rattle.initializer_levels.specs.declared.parts.PartType.{PartType}
-use Rattle.initializer_levels.specs.Met.{IsFindingIn, finding_plan}
+use Rattle.initializer_levels.specs.Met.{IsFindingIn, IsPlacedIn, finding_plan}
 use Rattle.initializer_levels.specs.Parts.{type_seen}
 use Rattle.initializer_levels.specs.Paths.{path_at}
 use Rattle.initializer_levels.specs.Turns.{Found, found_behind, nothing_found, told_behind, told_with}
 use Rattle.init_judge.specs.declared.leaf.Said.{Said}
 use Rattle.init_judge.specs.Leaves.{leaf_seen, listed_leaf}
-use Rattle.init_judge.specs.Said.{HasJudged, HasType, IsKnownFinding, IsPlacedIn, KeptPlan, Says, broken_of, plan_kept, said_seen}
+use Rattle.init_judge.specs.Said.{HasJudged, HasType, KeptPlan, Says, broken_of, plan_kept, said_seen}
 
 -- Refusals that are told one by one are told as the least constraint
 
@@ -84,14 +84,14 @@ module _ (old new : TypeTable) (join : TypesJoin old new) where
       with_type : TypeTree → Leaf
       with_type type_ = record { path = path_at paths placed.path; type_ = type_; expression = placed.initializer; is_moved = placed.is_moved }
 
-  pub finding_later : (nodes : UnitNodes) (facts : List Fact) (is_static : Bool) (paths : List (List ℕ)) (finding : Finding) → IsKnownFinding old paths finding
+  pub finding_later : (nodes : UnitNodes) (facts : List Fact) (is_static : Bool) (paths : List (List ℕ)) (finding : Finding) → IsFindingIn old paths finding
       → finding_plan nodes facts is_static new paths finding ≡ finding_plan nodes facts is_static old paths finding
   finding_later nodes facts is_static paths (findings.Leaf placed) known =
       ap (λ (t : TypeTree). value_plan is_static t (path_at paths placed.path) placed.is_moved (given_at nodes facts placed.initializer)) (part_type_later placed.of known.0)
   finding_later nodes facts is_static paths (findings.Extra initializer) known = refl
   finding_later nodes facts is_static paths (findings.NoPart designator) known = refl
 
-  pub has_type : (paths : List (List ℕ)) (finding : Finding) → IsKnownFinding old paths finding → HasType new finding
+  pub has_type : (paths : List (List ℕ)) (finding : Finding) → IsFindingIn old paths finding → HasType new finding
   has_type paths (findings.Leaf placed) known = id_later old new join placed.of.of known.0
   has_type paths (findings.Extra initializer) known = tt
   has_type paths (findings.NoPart designator) known = tt
@@ -109,16 +109,6 @@ module _ (old new : TypeTable) (join : TypesJoin old new) where
 
   pub placed_later : (paths : List (List ℕ)) (leaves : List Placed) → All (IsPlacedIn old paths) leaves → All (IsPlacedIn new paths) leaves
   placed_later paths leaves known i e within = (id_later old new join _ (known i e within).0, (known i e within).1)
-
--- a finding that has a type, and stands at a path
-known_both : (table : TypeTable) (paths : List (List ℕ)) (finding : Finding) → HasType table finding → IsFindingIn paths finding → IsKnownFinding table paths finding
-known_both table paths (findings.Leaf placed) typed placed_in = (typed, placed_in)
-known_both table paths (findings.Extra initializer) typed placed_in = tt
-known_both table paths (findings.NoPart designator) typed placed_in = tt
-
-pub findings_known : (table : TypeTable) (paths : List (List ℕ)) (found : List Finding) → All (HasType table) found → All (IsFindingIn paths) found
-    → All (IsKnownFinding table paths) found
-findings_known table paths found typed placed i e within = known_both table paths _ (typed i e within) (placed i e within)
 
 one_known : (table : TypeTable) (paths : List (List ℕ)) (leaf : Option Placed) → IfSome leaf (IsPlacedIn table paths) → All (IsPlacedIn table paths) (listed_leaf leaf)
 one_known table paths None known = All-nil (IsPlacedIn table paths)
@@ -139,7 +129,7 @@ nothing_judged nodes facts table paths found =
 
 module _ (nodes : UnitNodes) (facts : List Fact) (is_static : Bool) (table between new : TypeTable) (paths : List (List ℕ)) where
   pub judged_more : (before middle after : List Failure) (leaves more : List Placed) (broken least : Option rows.Broken) (found : Found) (finding : Finding) (said : Said)
-      → HasJudged nodes facts table between paths before middle leaves broken found → IsKnownFinding table paths finding
+      → HasJudged nodes facts table between paths before middle leaves broken found → IsFindingIn table paths finding
       → Says nodes facts between new paths middle after said (finding_plan nodes facts is_static between paths finding)
       → IfSome said.leaf (IsPlacedIn table paths) → more ≡ leaves ++ listed_leaf said.leaf
       → option_map broken_seen least ≡ lesser (option_map broken_seen broken) (option_map broken_seen said.broken)

@@ -16,7 +16,7 @@ use Rattle.expression_rows.specs.Rows.{broken_seen}
 use Rattle.initializer_levels.specs.declared.met.Finding.{Finding}
 use Rattle.initializer_levels.specs.declared.met.Finding.TheVariants as findings
 use Rattle.initializer_levels.specs.declared.met.Placed.{Placed}
-use Rattle.initializer_levels.specs.Paths.{IsPathIn}
+use Rattle.initializer_levels.specs.Met.{IsPlacedIn}
 use Rattle.initializer_levels.specs.Turns.{Found}
 use Rattle.init_judge.specs.declared.leaf.Said.{Said}
 use Rattle.init_judge.specs.Leaves.{leaf_seen, listed_leaf}
@@ -50,15 +50,6 @@ abbrev pub HasType : TypeTable → Finding → Type 0
 HasType table (findings.Leaf placed) = IsTypeId table placed.of.of
 HasType table (findings.Extra initializer) = Unit {0}
 HasType table (findings.NoPart designator) = Unit {0}
-
--- and stands at one of these paths
-abbrev pub IsPlacedIn : TypeTable → (paths : List (List ℕ)) → Placed → Type 0
-IsPlacedIn table paths placed = IsTypeId table placed.of.of × IsPathIn paths placed.path
-
-abbrev pub IsKnownFinding : TypeTable → (paths : List (List ℕ)) → Finding → Type 0
-IsKnownFinding table paths (findings.Leaf placed) = IsPlacedIn table paths placed
-IsKnownFinding table paths (findings.Extra initializer) = Unit {0}
-IsKnownFinding table paths (findings.NoPart designator) = Unit {0}
 
 -- This is what a plan says: it is kept so, and the rules that fail at its leaves are appended. Types may join the table.
 pub record Says (nodes : UnitNodes) (facts : List Fact) (old new : TypeTable) (paths : List (List ℕ)) (before after : List Failure) (said : Said) (plan : Plan) : Type 0 where

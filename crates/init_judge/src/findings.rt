@@ -1,18 +1,18 @@
 // What is found of an initializer, leaf by leaf: the leaves that have a place, the least constraint that is broken, and the rules that
 // fail. Which expression is for which part comes in.
-ghost use Rattle.std.specs.Prelude.{◌≡◌, ◌++◌, true, All, IfOk, OnOk};
+ghost use Rattle.std.specs.Prelude.{◌≡◌, ◌++◌, All, IfOk, OnOk};
 ghost use Rattle.decl_judge.specs.Units.{nodes_of};
 ghost use Rattle.node_facts.specs.Facts.{IsKnownNodeFact, nodes_seen};
-ghost use Rattle.initializer_levels.specs.Met.{found_with};
+ghost use Rattle.initializer_levels.specs.Met.{IsFindingIn, found_with};
 ghost use Rattle.initializer_levels.specs.Turns.{nothing_found};
 ghost use Rattle.init_judge.specs.Leaves.{listed_leaf};
-ghost use Rattle.init_judge.specs.Said.{HasJudged, HasType, IsKnownFinding};
+ghost use Rattle.init_judge.specs.Said.{HasJudged};
 
 use crate::leaf::{Said, judge_finding};
 use c_tree::Unit;
 use c_types::Types;
 use expression_rows::{Broken, lesser};
-use initializer_levels::{Finding, Placed, Plan};
+use initializer_levels::{Placed, Plan};
 use node_facts::NodeFacts;
 use sparse_model::FailureList;
 use std::alloc::{AllocError, Global};
@@ -36,30 +36,6 @@ fn push_leaf(leaves: &mut Vec<Placed>, leaf: Option<Placed>) -> Result<(), Alloc
     Ok(())
 }
 
-fn has_type(types: &Types, finding: Finding) -> bool
-    ensures { result ≡ true → HasType types.now finding }
-{
-    match finding {
-        Finding::Leaf(placed) => types.knows(placed.of.of),
-        Finding::Extra(_) => true,
-        Finding::NoPart(_) => true,
-    }
-}
-
-/// Whether the parts of all leaves have types of the table. It takes a step for each finding.
-pub fn have_types(types: &Types, findings: &[Finding]) -> bool
-    ensures { result ≡ true → All (HasType types.now) findings.now }
-{
-    let mut rest = findings;
-    'findings: while let Some((finding, others)) = rest.split_first() {
-        if !has_type(types, *finding) {
-            return false;
-        }
-        rest = others;
-    }
-    true
-}
-
 /// What is found of an initializer. The rules that fail at its leaves are appended. It takes a few steps for each finding.
 pub fn judge_findings(
     alloc: Global,
@@ -72,7 +48,7 @@ pub fn judge_findings(
 ) -> Result<JudgedLeaves, AllocError>
     requires whole { unit.now.first ≡ 0 }
     requires facts { All (IsKnownNodeFact types.old) facts.now }
-    requires known { All (IsKnownFinding types.old plan.now.paths) plan.now.findings.items }
+    requires known { All (IsFindingIn types.old plan.now.paths) plan.now.findings.items }
     ensures { IfOk result (λ judged. HasJudged (nodes_of unit.now) (nodes_seen types.old facts.now) types.old types.new plan.now.paths found.old found.new judged.leaves.items judged.broken (found_with (nodes_of unit.now) (nodes_seen types.old facts.now) is_static types.old plan.now.paths nothing_found plan.now.findings.items)) }
 {
     let mut leaves = Vec::new(alloc);

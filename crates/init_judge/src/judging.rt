@@ -7,13 +7,13 @@ ghost use Rattle.c_types.specs.Table.{IsTypeId, type_at};
 ghost use Rattle.decl_judge.specs.Units.{nodes_of};
 ghost use Rattle.node_facts.specs.Facts.{IsKnownNodeFact, nodes_seen};
 ghost use Rattle.node_facts.specs.Growing.{TypesJoin};
+ghost use Rattle.initializer_levels.specs.Met.{IsPlacedIn};
 ghost use Rattle.initializer_levels.specs.Steps.{AreKnownIn};
 ghost use Rattle.init_judge.specs.Judging.{IsInitializedBy, IsRefusedFor, KeepsTypes};
-ghost use Rattle.init_judge.specs.Said.{IsPlacedIn};
 
 use crate::appending::append_all;
 use crate::fault::InitFault;
-use crate::findings::{have_types, judge_findings};
+use crate::findings::judge_findings;
 use crate::whole::plan_of;
 use c_tree::{Handle, Unit};
 use c_types::Types;
@@ -44,7 +44,7 @@ pub struct InitPlan {
 ///
 /// # Errors
 /// `Constraint` where the initializer breaks one: the least, by its token and then by its number; types may have joined the table.
-/// Want of memory, which stands too for a leaf of a type that the table hasn't, as none is. After either nothing was appended.
+/// Want of memory. After either nothing was appended.
 pub fn judge_init(
     alloc: Global,
     unit: &Unit,
@@ -68,9 +68,6 @@ pub fn judge_init(
     ensures kept { IfErr result (KeepsTypes types.old types.new) }
 {
     let plan = plan_of(alloc, unit, types, facts, object, init)?;
-    if !have_types(types, plan.findings.as_slice()) {
-        return Err(InitFault::Memory);
-    }
     let mut failures = FailureList::new(alloc);
     let judged = judge_findings(alloc, unit, types, facts, is_static, &plan, &mut failures)?;
     match judged.broken {

@@ -7,10 +7,10 @@ ghost use Rattle.meaning_typing.specs.Units as units;
 ghost use Rattle.c_types.specs.Table.{IsTypeId, TypeTable};
 ghost use Rattle.decl_judge.specs.Units.{nodes_of};
 ghost use Rattle.node_facts.specs.Facts.{IsKnownNodeFact, nodes_seen};
-ghost use Rattle.initializer_levels.specs.Met.{finding_plan};
+ghost use Rattle.initializer_levels.specs.Met.{IsFindingIn, IsPlacedIn, finding_plan};
 ghost use Rattle.initializer_levels.specs.Parts.{parts_in, parts_seen, type_seen};
 ghost use Rattle.initializer_levels.specs.Paths.{path_at};
-ghost use Rattle.init_judge.specs.Said.{HasType, IsKnownFinding, IsPlacedIn, Says, plan_kept, refused_at, said_seen};
+ghost use Rattle.init_judge.specs.Said.{HasType, Says, plan_kept, refused_at, said_seen};
 
 use crate::strings::{elements_for, is_longer};
 use crate::value::judge_value;
@@ -101,7 +101,7 @@ pub fn judge_finding(
     requires facts { All (IsKnownNodeFact types.old) facts.now }
     requires part { HasType types.old finding }
     ensures says { (paths : List (List ℕ)) → IfOk result (λ said. Says (nodes_of unit.now) (nodes_seen types.old facts.now) types.old types.new paths found.old found.new said (finding_plan (nodes_of unit.now) (nodes_seen types.old facts.now) is_static types.old paths finding)) }
-    ensures known { (table : TypeTable) (paths : List (List ℕ)) → IsKnownFinding table paths finding → IfOk result (λ said. IfSome said.leaf (IsPlacedIn table paths)) }
+    ensures known { (table : TypeTable) (paths : List (List ℕ)) → IsFindingIn table paths finding → IfOk result (λ said. IfSome said.leaf (IsPlacedIn table paths)) }
 {
     match finding {
         Finding::Leaf(placed) => judge_leaf(unit, types, facts, is_static, placed, found),

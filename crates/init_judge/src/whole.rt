@@ -30,7 +30,7 @@ fn plan_met(alloc: Global, unit: &Unit, met: Met, length: u64) -> Result<Plan, A
     requires { unit.now.first ≡ 0 }
     ensures found { (facts : List Fact) (is_static : Bool) (table : TypeTable) → IfOk result (λ plan. found_with (nodes_of unit.now) facts is_static table plan.paths nothing_found plan.findings.items ≡ found_behind nothing_found (met_plan (nodes_of unit.now) facts is_static table [] met)) }
     ensures length { IfOk result (λ plan. plan.length ≡ length) }
-    ensures known { IsMetIn [] met → IfOk result (λ plan. All (IsFindingIn plan.paths) plan.findings.items) }
+    ensures known { (table : TypeTable) → IsMetIn table [] met → IfOk result (λ plan. All (IsFindingIn table plan.paths) plan.findings.items) }
 {
     let paths = Paths::new(alloc);
     let mut findings = Vec::new(alloc);
@@ -55,7 +55,7 @@ fn plan_of_value(
     requires object { IsTypeId types.now object }
     requires value { is_braces (kind_at (nodes_of unit.now) init) ≡ false }
     ensures received { (aggregates : Aggregates) (facts : List Fact) (is_static : Bool) → IfOk result (IsReceived aggregates is_static types.now (nodes_of unit.now) facts object init) }
-    ensures known { IfOk result (λ plan. All (IsFindingIn plan.paths) plan.findings.items) }
+    ensures known { IfOk result (λ plan. All (IsFindingIn types.now plan.paths) plan.findings.items) }
 {
     initializers_are_of_parts();
     let of = PartType {
@@ -88,7 +88,7 @@ fn plan_of_braces(
     requires object { IsTypeId types.now object }
     requires braced { is_braces (kind_at (nodes_of unit.now) init) ≡ true }
     ensures received { (aggregates : Aggregates) (is_static : Bool) → AreKnownIn types.now aggregates → IfOk result (IsReceived aggregates is_static types.now (nodes_of unit.now) (nodes_seen types.now facts.now) object init) }
-    ensures known { IfOk result (λ plan. All (IsFindingIn plan.paths) plan.findings.items) }
+    ensures known { IfOk result (λ plan. All (IsFindingIn types.now plan.paths) plan.findings.items) }
 {
     initializers_are_of_parts();
     walks_come_to_plans();
@@ -133,7 +133,7 @@ pub fn plan_of(
     requires facts { All (IsKnownNodeFact types.now) facts.now }
     requires object { IsTypeId types.now object }
     ensures received { (aggregates : Aggregates) (is_static : Bool) → AreKnownIn types.now aggregates → IfOk result (IsReceived aggregates is_static types.now (nodes_of unit.now) (nodes_seen types.now facts.now) object init) }
-    ensures known { IfOk result (λ plan. All (IsFindingIn plan.paths) plan.findings.items) }
+    ensures known { IfOk result (λ plan. All (IsFindingIn types.now plan.paths) plan.findings.items) }
 {
     if is_braced(unit, init) {
         plan_of_braces(alloc, unit, types, facts, object, init)

@@ -7,9 +7,9 @@ use Rattle.decl_judge.specs.Units.{nodes_of}
 use Rattle.node_facts.specs.Facts.{nodes_seen}
 use Rattle.node_facts.proofs.GrowthLemmas.{nodes_known, nodes_later}
 use Rattle.initializer_levels.specs.declared.met.Placed.{Placed}
-use Rattle.initializer_levels.specs.Met.{finding_plan, found_with}
+use Rattle.initializer_levels.specs.Met.{IsFindingIn, finding_plan, found_with}
 use Rattle.initializer_levels.specs.Turns.{found_behind, nothing_found}
-use Rattle.init_judge.specs.Said.{HasJudged, IsKnownFinding, Says}
+use Rattle.init_judge.specs.Said.{HasJudged, Says}
 use Rattle.init_judge.proofs.SaidLemmas.{has_type, judged_more, nothing_judged}
 use Rattle.init_judge.proofs.findings.judge_findings.Goals as goal
 
@@ -20,7 +20,7 @@ findings-init c =
     let facts = nodes_seen table c.args.facts.now in
     let plan = c.args.plan.now in
     record {
-      rest = subst (All (IsKnownFinding table plan.paths)) (sym c.as_slice-rest.ensures.value) c.requires.known;
+      rest = subst (All (IsFindingIn table plan.paths)) (sym c.as_slice-rest.ensures.value) c.requires.known;
       judged = (
         nothing_found,
         subst (λ (ls : List Placed). HasJudged nodes facts table table plan.paths c.args.found.now c.args.found.now ls None nothing_found) (sym c.new-leaves.ensures.items)
@@ -36,9 +36,9 @@ pub judge_finding-requires-clause-part : goal.judge_finding-requires-clause-part
 judge_finding-requires-clause-part c =
     let table = c.args.types.now in
     let paths = c.args.plan.now.paths in
-    let known = subst (All (IsKnownFinding table paths)) c.in-Some.ensures.cases.0 c.findings.invariant.rest in
+    let known = subst (All (IsFindingIn table paths)) c.in-Some.ensures.cases.0 c.findings.invariant.rest in
     has_type table c.findings.types c.findings.invariant.judged.1.keeps paths c.in-Some.finding.now
-    (All-head (IsKnownFinding table paths) c.in-Some.finding.now c.in-Some.others.now known)
+    (All-head (IsFindingIn table paths) c.in-Some.finding.now c.in-Some.others.now known)
 
 pub findings-preserved : goal.findings-preserved
 findings-preserved c =
@@ -53,8 +53,8 @@ findings-preserved c =
     let finding = c.in-Some.finding.now in
     let others = c.in-Some.others.now in
     let split = c.in-Some.ensures.cases.0 in
-    let known = subst (All (IsKnownFinding old paths)) split c.findings.invariant.rest in
-    let this = All-head (IsKnownFinding old paths) finding others known in
+    let known = subst (All (IsFindingIn old paths)) split c.findings.invariant.rest in
+    let this = All-head (IsFindingIn old paths) finding others known in
     let found = c.findings.invariant.judged.0 in
     let judged = c.findings.invariant.judged.1 in
     let says : Says nodes facts between new paths c.findings.found c.judge_finding.new.found c.in_ok-said.said (finding_plan nodes facts is_static between paths finding) =
@@ -62,7 +62,7 @@ findings-preserved c =
     (λ (fs : List Fact). Says nodes fs between new paths c.findings.found c.judge_finding.new.found c.in_ok-said.said (finding_plan nodes fs is_static between paths finding))
     (nodes_later old between judged.keeps kept c.requires.facts) (c.in_ok-said.ensures.says paths) in
     record {
-      rest = All-tail (IsKnownFinding old paths) finding others known;
+      rest = All-tail (IsFindingIn old paths) finding others known;
       judged = (
         found_behind found (finding_plan nodes facts is_static old paths finding),
         judged_more nodes facts is_static old between new paths c.args.found.now c.findings.found c.judge_finding.new.found c.findings.leaves.items c.push_leaf.new.leaves.items

@@ -9,17 +9,10 @@ use Rattle.node_facts.proofs.GrowthLemmas.{joins_on, type_later}
 use Rattle.expression_rows.specs.declared.row.Broken.{Broken}
 use Rattle.initializer_levels.specs.Met.{found_with}
 use Rattle.initializer_levels.specs.Turns.{nothing_found}
-use Rattle.init_judge.specs.Said.{HasJudged, HasType}
+use Rattle.init_judge.specs.Said.{HasJudged}
 use Rattle.init_judge.proofs.JudgingLemmas.{initialized_by, refused_for}
-use Rattle.init_judge.proofs.SaidLemmas.{findings_known, placed_later}
+use Rattle.init_judge.proofs.SaidLemmas.{placed_later}
 use Rattle.init_judge.proofs.judging.judge_init.Goals as goal
-
-pub judge_findings-requires-clause-known : goal.judge_findings-requires-clause-known
-judge_findings-requires-clause-known c =
-    let table = c.args.types.now in
-    let plan = c.in_ok-plan.plan in
-    findings_known table plan.paths plan.findings.items (subst (All (HasType table)) c.as_slice.ensures.value (c.have_types.ensures c.if-not-have_types.false))
-    c.in_ok-plan.ensures.known
 
 pub returns-in-Some-clause-refused : goal.returns-in-Some-clause-refused
 returns-in-Some-clause-refused c = λ aggregates known.

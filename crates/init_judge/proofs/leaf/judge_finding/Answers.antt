@@ -6,8 +6,8 @@ use Rattle.meaning_initializers.specs.Reading.{designator_at, initializer_at}
 use Rattle.decl_judge.specs.Units.{nodes_of}
 use Rattle.node_facts.specs.Facts.{nodes_seen}
 use Rattle.initializer_levels.specs.declared.met.Finding.{Finding}
-use Rattle.initializer_levels.specs.Met.{finding_plan}
-use Rattle.init_judge.specs.Said.{HasType, IsKnownFinding, Says}
+use Rattle.initializer_levels.specs.Met.{IsFindingIn, finding_plan}
+use Rattle.init_judge.specs.Said.{HasType, Says}
 use Rattle.init_judge.proofs.LeafLemmas.{extra_kept, silent_says}
 use Rattle.init_judge.proofs.leaf.judge_finding.Goals as goal
 
@@ -26,7 +26,7 @@ returns-in-Leaf-clause-says c = λ paths.
     (c.judge_leaf.ensures.says paths)
 
 pub returns-in-Leaf-clause-known : goal.returns-in-Leaf-clause-known
-returns-in-Leaf-clause-known c = λ table paths known. c.judge_leaf.ensures.known table paths (subst (IsKnownFinding table paths) c.in-Leaf.is known)
+returns-in-Leaf-clause-known c = λ table paths known. c.judge_leaf.ensures.known table paths (subst (IsFindingIn table paths) c.in-Leaf.is known)
 
 pub returns-in-Extra-clause-says : goal.returns-in-Extra-clause-says
 returns-in-Extra-clause-says c = λ paths.

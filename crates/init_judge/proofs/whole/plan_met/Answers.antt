@@ -15,8 +15,8 @@ returns-clause-found c = λ facts is_static table.
     ∙ ap (λ (ps : List (List ℕ)). found_behind nothing_found (met_plan nodes facts is_static table ps c.args.met)) c.new-paths.ensures)
 
 pub returns-clause-known : goal.returns-clause-known
-returns-clause-known c = λ met.
+returns-clause-known c = λ table met.
     let paths = c.new-paths.result in
-    c.in_ok-push_met.ensures.known paths
-    (subst (λ (fs : List Finding). All (IsFindingIn paths) fs) (sym c.new-findings.ensures.items) (λ i e within. absurd (omega (arith, within))))
-    (subst (λ (ps : List (List ℕ)). IsMetIn ps c.args.met) (sym c.new-paths.ensures) met)
+    c.in_ok-push_met.ensures.known table paths
+    (subst (λ (fs : List Finding). All (IsFindingIn table paths) fs) (sym c.new-findings.ensures.items) (λ i e within. absurd (omega (arith, within))))
+    (subst (λ (ps : List (List ℕ)). IsMetIn table ps c.args.met) (sym c.new-paths.ensures) met)

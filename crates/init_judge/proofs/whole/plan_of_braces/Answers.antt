@@ -33,7 +33,7 @@ returns-in-Some-clause-received c = λ aggregates is_static known.
     (len ∙ c.length_of-length.ensures facts is_static type_ [] false parts))
 
 pub returns-in-Some-clause-known : goal.returns-in-Some-clause-known
-returns-in-Some-clause-known c = c.plan_met.ensures.known tt
+returns-in-Some-clause-known c = c.plan_met.ensures.known c.args.types.now (c.requires.object, tt)
 
 pub returns-in-None-clause-received : goal.returns-in-None-clause-received
 returns-in-None-clause-received c = λ aggregates is_static known.

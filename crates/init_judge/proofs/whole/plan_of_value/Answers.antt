@@ -15,4 +15,4 @@ returns-clause-received c = λ aggregates facts is_static.
     (len ∙ c.length_of-length.ensures facts is_static (type_at table c.args.object) [] false c.parts_of-parts.ensures.parts))
 
 pub returns-clause-known : goal.returns-clause-known
-returns-clause-known c = c.plan_met.ensures.known tt
+returns-clause-known c = c.plan_met.ensures.known c.args.types.now (c.requires.object, tt)

@@ -1,2 +1,3 @@
 mod ListingLemmas
+mod AnswerLemmas
 mod TypesLemmas

@@ -6,7 +6,8 @@ use Rattle.meaning_warnings.specs.Listing.{AreOrdered, IsListing}
 use Rattle.meaning_typing.specs.Facts.{Fact}
 use Rattle.meaning_typing.specs.Surroundings.{Surrounding}
 use Rattle.meaning_typing.specs.Units.{UnitNodes}
-use Rattle.meaning_rules.specs.Rules.{BreaksConstraint, Holds, IsJudged, Judgement, PassesObjectSize, broken_in, failures_in, first_refusal, holds, least_broken, least_token, passed_in, refused}
+use Rattle.meaning_judgements.specs.WholeRules.{IsWholeJudged, holds, refused, whole_broken_in, whole_failures_in, whole_passed_in}
+use Rattle.meaning_rules.specs.Rules.{BreaksConstraint, Holds, Judgement, PassesObjectSize, first_refusal, least_broken, least_token}
 use Rattle.failure_listing.proofs.Listings.{ordered-otherwise}
 use Rattle.type_judge.specs.declared.judging.Judged.{Judged}
 use Rattle.type_judge.specs.Judging.{IsJudgedSo}
@@ -35,9 +36,9 @@ module _ (found : List Failure) where
 
 judged-lists :
     (nodes : UnitNodes) (surroundings : List Surrounding) (facts : List Fact) (judgement : Judgement)
-    → IsJudged nodes surroundings facts judgement → Lists (failures_in nodes surroundings facts) judgement
+    → IsWholeJudged nodes surroundings facts judgement → Lists (whole_failures_in nodes surroundings facts) judgement
 judged-lists nodes surroundings facts _ (holds listing none lists) = lists
-judged-lists nodes surroundings facts _ (refused judgement some) = refusal-lists (failures_in nodes surroundings facts) (least_broken (broken_in nodes surroundings facts)) (least_token (passed_in nodes surroundings facts)) judgement some
+judged-lists nodes surroundings facts _ (refused judgement some) = refusal-lists (whole_failures_in nodes surroundings facts) (least_broken (whole_broken_in nodes surroundings facts)) (least_token (whole_passed_in nodes surroundings facts)) judgement some
 
 -- its failures are in order as they are shown, too
 pub shown-ordered : (names : List (List ℕ)) (nodes : UnitNodes) (judged : Judged) → IsJudgedSo nodes judged

@@ -1,2 +1,4 @@
 pub mod Replies
+pub mod Asked
+pub mod Answers
 pub mod Types

@@ -1,17 +1,15 @@
 -- What is written of the expressions of a unit: of each the type, or the constraint that it breaks.
-use Rattle.std.specs.Prelude.{◌≡◌, ◌⊎◌, ℕ, ℤ, zero, suc, Bool, true, false, ◌&&◌, not, List, [], ◌++◌, codes, length, Option, Some, None, option_map, slice_get, take}
+use Rattle.std.specs.Prelude.{◌≡◌, ◌⊎◌, ℕ, ℤ, zero, suc, Bool, true, false, List, [], ◌++◌, codes, length, Option, Some, None, option_map, slice_get}
 use Rattle.std.specs.Map.{lookup}
 use Rattle.std.specs.Fmt.{decimal, signed_decimal}
-use Rattle.vocabulary.specs.declared.node_kind.NodeKind.{NodeKind}
-use Rattle.vocabulary.specs.declared.node_kind.NodeKind.TheVariants as kinds
 use Rattle.meaning_text.specs.Places.{At}
 use Rattle.meaning_types.specs.Types.{TypeTree}
 use Rattle.meaning_types.specs.Spelling.{spelling_with}
 use Rattle.meaning_tree.specs.Nodes.{NodeList}
 use Rattle.meaning_typing.specs.Facts.{Fact, Expression, ExpressionFact}
 use Rattle.meaning_typing.specs.Rows.{Row}
-use Rattle.meaning_typing.specs.Surroundings.{Surrounding}
-use Rattle.meaning_typing.specs.Typing.{row_at, token_at}
+use Rattle.meaning_typing.specs.Surroundings.{Surrounding, AreSurroundings}
+use Rattle.meaning_typing.specs.Typing.{token_at}
 use Rattle.meaning_typing.specs.Units.{UnitNodes, kind_at}
 use Rattle.meaning_warnings.specs.Places.{begins_at}
 use Rattle.meaning_rules.specs.Rules.{least_broken}
@@ -21,21 +19,22 @@ use Rattle.sparse_model.specs.declared.ids.NameId.{NameId}
 use Rattle.c_tokens.specs.Seen.{text_of, toks_of}
 use Rattle.c_types.specs.declared.bodies.Named.{Named}
 use Rattle.c_types.specs.declared.bodies.Named.TheVariants as named
-use Rattle.c_types.specs.Table.{TypeTable, is_named}
+use Rattle.c_types.specs.Table.{is_named}
 use Rattle.c_preproc.specs.declared.unit.UnitTokens.{UnitTokens}
 use Rattle.parse_state.specs.Finished.{spelled}
 use Rattle.c_parse.specs.Answers.{DerivesUnit}
 use Rattle.decl_judge.specs.Units.{nodes_of}
-use Rattle.node_facts.specs.Facts.{nodes_seen}
+use Rattle.node_facts.specs.Facts.{node_seen}
 use Rattle.expression_rows.specs.declared.row.Broken.{Broken}
 use Rattle.expression_rows.specs.Rows.{broken_seen}
-use Rattle.expr_judge.specs.Rows.{is_of_declaration}
-use Rattle.type_judge.specs.declared.known_nodes.UnitFacts.{UnitFacts}
-use Rattle.type_judge.specs.Judging.{IsKnownSo}
+use Rattle.node_judge.specs.NamedTypes.{names_told}
+use Rattle.node_judge.specs.Rows.{next_row}
 use Rattle.warn_print.specs.declared.show.Show.{Show}
 use Rattle.warn_print.specs.Seen.{named_type}
 use Rattle.ksparse.specs.Written.{paths_of}
-use Rattle.judged.specs.declared.types.Source.{Source}
+use Rattle.judged.specs.declared.answers.Answer.{Answer}
+use Rattle.judged.specs.declared.answers.Answer.TheVariants as answers
+use Rattle.judged.specs.Asked.{is_asked}
 use Rattle.judged.specs.Replies.{constraint_line}
 
 -- What a line stands on: the spellings, the tokens, and what types are named
@@ -47,10 +46,6 @@ pub record Shown : Type 0 where
 
 abbrev pub shown_of : Show → Shown
 shown_of show = record { names = show.names.now; toks = show.toks.now; told = show.types.now.names }
-
--- of a source, with the names of these types
-abbrev pub shown_with : Source → TypeTable → Shown
-shown_with source types = record { names = source.names.now; toks = source.toks.now; told = types.names }
 
 -- the name of an aggregate or of an identity
 abbrev pub name_told : Shown → Named → Option (List ℕ)
@@ -89,6 +84,11 @@ abbrev pub fact_line : Shown → (token : ℕ) → Fact → List ℕ
 fact_line shown token (Expression expression) = expression_line shown token expression
 fact_line shown token fact = []
 
+-- of what is answered of a node, over a table of types
+abbrev pub answer_line : Show → (token : ℕ) → Answer → List ℕ
+answer_line show token (answers.Known fact) = fact_line (shown_of show) token (node_seen show.types.now fact)
+answer_line show token (answers.Breaks broken) = constraint_line show.names.now show.toks.now broken
+
 -- Of a node
 
 -- an expression of this row has this line: that of what is known, or that of the least constraint that it breaks
@@ -97,42 +97,34 @@ IsRowLine shown token row line =
     ((row.broken ≡ []) × (line ≡ fact_line shown token row.fact))
     ⊎ ((broken : Broken) × (least_broken row.broken ≡ Some (broken_seen broken)) × (line ≡ constraint_line shown.names shown.toks broken))
 
-abbrev pub is_return : NodeKind → Bool
-is_return kinds.ReturnStatement = true
-is_return kind = false
-
--- nodes of declarations and `return` are judged otherwise
-abbrev pub is_asked : NodeKind → Bool
-is_asked kind = not (is_of_declaration kind) && not (is_return kind)
-
+-- where it isn't asked there is none
 abbrev pub IsLineIf : Bool → Shown → (token : ℕ) → Row → List ℕ → Type 0
 IsLineIf true shown token row line = IsRowLine shown token row line
 IsLineIf false shown token row line = line ≡ []
 
 -- a node has this line, by what is known of those before it
-abbrev pub IsNodeLine : UnitNodes → List Surrounding → (earlier : List Fact) → Shown → (handle : ℕ) → List ℕ → Type 0
-IsNodeLine nodes surroundings earlier shown handle line =
-    IsLineIf (is_asked (kind_at nodes handle)) shown (token_at nodes handle) (row_at nodes surroundings earlier handle) line
+abbrev pub IsNodeLine : UnitNodes → List Surrounding → Shown → (handle : ℕ) → List ℕ → Type 0
+IsNodeLine nodes surroundings shown handle line =
+    IsLineIf (is_asked (kind_at nodes handle)) shown (token_at nodes handle) (next_row nodes surroundings handle) line
 
 -- such a line is appended
 abbrev pub AppendsOne : (List ℕ → Type 0) → (old new : List ℕ) → Type 0
 AppendsOne IsLine old new = (line : List ℕ) × IsLine line × (new ≡ old ++ line)
 
 -- the lines of the first so many nodes, in their order
-abbrev pub AreLines : UnitNodes → List Surrounding → List Fact → Shown → (count : ℕ) → List ℕ → Type 0
-AreLines nodes surroundings facts shown zero text = text ≡ []
-AreLines nodes surroundings facts shown (suc count) text =
-    (front : List ℕ) × AreLines nodes surroundings facts shown count front
-    × AppendsOne (IsNodeLine nodes surroundings (take count facts) shown count) front text
+abbrev pub AreLines : UnitNodes → List Surrounding → Shown → (count : ℕ) → List ℕ → Type 0
+AreLines nodes surroundings shown zero text = text ≡ []
+AreLines nodes surroundings shown (suc count) text =
+    (front : List ℕ) × AreLines nodes surroundings shown count front × AppendsOne (IsNodeLine nodes surroundings shown count) front text
 
 -- Of a unit
 
--- the lines of all its nodes, by what is known of them
+-- the lines of all its nodes, each by what is known of those before it, under the names that all nodes tell
 pub record ShowsTypes (names : List (List ℕ)) (toks : UnitTokens) (nodes : UnitNodes) (text : List ℕ) : Type 0 where
-  pub known : UnitFacts
-  pub is : IsKnownSo nodes known
+  pub surroundings : List Surrounding
+  pub are : AreSurroundings nodes surroundings
   pub lines :
-      AreLines nodes is.surroundings (nodes_seen known.types known.facts) (record { names = names; toks = toks; told = known.types.names }) (length nodes) text
+      AreLines nodes surroundings (record { names = names; toks = toks; told = names_told nodes surroundings (length nodes) }) (length nodes) text
 
 abbrev pub types_reply : List ℕ → Reply
 types_reply text = record { out = text; err = []; ending = Clean }

@@ -1,40 +1,42 @@
 -- What is answered of a unit, once all its nodes are judged.
-use Rattle.std.proofs.Common.{◌≡◌, ℕ, All, Contains, List, Option, None, Result, IfErr, IsErrAnd, length, map, option_map, refl, sym, ap, ap₂, subst, ◌∙◌}
+use Rattle.std.proofs.Common.{◌≡◌, ℕ, Contains, List, Option, None, Result, IfErr, IsErrAnd, length, option_map, refl, sym, ap₂, subst, ◌∙◌}
 use Rattle.std.proofs.lemmas.List.Elements.{All-contains, All-weaker}
 use Rattle.std.proofs.lemmas.Result.{err_from_is_err_and}
 use Rattle.vocabulary.specs.declared.limit.LimitKind.TheVariants as limits
 use Rattle.sparse_model.specs.declared.failure.Failure.{Failure}
 use Rattle.sparse_model.specs.declared.ids.NameId.{NameId}
 use Rattle.failure_listing.specs.Ranks.{KeepsRank}
+use Rattle.meaning_judgements.proofs.FactLemmas.{whole_facts_are_found}
+use Rattle.meaning_judgements.specs.WholeFacts.{AreWholeFacts}
+use Rattle.meaning_judgements.specs.WholeRules.{holds, refused, whole_broken_in, whole_failures_in, whole_passed_in}
 use Rattle.meaning_operands.specs.Failures as meaning
+use Rattle.meaning_rules.specs.Rules.{Judgement, first_refusal, least_broken, least_token}
 use Rattle.meaning_warnings.specs.Listing.{IsListing}
 use Rattle.meaning_tree.specs.Nodes.{NodeList}
-use Rattle.meaning_typing.proofs.Facts.{facts_are_found}
-use Rattle.meaning_typing.specs.Building.{facts_of}
 use Rattle.meaning_typing.specs.Facts.{Fact}
 use Rattle.meaning_typing.specs.Surroundings.{Surrounding, AreSurroundings}
-use Rattle.meaning_typing.specs.Typing.{AreFacts}
 use Rattle.meaning_typing.specs.Units.{UnitNodes}
-use Rattle.meaning_rules.specs.Rules.{Judgement, broken_in, failures_in, first_refusal, holds, least_broken, least_token, passed_in, refused}
+use Rattle.meaning_typing.specs.WholeTyping.{whole_facts_of}
+use Rattle.c_types.specs.declared.bodies.Named.{Named}
 use Rattle.c_types.specs.Table.{TypeTable}
+use Rattle.decl_judge.specs.Units.{nodes_of}
+use Rattle.expression_rows.specs.Rows.{IsKnownFailure, broken_seen, failure_seen}
+use Rattle.expr_judge.specs.Found.{found_seen}
+use Rattle.expr_judge.proofs.NodeLemmas.{length-nodes}
+use Rattle.node_judge.specs.Known.{table_of}
 use Rattle.type_judge.specs.declared.fault.JudgeFault.{JudgeFault}
 use Rattle.type_judge.specs.declared.fault.JudgeFault.TheVariants as faults
 use Rattle.type_judge.specs.declared.judging.Judged.{Judged}
 use Rattle.type_judge.specs.declared.pass.Pass.{Pass}
-use Rattle.expr_judge.specs.Found.{found_seen}
-use Rattle.expr_judge.specs.Whole as parts
-use Rattle.type_judge.specs.Identities.{names_told, renamed}
-use Rattle.type_judge.specs.Judging.{HasTypeIds, IsJudgedSo, IsKnownSo, IsPassOver, IsRefusal, IsRefusedFor}
-use Rattle.decl_judge.specs.Units.{nodes_of}
-use Rattle.expression_rows.specs.Rows.{IsKnownFailure, broken_seen, failure_seen}
-use Rattle.type_judge.proofs.IdentityLemmas.{all_renamed, failures_renamed, found_renamed, nodes_renamed}
-use Rattle.expr_judge.proofs.NodeLemmas.{length-nodes}
+use Rattle.type_judge.specs.Judging.{HasTypeIds, IsJudgedSo, IsListed, IsPassOver, IsRefusal, IsRefusedFor, judged_from}
+use Rattle.node_judge.specs.NamedTypes.{names_told, renamed}
+use Rattle.type_judge.proofs.RenamingLemmas.{all_renamed, failures_renamed, found_renamed, nodes_renamed}
 
 -- what the first refusal says of a unit
 refused_as :
-    (nodes : UnitNodes) (surroundings : List Surrounding) (facts : List Fact) → AreSurroundings nodes surroundings → AreFacts nodes surroundings facts
+    (nodes : UnitNodes) (surroundings : List Surrounding) (facts : List Fact) → AreSurroundings nodes surroundings → AreWholeFacts nodes surroundings facts
     → (fault : JudgeFault) (refusal : Option Judgement)
-    → refusal ≡ first_refusal (least_broken (broken_in nodes surroundings facts)) (least_token (passed_in nodes surroundings facts))
+    → refusal ≡ first_refusal (least_broken (whole_broken_in nodes surroundings facts)) (least_token (whole_passed_in nodes surroundings facts))
     → IsRefusal fault refusal → IsRefusedFor nodes fault
 refused_as nodes surroundings facts are also (faults.Constraint broken) refusal same is = (surroundings, facts, are, also, refused _ (sym same ∙ is))
 refused_as nodes surroundings facts are also (faults.Limit limits.ObjectSize) refusal same is = (surroundings, facts, are, also, refused _ (sym same ∙ is))
@@ -53,77 +55,66 @@ found-rank table = record { token = λ f. refl; rule = λ f. refl; part = λ f. 
 
 module _ (unit : NodeList NameId) (whole : unit.first ≡ 0) (surroundings : List Surrounding) (are : AreSurroundings (nodes_of unit) surroundings) (pass : Pass)
     (judged : IsPassOver (nodes_of unit) surroundings (length unit.nodes) pass) where
+  abbrev table : TypeTable
+  table = table_of pass.known
+
+  abbrev facts : List Fact
+  facts = whole_facts_of (nodes_of unit) surroundings
+
   over : IsPassOver (nodes_of unit) surroundings (length (nodes_of unit)) pass
   over = subst (λ (n : ℕ). IsPassOver (nodes_of unit) surroundings n pass) (sym (length-nodes unit whole)) judged
 
   refusal-is :
       first_refusal (option_map broken_seen pass.broken) pass.passed
-      ≡ first_refusal (least_broken (broken_in (nodes_of unit) surroundings (facts_of (nodes_of unit) surroundings))) (least_token (passed_in (nodes_of unit) surroundings (facts_of (nodes_of unit) surroundings)))
+      ≡ first_refusal (least_broken (whole_broken_in (nodes_of unit) surroundings facts)) (least_token (whole_passed_in (nodes_of unit) surroundings facts))
   refusal-is = ap₂ first_refusal over.broken over.passed
 
   pub refused_for : (fault : JudgeFault) → IsRefusal fault (first_refusal (option_map broken_seen pass.broken) pass.passed) → IsRefusedFor (nodes_of unit) fault
   refused_for fault is =
-      refused_as (nodes_of unit) surroundings (facts_of (nodes_of unit) surroundings) are (facts_are_found (nodes_of unit) surroundings) fault _ refusal-is is
+      refused_as (nodes_of unit) surroundings facts are (whole_facts_are_found (nodes_of unit) surroundings) fault _ refusal-is is
 
-  -- once the names of restricted types are told
-  module _ (types : TypeTable) (is : types ≡ renamed pass.known.types (names_told (nodes_of unit) surroundings (length unit.nodes))) where
-    pub known_so : IsKnownSo (nodes_of unit) (record { types = types; facts = pass.known.facts })
-    known_so =
-        let names = names_told (nodes_of unit) surroundings (length unit.nodes) in
-        subst (λ (table : TypeTable). IsKnownSo (nodes_of unit) (record { types = table; facts = pass.known.facts })) (sym is)
+  -- once the names of types are told, and failures are in order
+  module _ (after : Pass) (failures : List Failure) (listed : IsListed (nodes_of unit) surroundings pass after failures) where
+    abbrev names : List (Named × NameId)
+    names = names_told (nodes_of unit) surroundings (length (nodes_of unit))
+
+    abbrev named : TypeTable
+    named = renamed table names
+
+    abbrev answer : Judged
+    answer = record { types = named; facts = pass.known.declarations.facts; failures = failures }
+
+    -- the answer is told by what is known in the end
+    in_the_end : (P : Judged → Type 0) → P answer → P (judged_from after failures)
+    in_the_end P was =
+        subst (λ facts. P (record { types = table_of after.known; facts = facts; failures = failures })) (sym listed.facts)
+        (subst (λ (types : TypeTable). P (record { types = types; facts = pass.known.declarations.facts; failures = failures })) (sym listed.types) was)
+
+    pub judged_so : first_refusal (option_map broken_seen pass.broken) pass.passed ≡ None → IsJudgedSo (nodes_of unit) (judged_from after failures)
+    judged_so none =
+        let are_found : found_seen named pass.found ≡ whole_failures_in (nodes_of unit) surroundings facts =
+        found_renamed table names pass.found ∙ over.failures in
+        in_the_end (IsJudgedSo (nodes_of unit))
         (record {
           surroundings = surroundings;
+          facts = facts;
           are_surroundings = are;
-          facts =
-              subst (AreFacts (nodes_of unit) surroundings) (sym (nodes_renamed pass.known.types names pass.known.facts ∙ over.known.facts))
-              (facts_are_found (nodes_of unit) surroundings);
-          names = ap (names_told (nodes_of unit) surroundings) (sym (length-nodes unit whole));
+          are_facts = whole_facts_are_found (nodes_of unit) surroundings;
+          judgement =
+              holds (found_seen named failures) (sym refusal-is ∙ none)
+              (subst (λ (all : List meaning.Failure). IsListing all (found_seen named failures)) are_found
+              (listed.lists (failure_seen named) (found-rank named)));
+          known = nodes_renamed table names pass.known.declarations.facts ∙ over.known.facts;
+          names = refl;
         })
 
-    pub known_whole : parts.IsWhole types pass.known.facts
-    known_whole =
-        let names = names_told (nodes_of unit) surroundings (length unit.nodes) in
-        subst (λ (table : TypeTable). parts.IsWhole table pass.known.facts) (sym is)
+    pub judged_ids : HasTypeIds (judged_from after failures)
+    judged_ids =
+        in_the_end HasTypeIds
         (record {
-          ids = all_renamed pass.known.types names pass.known.facts over.known.whole.ids;
-          layouts = over.known.whole.layouts;
+          facts = all_renamed table names pass.known.declarations.facts over.known.kept.whole.ids;
+          failures =
+              failures_renamed table names failures
+              (All-weaker (Contains pass.found) (IsKnownFailure table)
+              (λ failure is. All-contains (IsKnownFailure table) pass.found failure over.ids is) failures listed.found);
         })
-
-    -- and failures are in order
-    module _ (failures : List Failure) where
-      abbrev answer : TypeTable → Judged
-      answer table = record { types = table; facts = pass.known.facts; failures = failures }
-
-      pub judged_so :
-          first_refusal (option_map broken_seen pass.broken) pass.passed ≡ None
-          → ((seen : Failure → meaning.Failure) → KeepsRank seen → IsListing (map seen pass.found) (map seen failures))
-          → IsJudgedSo (nodes_of unit) (answer types)
-      judged_so none lists =
-          let names = names_told (nodes_of unit) surroundings (length unit.nodes) in
-          let table = renamed pass.known.types names in
-          let are_found : found_seen table pass.found ≡ failures_in (nodes_of unit) surroundings (facts_of (nodes_of unit) surroundings) =
-          found_renamed pass.known.types names pass.found ∙ over.failures in
-          subst (λ (other : TypeTable). IsJudgedSo (nodes_of unit) (answer other)) (sym is)
-          (record {
-            surroundings = surroundings;
-            facts = facts_of (nodes_of unit) surroundings;
-            are_surroundings = are;
-            are_facts = facts_are_found (nodes_of unit) surroundings;
-            judgement =
-                holds (found_seen table failures) (sym refusal-is ∙ none)
-                (subst (λ (all : List meaning.Failure). IsListing all (found_seen table failures)) are_found (lists (failure_seen table) (found-rank table)));
-            known = nodes_renamed pass.known.types names pass.known.facts ∙ over.known.facts;
-            names = ap (names_told (nodes_of unit) surroundings) (sym (length-nodes unit whole));
-          })
-
-      pub judged_ids : All (Contains pass.found) failures → HasTypeIds (answer types)
-      judged_ids among =
-          let names = names_told (nodes_of unit) surroundings (length unit.nodes) in
-          subst (λ (table : TypeTable). HasTypeIds (answer table)) (sym is)
-          (record {
-            facts = all_renamed pass.known.types names pass.known.facts over.known.whole.ids;
-            failures =
-                failures_renamed pass.known.types names failures
-                (All-weaker (Contains pass.found) (IsKnownFailure pass.known.types)
-                (λ failure is. All-contains (IsKnownFailure pass.known.types) pass.found failure over.ids is) failures among);
-          })

@@ -1,144 +1,108 @@
 -- One more node.
-use Rattle.std.proofs.Common.{◌≡◌, ℕ, suc, ◌<◌, ◌++◌, [], ◌∷◌, List, All, Option, None, length, option_map, sym, ap, ap₂, subst, ◌∙◌, arith}
-use Rattle.std.proofs.lemmas.List.{map-append}
-use Rattle.std.proofs.lemmas.List.Elements.{All-append, All-cons, All-nil}
+use Rattle.std.proofs.Common.{◌≡◌, ℕ, suc, ◌+◌, ◌<◌, ◌++◌, [], List, Option, None, Result, Ok, Err, IfOk, IsErrAnd, length, option_map, sym, ap, ap₂, subst, ◌∙◌, arith}
+use Rattle.std.proofs.lemmas.List.Elements.{All-nil}
 use Rattle.sparse_model.specs.declared.failure.Failure.{Failure}
+use Rattle.meaning_judgements.specs.WholeFacts.{whole_broken_at, whole_failures_at, whole_passed_at}
 use Rattle.meaning_operands.specs.Failures as meaning
-use Rattle.meaning_typing.specs.Building.{facts_of}
-use Rattle.meaning_typing.specs.Facts.{Fact}
-use Rattle.meaning_typing.specs.Surroundings.{Surrounding, of_unit, surrounding_at}
-use Rattle.meaning_typing.specs.Typing.{access_failures, broken_at, failures_at, passed_at, token_at}
-use Rattle.meaning_typing.specs.Units.{UnitNodes}
 use Rattle.meaning_rules.specs.Rules.{gathered, least_broken, least_token, lesser}
+use Rattle.meaning_typing.specs.Surroundings.{Surrounding}
+use Rattle.meaning_typing.specs.Units.{UnitNodes}
+use Rattle.meaning_typing.specs.WholeTyping.{first_whole_facts, whole_facts_of}
 use Rattle.c_types.specs.Table.{TypeTable, Extends}
-use Rattle.linked_names.specs.declared.declaration.Linked.{Linked}
-use Rattle.linked_names.specs.declared.declaration.Typedef.{Typedef}
-use Rattle.node_facts.specs.declared.fact.NodeFact.{NodeFact}
-use Rattle.node_facts.specs.Facts.{IsKnownNodeFact, node_seen, nodes_seen}
-use Rattle.node_facts.specs.Growing.{TypesJoin}
-use Rattle.node_facts.proofs.GrowthLemmas.{joins_on, node_known, node_later, nodes_known, nodes_later}
+use Rattle.linked_names.proofs.GrowthLemmas.{Extends-twice}
 use Rattle.expression_rows.specs.Arguments.{Appends}
 use Rattle.expression_rows.specs.Rows.{IsKnownFailure, broken_seen}
-use Rattle.type_judge.specs.declared.known.Known.{Known}
-use Rattle.type_judge.specs.declared.pass.Pass.{Pass}
 use Rattle.expr_judge.specs.declared.row.NodeRow.{NodeRow}
 use Rattle.expr_judge.specs.Found.{AreKnownFailures, found_seen}
+use Rattle.expr_judge.specs.Rows.{KeptRow, Tells}
+use Rattle.expr_judge.proofs.GrowthLemmas.{appended_known, appended_seen}
+use Rattle.node_judge.specs.declared.known.Known.{Known}
+use Rattle.node_judge.specs.Known.{IsKnownOf, table_of}
+use Rattle.statement_judge.specs.Statements.{IsKeptOf}
+use Rattle.type_judge.specs.declared.pass.Pass.{Pass}
 use Rattle.type_judge.specs.Judging.{IsPassOver}
-use Rattle.type_judge.specs.Known.{IsKnownOf}
 use Rattle.type_judge.specs.Least.{lowest}
-use Rattle.type_judge.specs.Linked.{linked_in, typedef_of, typedefs_in}
-use Rattle.expr_judge.specs.Rows.{KeptRow}
-use Rattle.type_judge.specs.Rows.{Tells, first_row}
+use Rattle.type_judge.specs.Rows.{accessed_row}
 use Rattle.type_judge.proofs.FactLemmas.{first_broken, first_failures, first_passed}
-use Rattle.expr_judge.proofs.GrowthLemmas.{appended_both, appended_known, appended_later, appended_seen, failures_known, failures_later}
-use Rattle.type_judge.proofs.KnownLemmas.{known_count, known_later, linked_more, typedefs_more}
+use Rattle.type_judge.proofs.GrowthLemmas.{appended_later, failures_known, failures_later}
 use Rattle.type_judge.proofs.LeastLemmas.{least_both, lowest_both}
 
--- before the first node
-pub pass_none :
-    (nodes : UnitNodes) (surroundings : List Surrounding) (pass : Pass) → IsKnownOf nodes surroundings 0 pass.known → pass.known.types.names ≡ [] → pass.found ≡ []
-    → pass.broken ≡ None → pass.passed ≡ None → IsPassOver nodes surroundings 0 pass
-pass_none nodes surroundings pass known names found broken passed =
-    record {
-      known = known;
-      failures = ap (found_seen pass.known.types) found;
-      ids = subst (AreKnownFailures pass.known.types) (sym found) (All-nil (IsKnownFailure pass.known.types));
-      broken = ap (option_map broken_seen) broken;
-      passed = passed;
-      names = names;
-    }
+-- What `?` hands on is no pass.
+pub nothing_made : {T F : Type 0} (P : T → Type 0) (Q : F → Type 0) (result : Result T F) → IsErrAnd result Q → IfOk result P
+nothing_made P Q (Ok value) is = absurd is
+nothing_made P Q (Err fault) is = tt
 
--- what is known, with that of one node more, which stands in this scope
-pub record Joins (old new : Known) (fact : NodeFact) (scope : ℕ) : Type 0 where
-  pub facts : new.facts ≡ old.facts ++ fact ∷ []
-  pub types : TypesJoin old.types new.types
-  pub linked : new.linked.declarations ≡ old.linked.declarations ++ linked_in (fact ∷ [])
-  pub over : Extends new.linked.over new.types
-  pub typedefs : new.typedefs ≡ old.typedefs ++ typedef_of scope fact
-
-module _ (nodes : UnitNodes) (surroundings : List Surrounding) (handle : ℕ) where
-  known_more :
-      (old new : Known) (fact : NodeFact) → handle < length surroundings → IsKnownOf nodes surroundings handle old
-      → node_seen old.types fact ≡ (first_row nodes surroundings handle).fact → IsKnownNodeFact old.types fact
-      → Joins old new fact (surrounding_at surroundings handle).around.scope → IsKnownOf nodes surroundings (suc handle) new
-  known_more old new fact stands known is id joins =
-      let count : length old.facts ≡ handle = known_count nodes surroundings handle old known in
-      let ids : All (IsKnownNodeFact old.types) old.facts = known.whole.ids in
+module _ (nodes : UnitNodes) (surroundings : List Surrounding) where
+  -- before the first node
+  pub pass_none :
+      (pass : Pass) → IsKnownOf nodes surroundings 0 pass.known → IsKeptOf nodes surroundings (first_whole_facts nodes surroundings 0) 0 pass.statements
+      → pass.found ≡ [] → pass.broken ≡ None → pass.passed ≡ None → IsPassOver nodes surroundings 0 pass
+  pass_none pass known kept found broken passed =
       record {
-        facts =
-            ap (nodes_seen new.types) joins.facts ∙ map-append (node_seen new.types) old.facts (fact ∷ [])
-            ∙ ap₂ (λ front last. front ++ last ∷ []) (nodes_later old.types new.types joins.types old.facts ids ∙ known.facts)
-            (node_later old.types new.types joins.types fact id ∙ is);
-        whole = record {
-          ids =
-              subst (All (IsKnownNodeFact new.types)) (sym joins.facts)
-              (All-append (IsKnownNodeFact new.types) old.facts (fact ∷ []) (nodes_known old.types new.types joins.types old.facts ids)
-              (All-cons (IsKnownNodeFact new.types) fact [] (node_known old.types new.types joins.types fact id) (All-nil (IsKnownNodeFact new.types))));
-          layouts = joins.types.layouts ∙ known.whole.layouts;
-          linked =
-              joins.linked ∙ ap (λ (earlier : List Linked). earlier ++ linked_in (fact ∷ [])) known.whole.linked ∙ sym (linked_more old.facts fact)
-              ∙ ap linked_in (sym joins.facts);
-          over = joins.over;
-        };
-        typedefs =
-            joins.typedefs
-            ∙ ap₂ (λ (earlier : List Typedef) (at : ℕ). earlier ++ typedef_of (surrounding_at surroundings at).around.scope fact) known.typedefs (sym count)
-            ∙ sym (typedefs_more surroundings old.facts fact (of_unit (length surroundings)) (omega (arith, stands, count)))
-            ∙ ap (typedefs_in surroundings) (sym joins.facts);
+        known = known;
+        kept = kept;
+        failures = ap (found_seen (table_of pass.known)) found;
+        ids = subst (AreKnownFailures (table_of pass.known)) (sym found) (All-nil (IsKnownFailure (table_of pass.known)));
+        broken = ap (option_map broken_seen) broken;
+        passed = passed;
       }
 
-  module _ (within : handle < length nodes) where
-    -- the failures of a node are those of its row, and that of its access
+  abbrev failing : ℕ → List meaning.Failure
+  failing = whole_failures_at nodes surroundings (whole_facts_of nodes surroundings)
+
+  abbrev breaking : ℕ → List meaning.Broken
+  breaking = whole_broken_at nodes surroundings (whole_facts_of nodes surroundings)
+
+  abbrev passing : ℕ → List ℕ
+  passing = whole_passed_at nodes surroundings (whole_facts_of nodes surroundings)
+
+  module _ (handle : ℕ) (within : handle < length nodes) where
     failures_more :
-        (old new : TypeTable) (before after : List Failure) (fact : Fact) → TypesJoin old new
-        → found_seen old before ≡ gathered (failures_at nodes surroundings (facts_of nodes surroundings)) handle → AreKnownFailures old before
-        → fact ≡ (first_row nodes surroundings handle).fact
-        → Appends new before after ((first_row nodes surroundings handle).failures ++ access_failures (token_at nodes handle) (surrounding_at surroundings handle) fact)
-        → found_seen new after ≡ gathered (failures_at nodes surroundings (facts_of nodes surroundings)) (suc handle)
-    failures_more old new before after fact join found ids is appends =
+        (old new : TypeTable) (before after : List Failure) → Extends old new → found_seen old before ≡ gathered failing handle
+        → AreKnownFailures old before → Appends new before after (accessed_row nodes surroundings handle).failures
+        → found_seen new after ≡ gathered failing (suc handle)
+    failures_more old new before after extends found ids appends =
         appended_seen new before after _ appends
-        ∙ ap₂ (λ front back. front ++ back) (failures_later old new join before ids ∙ found)
-        (ap (λ f. (first_row nodes surroundings handle).failures ++ access_failures (token_at nodes handle) (surrounding_at surroundings handle) f) is
-        ∙ sym (first_failures nodes surroundings handle within))
+        ∙ ap₂ (λ front back. front ++ back) (failures_later old new extends before ids ∙ found) (sym (first_failures nodes surroundings handle within))
 
     broken_more :
-        (before own after : Option meaning.Broken) → before ≡ least_broken (gathered (broken_at nodes surroundings (facts_of nodes surroundings)) handle)
-        → own ≡ least_broken (first_row nodes surroundings handle).broken → after ≡ lesser before own
-        → after ≡ least_broken (gathered (broken_at nodes surroundings (facts_of nodes surroundings)) (suc handle))
+        (before own after : Option meaning.Broken) → before ≡ least_broken (gathered breaking handle)
+        → own ≡ least_broken (accessed_row nodes surroundings handle).broken → after ≡ lesser before own
+        → after ≡ least_broken (gathered breaking (suc handle))
     broken_more before own after found is lesser_is =
         lesser_is ∙ ap₂ lesser found (is ∙ ap least_broken (sym (first_broken nodes surroundings handle within)))
-        ∙ sym (least_both (gathered (broken_at nodes surroundings (facts_of nodes surroundings)) handle) (broken_at nodes surroundings (facts_of nodes surroundings) handle))
+        ∙ sym (least_both (gathered breaking handle) (breaking handle))
 
     passed_more :
-        (before own after : Option ℕ) → before ≡ least_token (gathered (passed_at nodes surroundings (facts_of nodes surroundings)) handle)
-        → own ≡ least_token (first_row nodes surroundings handle).passed → after ≡ lowest before own
-        → after ≡ least_token (gathered (passed_at nodes surroundings (facts_of nodes surroundings)) (suc handle))
+        (before own after : Option ℕ) → before ≡ least_token (gathered passing handle)
+        → own ≡ least_token (accessed_row nodes surroundings handle).passed → after ≡ lowest before own
+        → after ≡ least_token (gathered passing (suc handle))
     passed_more before own after found is lowest_is =
         lowest_is ∙ ap₂ lowest found (is ∙ ap least_token (sym (first_passed nodes surroundings handle within)))
-        ∙ sym (lowest_both (gathered (passed_at nodes surroundings (facts_of nodes surroundings)) handle) (passed_at nodes surroundings (facts_of nodes surroundings) handle))
+        ∙ sym (lowest_both (gathered passing handle) (passing handle))
 
     pub pass_more :
-        (before after : Pass) (between : Known) (row : NodeRow) (found : List Failure) → handle < length surroundings
-        → IsPassOver nodes surroundings handle before
-        → Tells before.known between before.found found row (first_row nodes surroundings handle)
-        → Appends between.types found after.found (access_failures (token_at nodes handle) (surrounding_at surroundings handle) (node_seen between.types row.fact))
-        → Joins between after.known row.fact (surrounding_at surroundings handle).around.scope
+        (before after : Pass) (between : Known) (row : NodeRow) → IsPassOver nodes surroundings handle before
+        → Tells (table_of before.known) (table_of between) before.found after.found row (accessed_row nodes surroundings handle)
+        → IsKnownOf nodes surroundings (handle + 1) after.known
+        → IsKeptOf nodes surroundings (first_whole_facts nodes surroundings (handle + 1)) (handle + 1) after.statements
+        → Extends (table_of between) (table_of after.known)
         → option_map broken_seen after.broken ≡ lesser (option_map broken_seen before.broken) (option_map broken_seen row.broken)
-        → after.passed ≡ lowest before.passed row.passed → IsPassOver nodes surroundings (suc handle) after
-    pass_more before after between row found stands was tells accessed joins lesser_is lowest_is =
-        let fact_is : node_seen between.types row.fact ≡ (first_row nodes surroundings handle).fact = ap (λ (r : KeptRow). r.fact) tells.row in
-        let appends = appended_later between.types after.known.types joins.types before.found after.found _
-        (appended_both between.types before.found found after.found _ _ tells.failures accessed) in
-        let later = joins_on before.known.types between.types after.known.types tells.keeps.types joins.types in
-        record {
-          known =
-              known_more between after.known row.fact stands (known_later before.known between tells.keeps nodes surroundings handle was.known)
-              fact_is tells.ids joins;
-          failures = failures_more before.known.types after.known.types before.found after.found _ later was.failures was.ids fact_is appends;
-          ids = appended_known after.known.types before.found after.found _ appends (failures_known before.known.types after.known.types later before.found was.ids);
+        → after.passed ≡ lowest before.passed row.passed → IsPassOver nodes surroundings (handle + 1) after
+    pass_more before after between row was tells known kept extends lesser_is lowest_is =
+        let old = table_of before.known in
+        let new = table_of after.known in
+        let later : Extends old new = Extends-twice old (table_of between) new tells.keeps.extends extends in
+        let appends = appended_later (table_of between) new extends before.found after.found _ tells.failures in
+        let next : handle + 1 ≡ suc handle = omega arith in
+        subst (λ (count : ℕ). IsPassOver nodes surroundings count after) (sym next)
+        (record {
+          known = subst (λ (count : ℕ). IsKnownOf nodes surroundings count after.known) next known;
+          kept = subst (λ (count : ℕ). IsKeptOf nodes surroundings (first_whole_facts nodes surroundings count) count after.statements) next kept;
+          failures = failures_more old new before.found after.found later was.failures was.ids appends;
+          ids = appended_known new before.found after.found _ appends (failures_known old new later before.found was.ids);
           broken =
               broken_more (option_map broken_seen before.broken) (option_map broken_seen row.broken) (option_map broken_seen after.broken) was.broken
               (ap (λ (r : KeptRow). r.broken) tells.row) lesser_is;
           passed = passed_more before.passed row.passed after.passed was.passed (ap (λ (r : KeptRow). r.passed) tells.row) lowest_is;
-          names = later.tells.names ∙ was.names;
-        }
+        })

@@ -1,122 +1,90 @@
--- The row of a declaration, of a name of a type, or of `return`: none of them has a constant.
-use Rattle.std.proofs.Common.{◌≡◌, ℕ, Bool, true, false, List, [], ◌∷◌, Option, Some, None, if◌then◌else◌, refl, sym, ap, ◌∙◌}
-use Rattle.vocabulary.specs.declared.error_kind.ErrorKind.TheVariants.{ReturnWithoutValue, ValueReturnedFromVoid}
+-- Rows one after the other: that of a node, that of its statement, and its access.
+use Rattle.std.proofs.Common.{◌≡◌, ◌≢◌, ℕ, ◌++◌, List, option_map, refl, sym, ap, ap₂, subst, ◌∙◌}
+use Rattle.vocabulary.specs.declared.node_kind.NodeKind.{NodeKind}
 use Rattle.vocabulary.specs.declared.node_kind.NodeKind.TheVariants as kinds
-use Rattle.meaning_types.specs.Spaces.{is_void}
-use Rattle.meaning_types.specs.Types.{TypeTree}
-use Rattle.meaning_operands.specs.Failures.{Broken}
-use Rattle.meaning_typing.specs.Building.{first_facts}
-use Rattle.meaning_typing.specs.Declarators.{declarator_fact, named_if, named_type, parameter_fact, parameter_type, specifiers_of, type_declared, type_designated}
-use Rattle.meaning_typing.specs.Facts.{Fact, Unknown, Expression, Specified, Declared, NamedType, DeclaredFact, fact_at, type_of_value, value}
-use Rattle.meaning_typing.specs.Names.{typedefs_again}
-use Rattle.meaning_typing.specs.Rows.{Row, breaks, breaks_at, converted, known, nothing, unless_broken}
-use Rattle.meaning_typing.specs.Specifiers.{Words, specified, specified_as, type_said, words_of}
-use Rattle.meaning_typing.specs.Statements.{result_around, return_row}
+use Rattle.sparse_model.specs.declared.failure.Failure.{Failure}
+use Rattle.meaning_judgements.specs.UnitRows.{row_by_statement, with_statement}
+use Rattle.meaning_rules.specs.Rules.{lesser}
+use Rattle.meaning_statements.specs.StatementRows.{statement_row_at}
+use Rattle.meaning_typing.specs.Facts.{Fact}
+use Rattle.meaning_typing.specs.Rows.{Row}
 use Rattle.meaning_typing.specs.Surroundings.{Surrounding, surrounding_at}
-use Rattle.meaning_typing.specs.Typing.{row_at, declaration_row, declarator_row, first_fact, row_with_constant, token_at}
-use Rattle.meaning_typing.specs.Units.{UnitNodes, child_at, children_at, kind_at, node_at}
-use Rattle.type_judge.specs.Rows.{first_row}
-use Rattle.expr_judge.proofs.RowLemmas.{HasNoConstant, no_constant, plain_row_by, row_by}
+use Rattle.meaning_typing.specs.Typing.{access_failures, token_at}
+use Rattle.meaning_typing.specs.Units.{UnitNodes, kind_at}
+use Rattle.meaning_typing.specs.WholeTyping.{first_whole_facts, whole_row_at}
+use Rattle.c_types.specs.Table.{TypeTable}
+use Rattle.node_facts.specs.Facts.{IsKnownNodeFact, node_seen}
+use Rattle.node_facts.proofs.GrowthLemmas.{joins_on, node_known, node_later}
+use Rattle.expression_rows.specs.Arguments.{Appends}
+use Rattle.expression_rows.specs.Rows.{broken_seen}
+use Rattle.expr_judge.specs.declared.row.NodeRow.{NodeRow}
+use Rattle.expr_judge.specs.Rows.{KeptRow, Tells}
+use Rattle.expr_judge.proofs.GrowthLemmas.{appended_both, appended_later}
+use Rattle.type_judge.specs.Rows.{accessed_row, row_with_statement, unit_row}
+use Rattle.type_judge.proofs.LeastLemmas.{least_both}
 
--- Rows of which no constant is known
+-- By kinds
 
-pub specified_none : (nodes : UnitNodes) (token : ℕ) (handles : List ℕ) (words : Words) (said : Option TypeTree) → HasNoConstant (specified_as nodes token handles words said)
-specified_none nodes token handles words None = refl
-specified_none nodes token handles words (Some type_) = refl
+besides : (kind : NodeKind) (row statement : Row) → kind ≢ kinds.ReturnStatement → with_statement row statement ≡ row_by_statement kind row statement
+besides kinds.ReturnStatement row statement other = absurd (other refl)
+besides kind row statement other = refl
 
-pub named_none : (type_ : Option TypeTree) → HasNoConstant (named_if type_)
-named_none None = refl
-named_none (Some type_) = refl
+module _ (nodes : UnitNodes) (surroundings : List Surrounding) (handle : ℕ) where
+  abbrev earlier : List Fact
+  earlier = first_whole_facts nodes surroundings handle
 
-declared_none : (broken : List Broken) (declaration : DeclaredFact) → HasNoConstant (unless_broken broken (Declared declaration))
-declared_none [] declaration = refl
-declared_none (first ∷ broken) declaration = refl
+  -- of `return` the row of the statement is that of the node
+  pub return_alone : (kind : NodeKind) → kind_at nodes handle ≡ kind → kind ≡ kinds.ReturnStatement
+      → statement_row_at nodes surroundings earlier handle ≡ unit_row nodes surroundings handle
+  return_alone kind same is =
+      ap (λ (k : NodeKind). row_by_statement k (whole_row_at nodes surroundings earlier handle) (statement_row_at nodes surroundings earlier handle))
+      (sym (same ∙ is))
 
-pub declaration_none : (nodes : UnitNodes) (surroundings : List Surrounding) (facts : List Fact) (handle : ℕ) (surrounding : Surrounding) (fact : Fact)
-    → HasNoConstant (declaration_row nodes surroundings facts handle surrounding fact).fact
-declaration_none nodes surroundings facts handle surrounding Unknown = refl
-declaration_none nodes surroundings facts handle surrounding (Expression expression) = refl
-declaration_none nodes surroundings facts handle surrounding (Specified specifiers) = refl
-declaration_none nodes surroundings facts handle surrounding (Declared declaration) =
-    declared_none (typedefs_again surroundings facts (token_at nodes handle) surrounding declaration) declaration
-declaration_none nodes surroundings facts handle surrounding (NamedType type_) = refl
+  -- of another node both are
+  pub both_rows : (kind : NodeKind) → kind_at nodes handle ≡ kind → kind ≢ kinds.ReturnStatement
+      → row_with_statement nodes surroundings handle ≡ unit_row nodes surroundings handle
+  both_rows kind same other =
+      besides kind (whole_row_at nodes surroundings earlier handle) (statement_row_at nodes surroundings earlier handle) other
+      ∙ ap (λ (k : NodeKind). row_by_statement k (whole_row_at nodes surroundings earlier handle) (statement_row_at nodes surroundings earlier handle))
+      (sym same)
 
--- a statement has none
-test_none : (test : Bool) (row other : Row) → HasNoConstant row.fact → HasNoConstant other.fact → HasNoConstant (if test then row else other).fact
-test_none true row other first second = first
-test_none false row other first second = second
+-- A row, and what a statement breaks and which rules fail there besides
+module _ (first second third : TypeTable) (before between after : List Failure) (row statement both : NodeRow) (meant also : Row)
+    (tells : Tells first second before between row meant) (adds : Tells second third between after statement also) where
+  pub tells_both :
+      both.fact ≡ row.fact
+      → option_map broken_seen both.broken ≡ lesser (option_map broken_seen row.broken) (option_map broken_seen statement.broken)
+      → both.passed ≡ row.passed → Tells first third before after both (with_statement meant also)
+  tells_both same least passed =
+      let fact : node_seen third both.fact ≡ meant.fact =
+      ap (node_seen third) same ∙ node_later second third adds.keeps row.fact tells.ids ∙ ap (λ (r : KeptRow). r.fact) tells.row in
+      let broken = least ∙ ap₂ lesser (ap (λ (r : KeptRow). r.broken) tells.row) (ap (λ (r : KeptRow). r.broken) adds.row)
+      ∙ sym (least_both meant.broken also.broken) in
+      let limit = passed ∙ ap (λ (r : KeptRow). r.passed) tells.row in
+      record {
+        row = λ i. record { fact = fact i; broken = broken i; passed = limit i };
+        ids = subst (IsKnownNodeFact third) (sym same) (node_known second third adds.keeps row.fact tells.ids);
+        failures =
+            appended_both third before between after meant.failures also.failures
+            (appended_later second third adds.keeps before between meant.failures tells.failures) adds.failures;
+        keeps = joins_on first second third tells.keeps adds.keeps;
+      }
 
-pub return_none : (token value : ℕ) (fact : Option Fact) (result : Option TypeTree) → HasNoConstant (return_row token value fact result).fact
-return_none token value fact None = refl
-return_none token value None (Some result) = test_none (is_void result) nothing (breaks (breaks_at ReturnWithoutValue token)) refl refl
-return_none token value (Some (Expression expression)) (Some result) =
-    test_none (is_void result)
-    (if is_void (type_of_value expression) then nothing else breaks (breaks_at ValueReturnedFromVoid token))
-    (record nothing { broken = (converted token 0 value expression result).broken; failures = (converted token 0 value expression result).failures })
-    (test_none (is_void (type_of_value expression)) nothing (breaks (breaks_at ValueReturnedFromVoid token)) refl refl) refl
-return_none token value (Some fact) (Some result) = refl
-
--- Rows over the facts before a node, by its kind
-
-module _ (nodes : UnitNodes) (surroundings : List Surrounding) (handle : ℕ) (facts : List Fact) (same : facts ≡ first_facts nodes surroundings handle) where
-  abbrev token : ℕ
-  token = token_at nodes handle
-
-  first : row_at nodes surroundings facts handle ≡ first_row nodes surroundings handle
-  first = ap (λ earlier. row_at nodes surroundings earlier handle) same
-
-  abbrev part : ℕ → ℕ
-  part place = child_at nodes handle place
-
-  abbrev part_fact : ℕ → Fact
-  part_fact place = fact_at facts (child_at nodes handle place)
-
-  abbrev named : Fact
-  named = fact_at facts (node_at nodes handle).number
-
-  pub specifiers_told : kind_at nodes handle ≡ kinds.Specifiers → known (specified nodes facts token (children_at nodes handle)) ≡ first_row nodes surroundings handle
-  specifiers_told is =
-      let children = children_at nodes handle in
-      plain_row_by nodes surroundings handle facts kinds.Specifiers is refl
-      (specified_none nodes token children (words_of nodes children) (type_said nodes facts (words_of nodes children) children))
-      ∙ first
-
-  pub typedef_told : kind_at nodes handle ≡ kinds.TypedefName → known (named_if (type_declared named)) ≡ first_row nodes surroundings handle
-  typedef_told is = plain_row_by nodes surroundings handle facts kinds.TypedefName is refl (named_none (type_declared named))
-      ∙ first
-
-  pub declarator_told : kind_at nodes handle ≡ kinds.Declarator
-      → declarator_row nodes surroundings facts handle (surrounding_at surroundings handle) ≡ first_row nodes surroundings handle
-  declarator_told is =
-      let surrounding = surrounding_at surroundings handle in
-      plain_row_by nodes surroundings handle facts kinds.Declarator is refl
-      (declaration_none nodes surroundings facts handle surrounding
-      (declarator_fact nodes surrounding facts handle (specifiers_of nodes facts surrounding.parent)))
-      ∙ first
-
-  pub parameter_told : kind_at nodes handle ≡ kinds.Parameter → known (parameter_fact nodes facts handle) ≡ first_row nodes surroundings handle
-  parameter_told is = plain_row_by nodes surroundings handle facts kinds.Parameter is refl (named_none (parameter_type nodes facts handle))
-      ∙ first
-
-  pub return_told : kind_at nodes handle ≡ kinds.ReturnStatement
-      → return_row token (token_at nodes (part 0)) (first_fact facts (children_at nodes handle)) (result_around nodes facts (surrounding_at surroundings handle).around.function)
-      ≡ first_row nodes surroundings handle
-  return_told is =
-      let function = (surrounding_at surroundings handle).around.function in
-      plain_row_by nodes surroundings handle facts kinds.ReturnStatement is refl
-      (return_none token (token_at nodes (part 0)) (first_fact facts (children_at nodes handle)) (result_around nodes facts function))
-      ∙ first
-
-  pub type_name_told : kind_at nodes handle ≡ kinds.TypeName → known (named_if (named_type nodes facts handle)) ≡ first_row nodes surroundings handle
-  type_name_told is = plain_row_by nodes surroundings handle facts kinds.TypeName is refl (named_none (named_type nodes facts handle))
-      ∙ first
-
-  pub typeof_name_told : kind_at nodes handle ≡ kinds.TypeofType → row_with_constant None (known (part_fact 0)) ≡ first_row nodes surroundings handle
-  typeof_name_told is =
-      ap (λ constant. row_with_constant constant (known (part_fact 0))) (sym (no_constant nodes surroundings handle facts kinds.TypeofType is refl))
-      ∙ row_by nodes surroundings handle facts kinds.TypeofType is
-      ∙ first
-
-  pub typeof_told : kind_at nodes handle ≡ kinds.TypeofExpression → known (named_if (type_designated (part_fact 0))) ≡ first_row nodes surroundings handle
-  typeof_told is = plain_row_by nodes surroundings handle facts kinds.TypeofExpression is refl (named_none (type_designated (part_fact 0)))
-      ∙ first
+-- and the failure of its access
+module _ (nodes : UnitNodes) (surroundings : List Surrounding) (handle : ℕ) (old new : TypeTable) (before between after : List Failure) (row : NodeRow)
+    (tells : Tells old new before between row (unit_row nodes surroundings handle)) where
+  pub tells_accessed :
+      Appends new between after (access_failures (token_at nodes handle) (surrounding_at surroundings handle) (node_seen new row.fact))
+      → Tells old new before after row (accessed_row nodes surroundings handle)
+  tells_accessed accessed =
+      let own = (unit_row nodes surroundings handle).failures in
+      let fact : node_seen new row.fact ≡ (unit_row nodes surroundings handle).fact = ap (λ (r : KeptRow). r.fact) tells.row in
+      record {
+        row = tells.row;
+        ids = tells.ids;
+        failures =
+            subst
+            (λ (f : Fact). Appends new before after (own ++ access_failures (token_at nodes handle) (surrounding_at surroundings handle) f)) fact
+            (appended_both new before between after own _ tells.failures accessed);
+        keeps = tells.keeps;
+      }

@@ -1,7 +1,4 @@
 pub mod Least
-pub mod Linked
-pub mod Known
+pub mod Order
 pub mod Rows
-pub mod Large
-pub mod Identities
 pub mod Judging

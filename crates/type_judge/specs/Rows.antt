@@ -1,37 +1,28 @@
--- How the rows of nodes are seen over all that is known.
-use Rattle.std.specs.Prelude.{◌≡◌, ℕ, List, []}
-use Rattle.sparse_model.specs.declared.failure.Failure.{Failure}
-use Rattle.meaning_typing.specs.Building.{first_facts}
-use Rattle.meaning_typing.specs.Facts.{Fact, Declared, DeclaredFact}
-use Rattle.meaning_typing.specs.Names.{redeclarations, typedefs_again}
-use Rattle.meaning_typing.specs.Rows.{Row, unless_broken}
-use Rattle.meaning_typing.specs.Surroundings.{Surrounding}
-use Rattle.meaning_typing.specs.Typing.{row_at}
+-- The rows of the nodes of a unit over what is known of those before them.
+use Rattle.std.specs.Prelude.{ℕ, List, ◌++◌}
+use Rattle.meaning_judgements.specs.UnitRows.{unit_row_at, with_statement}
+use Rattle.meaning_statements.specs.StatementRows.{statement_row_at}
+use Rattle.meaning_typing.specs.Rows.{Row}
+use Rattle.meaning_typing.specs.Surroundings.{Surrounding, surrounding_at}
+use Rattle.meaning_typing.specs.Typing.{access_failures, token_at}
 use Rattle.meaning_typing.specs.Units.{UnitNodes}
-use Rattle.node_facts.specs.Facts.{IsKnownNodeFact}
-use Rattle.expression_rows.specs.Arguments.{Appends}
-use Rattle.expr_judge.specs.declared.row.NodeRow.{NodeRow}
-use Rattle.expr_judge.specs.Rows.{row_kept, row_seen}
-use Rattle.type_judge.specs.declared.known.Known.{Known}
-use Rattle.type_judge.specs.Known.{OnlyTypesJoin}
+use Rattle.meaning_typing.specs.WholeTyping.{first_whole_facts, whole_row_at}
 
--- This is what a row says: it is kept so, and its failures are appended. Types may join those that are known.
-pub record Tells (old new : Known) (before after : List Failure) (said : NodeRow) (meant : Row) : Type 0 where
-  pub row : row_seen new.types said ≡ row_kept meant
-  pub ids : IsKnownNodeFact new.types said.fact
-  pub failures : Appends new.types before after meant.failures
-  pub keeps : OnlyTypesJoin old new
+-- the row of a node with what its statement breaks and which rules fail there
+abbrev pub row_with_statement : UnitNodes → List Surrounding → (handle : ℕ) → Row
+row_with_statement nodes surroundings handle =
+    with_statement (whole_row_at nodes surroundings (first_whole_facts nodes surroundings handle) handle)
+    (statement_row_at nodes surroundings (first_whole_facts nodes surroundings handle) handle)
 
--- the row of a node over what is known of those before it
-abbrev pub first_row : UnitNodes → List Surrounding → (handle : ℕ) → Row
-first_row nodes surroundings handle = row_at nodes surroundings (first_facts nodes surroundings handle) handle
+-- the row of a node
+abbrev pub unit_row : UnitNodes → List Surrounding → (handle : ℕ) → Row
+unit_row nodes surroundings handle = unit_row_at nodes surroundings (first_whole_facts nodes surroundings handle) handle
 
--- the row of a declaration, but for its arrays
-abbrev pub redeclaration_row : List Surrounding → List Fact → (token : ℕ) → Surrounding → DeclaredFact → Row
-redeclaration_row surroundings facts token surrounding declaration =
-    record {
-      fact = unless_broken (typedefs_again surroundings facts token surrounding declaration) (Declared declaration);
-      broken = typedefs_again surroundings facts token surrounding declaration;
-      failures = redeclarations facts token declaration;
-      passed = [];
+-- and with the failure of its access
+abbrev pub accessed_row : UnitNodes → List Surrounding → (handle : ℕ) → Row
+accessed_row nodes surroundings handle =
+    record (unit_row nodes surroundings handle) {
+      failures =
+          (unit_row nodes surroundings handle).failures
+          ++ access_failures (token_at nodes handle) (surrounding_at surroundings handle) (unit_row nodes surroundings handle).fact;
     }

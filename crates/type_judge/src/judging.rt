@@ -4,19 +4,17 @@ ghost use Rattle.meaning_rules.specs.Rules.{first_refusal};
 ghost use Rattle.meaning_tree.specs.Laid.{IsLaid};
 ghost use Rattle.decl_judge.specs.Units.{nodes_of};
 ghost use Rattle.expression_rows.specs.Rows.{broken_seen};
-ghost use Rattle.type_judge.specs.Judging.{HasTypeIds, IsJudgedSo, IsRefusal, IsRefusedFor};
+ghost use Rattle.type_judge.specs.Judging.{HasTypeIds, IsJudgedSo, IsRefusal, IsRefusedFor, judged_from};
 
 use crate::fault::JudgeFault;
-use crate::identities::name_identities;
 use crate::pass::{Pass, judge_nodes};
 use c_tree::Unit;
 use c_types::Types;
 use expression_rows::Broken;
-use failure_listing::in_order;
 use node_facts::NodeFacts;
 use node_surroundings::surroundings_of;
 use sparse_model::{FailureList, LimitKind};
-use std::alloc::Global;
+use std::alloc::{AllocError, Global};
 
 /// What is known of a unit of which nothing is refused.
 #[derive(Drop)]
@@ -45,14 +43,17 @@ fn first_refusal(broken: Option<Broken>, passed: Option<u32>) -> Option<JudgeFau
     }
 }
 
-/// Judges a unit: the type of each node, what else is known of it, the listing of all failures of rules, and the names of
-/// restricted types.
+/// Judges a unit: the type of each node, what else is known of it, the listing of all failures of rules, and the names of restricted
+/// types, structures and unions.
 ///
-/// A node costs a few steps, and one more for each of its parts. The failures are sorted.
+/// A node costs a few steps, and one more for each of its parts; a specifier of a structure or a union costs one for each of its members,
+/// and a function one for each of its `goto`s. The failures are sorted.
 ///
 /// # Errors
 /// `Constraint` where the unit breaks one: the least, by its token and then by its number. `Limit` where an object is larger
-/// than it may be, and no constraint is broken at a token up to there. Want of memory.
+/// than it may be, and no constraint is broken at a token up to there. Want of memory; it stands too for what no unit has that was read:
+/// a number of more than 32 bits, a specifier with two bodies, a member outside of a list, a width that is no part, and a switch whose
+/// value isn't written before its body.
 pub fn judge(alloc: Global, unit: &Unit) -> Result<Judged, JudgeFault>
     requires whole { unit.now.first ≡ 0 }
     requires laid { IsLaid unit.now }
@@ -61,23 +62,30 @@ pub fn judge(alloc: Global, unit: &Unit) -> Result<Judged, JudgeFault>
     ensures refused { IfErr result (IsRefusedFor (nodes_of unit.now)) }
 {
     let surroundings = surroundings_of(alloc, unit)?;
-    let Pass {
-        known,
-        found,
-        broken,
-        passed,
-    } = judge_nodes(alloc, unit, &surroundings)?;
-    match first_refusal(broken, passed) {
-        Some(fault) => Err(fault),
-        None => {
-            let mut types = known.types;
-            name_identities(unit, &surroundings, &mut types)?;
-            let failures = in_order(alloc, &found)?;
-            Ok(Judged {
-                types,
-                facts: known.facts,
-                failures,
-            })
+    let mut pass = judge_nodes(alloc, unit, &surroundings)?;
+    match first_refusal(pass.broken, pass.passed) {
+        Some(fault) => {
+            drop(pass);
+            Err(fault)
         }
+        None => match pass.list(alloc, unit, &surroundings) {
+            Ok(failures) => Ok(judged_of(pass, failures)),
+            Err(AllocError) => {
+                drop(pass);
+                Err(JudgeFault::Memory)
+            }
+        },
+    }
+}
+
+// What a pass knows in the end, with what fails.
+fn judged_of(pass: Pass, failures: FailureList) -> Judged
+    ensures { result ≡ judged_from pass failures }
+{
+    let declarations = pass.known.declarations;
+    Judged {
+        types: declarations.types,
+        facts: declarations.facts,
+        failures,
     }
 }

@@ -1,83 +1,148 @@
-// The row of each node by its kind.
-ghost use Rattle.std.specs.Prelude.{◌≡◌, ◌<◌, false, IfOk, length};
+// The row of a node of a unit: what `node_judge` says of it, what `statement_judge` says besides, and its access.
+ghost use Rattle.std.specs.Prelude.{◌≡◌, ◌<◌, IfOk, OnOk, length, option_map};
+ghost use Rattle.meaning_rules.specs.Rules.{lesser};
+ghost use Rattle.meaning_statements.specs.StatementRows.{statement_row_at};
+ghost use Rattle.meaning_tree.specs.Laid.{IsLaid};
 ghost use Rattle.meaning_tree.specs.Nodes.{end_of};
-ghost use Rattle.meaning_typing.specs.Units.{kind_at};
+ghost use Rattle.meaning_typing.specs.WholeTyping.{first_whole_facts};
 ghost use Rattle.decl_judge.specs.Units.{nodes_of};
-ghost use Rattle.expr_judge.specs.Rows.{is_of_declaration};
-ghost use Rattle.node_surroundings.specs.Seen.{surroundings_seen};
-ghost use Rattle.type_judge.specs.Known.{IsKnownOf};
-ghost use Rattle.type_judge.specs.Rows.{Tells, first_row};
+ghost use Rattle.expr_judge.specs.Rows.{Tells};
+ghost use Rattle.expression_rows.specs.Rows.{broken_seen};
+ghost use Rattle.node_judge.specs.Known.{IsKnownOf, table_of};
+ghost use Rattle.node_surroundings.specs.Seen.{AreSurroundingsOf, surroundings_seen};
+ghost use Rattle.statement_judge.specs.Statements.{IsKeptOf};
+ghost use Rattle.type_judge.specs.Rows.{accessed_row, row_with_statement, unit_row};
 
-use crate::declarations::{declarator, parameter, specifiers, typedef_name};
-use crate::known::Known;
-use crate::names::{type_name, typeof_expression, typeof_name};
-use crate::statements::return_statement;
+use crate::access::access_node;
 use c_tree::{Handle, Unit};
-use expr_judge::{NodeRow, row_of_expression, row_of_name};
+use declaration_judge::Declarations;
+use expr_judge::NodeRow;
+use expression_rows::lesser;
+use node_judge::{Known, judge_node};
 use node_surroundings::Surroundings;
 use sparse_model::{FailureList, NodeKind};
+use statement_judge::{Statements, row_of_statement};
 use std::alloc::{AllocError, Global};
 
-// The row of an expression or of `return`; all other nodes say nothing.
-fn judge_expression(
-    alloc: Global,
+// The row of a statement.
+fn statement_row(
     unit: &Unit,
     surroundings: &Surroundings,
     known: &mut Known,
+    statements: &Statements,
     found: &mut FailureList,
     handle: Handle,
-    kind: NodeKind,
 ) -> Result<NodeRow, AllocError>
     requires whole { unit.now.first ≡ 0 }
+    requires laid { IsLaid unit.now }
     requires node { handle < end_of unit.now }
-    requires kind { kind_at (nodes_of unit.now) handle ≡ kind }
-    requires declares { is_of_declaration kind ≡ false }
-    requires surroundings { length surroundings.now ≡ length unit.now.nodes }
+    requires surroundings { AreSurroundingsOf unit.now surroundings.now }
+    requires all { length surroundings.now ≡ length unit.now.nodes }
     requires known { IsKnownOf (nodes_of unit.now) (surroundings_seen surroundings.now) handle known.old }
-    ensures { IfOk result (λ row. Tells known.old known.new found.old found.new row (first_row (nodes_of unit.now) (surroundings_seen surroundings.now) handle)) }
+    requires kept { IsKeptOf (nodes_of unit.now) (surroundings_seen surroundings.now) (first_whole_facts (nodes_of unit.now) (surroundings_seen surroundings.now) handle) handle statements.now }
+    ensures says { IfOk result (λ row. Tells (table_of known.old) (table_of known.new) found.old found.new row (statement_row_at (nodes_of unit.now) (surroundings_seen surroundings.now) (first_whole_facts (nodes_of unit.now) (surroundings_seen surroundings.now) handle) handle)) }
+    ensures keeps { OnOk result (IsKnownOf (nodes_of unit.now) (surroundings_seen surroundings.now) handle known.new) }
 {
-    match kind {
-        // Declarations of a name with linkage are kept by name, so no walk goes over them.
-        NodeKind::Name => row_of_name(known.named_by(unit.node(handle).number), found),
-        NodeKind::ReturnStatement => {
-            let stands = surroundings.get(handle);
-            return_statement(unit, known, found, handle, stands.around.function)
-        }
-        _ => {
-            let types = &mut known.types;
-            row_of_expression(alloc, unit, types, &known.facts, handle, kind, found)
-        }
+    let Known { declarations, .. } = known;
+    let Declarations { types, facts, .. } = declarations;
+    row_of_statement(unit, surroundings, types, facts, statements, handle, found)
+}
+
+// What a row says, and what its statement breaks besides.
+fn with_statement(row: NodeRow, statement: NodeRow) -> NodeRow
+    ensures fact { result.fact ≡ row.fact }
+    ensures broken { option_map broken_seen result.broken ≡ lesser (option_map broken_seen row.broken) (option_map broken_seen statement.broken) }
+    ensures passed { result.passed ≡ row.passed }
+{
+    NodeRow {
+        fact: row.fact,
+        broken: lesser(row.broken, statement.broken),
+        passed: row.passed,
     }
 }
 
-/// The row of a node over what is known of those before it. The rules that fail are appended. It takes a few steps, and one
-/// for each part.
-pub fn judge_node(
+// The row of a node that isn't `return`.
+fn row_besides(
     alloc: Global,
     unit: &Unit,
     surroundings: &Surroundings,
     known: &mut Known,
+    statements: &Statements,
     found: &mut FailureList,
     handle: Handle,
 ) -> Result<NodeRow, AllocError>
     requires whole { unit.now.first ≡ 0 }
+    requires laid { IsLaid unit.now }
     requires node { handle < end_of unit.now }
-    requires surroundings { length surroundings.now ≡ length unit.now.nodes }
+    requires surroundings { AreSurroundingsOf unit.now surroundings.now }
+    requires all { length surroundings.now ≡ length unit.now.nodes }
     requires known { IsKnownOf (nodes_of unit.now) (surroundings_seen surroundings.now) handle known.old }
-    ensures { IfOk result (λ row. Tells known.old known.new found.old found.new row (first_row (nodes_of unit.now) (surroundings_seen surroundings.now) handle)) }
+    requires kept { IsKeptOf (nodes_of unit.now) (surroundings_seen surroundings.now) (first_whole_facts (nodes_of unit.now) (surroundings_seen surroundings.now) handle) handle statements.now }
+    ensures says { IfOk result (λ row. Tells (table_of known.old) (table_of known.new) found.old found.new row (row_with_statement (nodes_of unit.now) (surroundings_seen surroundings.now) handle)) }
+    ensures keeps { OnOk result (IsKnownOf (nodes_of unit.now) (surroundings_seen surroundings.now) handle known.new) }
 {
-    let kind = unit.kind(handle);
-    match kind {
-        NodeKind::Specifiers => specifiers(unit, known, handle),
-        NodeKind::TypedefName => Ok(typedef_name(unit, known, handle)),
-        NodeKind::Declarator => {
-            let stands = surroundings.get(handle);
-            declarator(alloc, unit, known, found, handle, stands)
+    let row = judge_node(alloc, unit, surroundings, known, found, handle)?;
+    let statement = statement_row(unit, surroundings, known, statements, found, handle)?;
+    Ok(with_statement(row, statement))
+}
+
+// The row of a node: of `return` that of its statement alone.
+fn row_of_node(
+    alloc: Global,
+    unit: &Unit,
+    surroundings: &Surroundings,
+    known: &mut Known,
+    statements: &Statements,
+    found: &mut FailureList,
+    handle: Handle,
+) -> Result<NodeRow, AllocError>
+    requires whole { unit.now.first ≡ 0 }
+    requires laid { IsLaid unit.now }
+    requires node { handle < end_of unit.now }
+    requires surroundings { AreSurroundingsOf unit.now surroundings.now }
+    requires all { length surroundings.now ≡ length unit.now.nodes }
+    requires known { IsKnownOf (nodes_of unit.now) (surroundings_seen surroundings.now) handle known.old }
+    requires kept { IsKeptOf (nodes_of unit.now) (surroundings_seen surroundings.now) (first_whole_facts (nodes_of unit.now) (surroundings_seen surroundings.now) handle) handle statements.now }
+    ensures says { IfOk result (λ row. Tells (table_of known.old) (table_of known.new) found.old found.new row (unit_row (nodes_of unit.now) (surroundings_seen surroundings.now) handle)) }
+    ensures keeps { OnOk result (IsKnownOf (nodes_of unit.now) (surroundings_seen surroundings.now) handle known.new) }
+{
+    match unit.kind(handle) {
+        NodeKind::ReturnStatement => {
+            statement_row(unit, surroundings, known, statements, found, handle)
         }
-        NodeKind::Parameter => parameter(unit, known, handle),
-        NodeKind::TypeName => Ok(type_name(unit, known, handle)),
-        NodeKind::TypeofType => Ok(typeof_name(unit, known, handle)),
-        NodeKind::TypeofExpression => Ok(typeof_expression(unit, known, handle)),
-        _ => judge_expression(alloc, unit, surroundings, known, found, handle, kind),
+        _ => row_besides(alloc, unit, surroundings, known, statements, found, handle),
     }
+}
+
+/// The row of a node of a unit, over what is known and kept of those before it: what is known of it, the least constraint that it and its
+/// statement break, and the token at which it passes the limit of the size of an object. The rules that fail are appended, that of its
+/// access the last. Types may join those that are known; the node itself isn't known yet. It takes a few steps, and one for each part;
+/// of a function one for each of its `goto`s.
+///
+/// # Errors
+/// Want of memory, where `judge_node` has it.
+pub fn judge_row(
+    alloc: Global,
+    unit: &Unit,
+    surroundings: &Surroundings,
+    known: &mut Known,
+    statements: &Statements,
+    found: &mut FailureList,
+    handle: Handle,
+) -> Result<NodeRow, AllocError>
+    requires whole { unit.now.first ≡ 0 }
+    requires laid { IsLaid unit.now }
+    requires node { handle < end_of unit.now }
+    requires surroundings { AreSurroundingsOf unit.now surroundings.now }
+    requires all { length surroundings.now ≡ length unit.now.nodes }
+    requires known { IsKnownOf (nodes_of unit.now) (surroundings_seen surroundings.now) handle known.old }
+    requires kept { IsKeptOf (nodes_of unit.now) (surroundings_seen surroundings.now) (first_whole_facts (nodes_of unit.now) (surroundings_seen surroundings.now) handle) handle statements.now }
+    ensures says { IfOk result (λ row. Tells (table_of known.old) (table_of known.new) found.old found.new row (accessed_row (nodes_of unit.now) (surroundings_seen surroundings.now) handle)) }
+    ensures keeps { OnOk result (IsKnownOf (nodes_of unit.now) (surroundings_seen surroundings.now) handle known.new) }
+{
+    let row = row_of_node(alloc, unit, surroundings, known, statements, found, handle)?;
+    let surrounding = surroundings.get(handle);
+    let types = &known.declarations.types;
+    access_node(types, unit.token(handle), surrounding, row.fact, found)?;
+    Ok(row)
 }

@@ -1,6 +1,12 @@
 -- The lines of the nodes before the next one are written.
-use Rattle.judged.proofs.TypesLemmas.{AreWritten}
+use Rattle.std.proofs.Common.{List}
+use Rattle.meaning_typing.specs.Surroundings.{Surrounding}
+use Rattle.decl_judge.specs.Units.{nodes_of}
+use Rattle.judged.specs.Answers.{AreAnswers}
+use Rattle.judged.specs.Types.{AreLines, shown_of}
 use Rattle.judged.proofs.types.node_lines.Given as goal
 
 abbrev pub invariant-loop-handle : goal.invariant-loop-handle
-invariant-loop-handle l = AreWritten l.source l.fn.types l.facts l.handle l.types l.before l.text.items
+invariant-loop-handle l =
+    (surroundings : List Surrounding) → AreAnswers (nodes_of l.unit) surroundings l.show.types.now l.answers
+    → AreLines (nodes_of l.unit) surroundings (shown_of l.show) l.handle l.text.items

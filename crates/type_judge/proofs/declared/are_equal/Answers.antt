@@ -1,6 +1,0 @@
-use Rattle.c_types.specs.Table.{type_at}
-use Rattle.type_judge.proofs.DeclaredLemmas.{equal_by}
-use Rattle.type_judge.proofs.declared.are_equal.Goals as goal
-
-pub returns : goal.returns
-returns c = equal_by c.equal.result (type_at c.args.types.now c.args.one) (type_at c.args.types.now c.args.other) c.equal.ensures

@@ -1,7 +1,7 @@
 -- The constant of a node, as it is folded over what is kept.
 use Rattle.std.proofs.Common.{◌≡◌, ◌≢◌, inl, inr, ℕ, zero, suc, ◌-◌, ◌<◌, ℤ, pos, Bool, false, List, [], ◌∷◌, All, Option, Some, None, length, map, get_or, option_map, refl, sym, ap, ◌∙◌, subst, arith}
 use Rattle.std.proofs.lemmas.List.Elements.{All-cons, All-head, All-nil, All-tail}
-use Rattle.std.proofs.lemmas.Option.{none-some, slice_get_cases}
+use Rattle.std.proofs.lemmas.Option.{slice_get_cases}
 use Rattle.vocabulary.specs.declared.int_kind.IntKind.{IntKind}
 use Rattle.vocabulary.specs.declared.node_kind.NodeKind.{NodeKind}
 use Rattle.vocabulary.specs.declared.node_kind.NodeKind.TheVariants as kinds
@@ -10,41 +10,34 @@ use Rattle.meaning_tree.specs.Nodes.{TreeNode, NodeList, HasNode, end_of}
 use Rattle.meaning_types.specs.Conversions.{promoted}
 use Rattle.meaning_types.specs.Types.{TypeTree, Typed, IntegerTree, RestrictedTree}
 use Rattle.meaning_constants.specs.Bits.{bits_of_number, number_of_bits}
-use Rattle.meaning_constants.specs.Constants.{Constant, Part, kind_of, literal_constant, own_constant, settled}
-use Rattle.meaning_constants.specs.Nodes.{LiteralFold, OwnFold, fold_of, folded, loaded_type, node_constant, of_one}
-use Rattle.meaning_constants.specs.Numbers.{IsInRange, wrapped}
+use Rattle.meaning_constants.specs.Constants.{Constant, Part, kind_of, own_constant}
+use Rattle.meaning_constants.specs.Nodes.{OwnFold, fold_of, folded, loaded_type, node_constant, of_one}
 use Rattle.meaning_constants.specs.Sizes.{sizes_by}
 use Rattle.meaning_constants.proofs.Bits.{bits_tell_numbers}
-use Rattle.meaning_constants.proofs.Nodes.{node_constants_fit}
 use Rattle.meaning_constants.proofs.Numbers.{wrapped_is_in_range}
 use Rattle.meaning_typing.specs.Declarators.{nothing_told}
-use Rattle.meaning_typing.specs.Expressions.{literal_row}
 use Rattle.meaning_typing.specs.Facts as meaning
 use Rattle.meaning_typing.specs.Facts.{fact_at}
 use Rattle.meaning_typing.specs.Rows as rows
-use Rattle.meaning_typing.specs.Specifiers.{plain_type}
 use Rattle.meaning_typing.specs.Typing.{constant_at, facts_for_constant, known_sizes, part_seen, row_with_constant, with_constant}
-use Rattle.meaning_typing.specs.Units.{UnitNodes, child_at, children_at, kind_at, node_at}
+use Rattle.meaning_typing.specs.Units.{UnitNodes, child_at, children_at, kind_at}
 use Rattle.c_types.specs.declared.nodes.NodeType.{NodeType}
 use Rattle.c_types.specs.Layouts.{told_in}
 use Rattle.c_types.specs.Table.{TypeTable, type_at}
 use Rattle.const_fold.specs.Known.{IsKnownNode, enumerator_at, folded_answer, if_name, node_facts, number_with, part_at, part_of}
 use Rattle.const_fold.specs.Offsets.{offset_of_node}
 use Rattle.const_fold.specs.Sized.{sized_constant, sized_constant_at}
-use Rattle.node_facts.specs.declared.expression.ExpressionFact.{ExpressionFact}
 use Rattle.node_facts.specs.declared.fact.NodeFact.{NodeFact}
 use Rattle.node_facts.specs.declared.fact.NodeFact.TheVariants as facts
 use Rattle.node_facts.specs.Facts.{IsKnownNodeFact, fact_seen, node_seen, nodes_seen, number_in}
 use Rattle.node_facts.specs.Kept.{node_kept}
-use Rattle.expression_rows.specs.Facts.{IsKnownPart, part_seen as expression_seen}
 use Rattle.expr_judge.specs.Constants.{bits_folded, bits_of, whole_constant, with_bits}
 use Rattle.expr_judge.specs.Parts.{kept_at}
-use Rattle.expr_judge.specs.Rows.{SaysOnly, fact_of_part, known_row}
+use Rattle.expr_judge.specs.Rows.{SaysOnly, known_row}
 use Rattle.decl_judge.specs.Units.{nodes_of}
 use Rattle.expr_judge.proofs.NodeLemmas.{node-is}
 use Rattle.expr_judge.proofs.OffsetLemmas.{offset_kept, offset_said}
 use Rattle.expr_judge.proofs.PartLemmas.{kept-is, known_at}
-use Rattle.expr_judge.proofs.TellingLemmas.{fact_known}
 
 -- what is kept of known nodes is known
 known-kept : (table : TypeTable) (fact : NodeFact) → IsKnownNodeFact table fact → IsKnownNode table (node_kept fact)
@@ -168,16 +161,6 @@ own-kept (Typed (IntegerTree kind) _ _) fouled None = refl
 own-kept (Typed (RestrictedTree kind identity) _ _) fouled None = refl
 own-kept of fouled bits = refl
 
--- and those of a literal do
-literal-kept : (kind : IntKind) (number : ℕ)
-    → number_in (plain_type (IntegerTree kind)) (bits_of (literal_constant kind number)) ≡ number_of (literal_constant kind number)
-literal-kept kind number = ap Some (bits_tell_numbers kind (wrapped kind (pos number)) fits)
-  where
-    fits : IsInRange (promoted kind) (wrapped kind (pos number))
-    fits =
-        node_constants_fit known_sizes (record { kind = kinds.IntegerConstant kind; number = number; parts = []; enumerator = None; offset = None })
-        tt (λ constant is. absurd (none-some constant is)) (settled false kind (pos number)) refl
-
 module _ (table : TypeTable) where
   -- nothing is kept where there is no constant
   none-kept : (fact : NodeFact) → node_seen table (with_bits None fact) ≡ with_constant None (node_seen table fact)
@@ -221,18 +204,6 @@ module _ (table : TypeTable) where
   says-with constant fact meant known is =
       record { row = λ i. record { fact = is i; broken = None; passed = None }; ids = bits-known (bits_of constant) fact known; silent = refl }
 
-  -- an expression of this type, with the constant of a literal
-  literal-with : (kind : IntKind) (number : ℕ) (part : Option ExpressionFact)
-      → expression_seen table part ≡ meaning.Expression (meaning.value (plain_type (IntegerTree kind)))
-      → node_seen table (with_bits (bits_of (literal_constant kind number)) (fact_of_part part))
-      ≡ with_constant (number_of (literal_constant kind number)) (meaning.Expression (meaning.value (plain_type (IntegerTree kind))))
-  literal-with kind number None is = absurd (cc is)
-  literal-with kind number (Some expression) is =
-      let same : fact_seen table expression ≡ meaning.value (plain_type (IntegerTree kind)) = cc is in
-      let bits = bits_of (literal_constant kind number) in
-      ap (λ (seen : meaning.ExpressionFact). meaning.Expression (record seen { constant = number_in (loaded_type seen.width seen.type_) bits })) same
-      ∙ ap (λ constant. meaning.Expression (record (meaning.value (plain_type (IntegerTree kind))) { constant = constant })) (literal-kept kind number)
-
   module _ (nodes : UnitNodes) (handle : ℕ) where
     -- what stands in parentheses
     pub own_says : (kept : List NodeFact) → fold_of (kind_at nodes handle) ≡ OwnFold → All (IsKnownNodeFact table) kept
@@ -247,18 +218,3 @@ module _ (table : TypeTable) where
         (ap (λ constant. node_seen table (with_bits (bits_of constant) (kept_at kept child))) is
         ∙ first-kept kept (children_at nodes handle) (length nodes)
         ∙ ap (λ constant. with_constant (number_of constant) (fact_at facts child)) (sym is))
-
-    -- a literal of this kind
-    pub literal_says : (facts : List meaning.Fact) (kind : IntKind) (part : Option ExpressionFact) → fold_of (kind_at nodes handle) ≡ LiteralFold kind
-        → expression_seen table part ≡ meaning.Expression (meaning.value (plain_type (IntegerTree kind))) → IsKnownPart table part
-        → SaysOnly table (known_row (with_bits (bits_of (whole_constant nodes facts handle)) (fact_of_part part)))
-        (row_with_constant (constant_at nodes facts handle) (literal_row (plain_type (IntegerTree kind))))
-    literal_says facts kind part literal is known =
-        let number = (node_at nodes handle).number in
-        let meant = meaning.Expression (meaning.value (plain_type (IntegerTree kind))) in
-        let same : whole_constant nodes facts handle ≡ literal_constant kind number =
-        ap (λ fold. folded known_sizes fold (facts_for_constant nodes facts handle)) literal in
-        says-with (whole_constant nodes facts handle) (fact_of_part part) meant (fact_known table part known)
-        (ap (λ constant. node_seen table (with_bits (bits_of constant) (fact_of_part part))) same
-        ∙ literal-with kind number part is
-        ∙ ap (λ constant. with_constant (number_of constant) meant) (sym same))

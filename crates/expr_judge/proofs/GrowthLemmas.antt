@@ -80,3 +80,8 @@ pub appended_known :
     → AreKnownFailures table old → AreKnownFailures table new
 appended_known table old new failures appends known =
     subst (AreKnownFailures table) (sym appends.1) (All-append (IsKnownFailure table) old appends.0 known appends.3)
+
+-- failures that were appended to none, and then to others
+pub appended_behind : (table : TypeTable) (before own after : List Failure) (failures : List meaning.Failure) → Appends table [] own failures → after ≡ before ++ own
+    → Appends table before after failures
+appended_behind table before own after failures appends is = (appends.0, is ∙ ap (λ l. before ++ l) appends.1, appends.2, appends.3)

@@ -5,10 +5,8 @@ pub mod ConstantLemmas
 pub mod PartLemmas
 pub mod OperandLemmas
 pub mod OperatorConstants
-pub mod WholeLemmas
 pub mod TellingLemmas
 pub mod TakenLemmas
 pub mod OperatorLemmas
 pub mod RowLemmas
 pub mod NameLemmas
-pub mod JudgingLemmas

@@ -10,14 +10,11 @@ use Rattle.meaning_constants.specs.Nodes.{loaded_type}
 use Rattle.meaning_constants.specs.Numbers.{IsInRange}
 use Rattle.meaning_constants.specs.laws.Nodes.{FitsItsKind, PartFits, PartsFit}
 use Rattle.meaning_constants.proofs.Bits.{bits_tell_numbers}
-use Rattle.meaning_constants.proofs.Nodes.{node_constants_fit}
 use Rattle.meaning_constants.proofs.Numbers.{wrapped_is_in_range}
 use Rattle.meaning_typing.specs.Facts as meaning
 use Rattle.meaning_typing.specs.Facts.{fact_at}
 use Rattle.meaning_typing.specs.Rows.{Row}
-use Rattle.meaning_typing.specs.Rows as rows_of
-use Rattle.meaning_typing.specs.Typing.{facts_for_constant, known_sizes, part_seen, row_with_constant, with_constant}
-use Rattle.meaning_typing.specs.Units.{UnitNodes, children_at}
+use Rattle.meaning_typing.specs.Typing.{part_seen, row_with_constant, with_constant}
 use Rattle.c_types.specs.Table.{TypeTable, type_at}
 use Rattle.const_fold.specs.Known.{number_with}
 use Rattle.node_facts.specs.declared.fact.NodeFact.{NodeFact}
@@ -28,9 +25,9 @@ use Rattle.expression_rows.specs.declared.row.Row as expr
 use Rattle.expression_rows.specs.Rows.{IsKnownRow, told}
 use Rattle.expression_rows.specs.Rows as rows
 use Rattle.expr_judge.specs.declared.row.NodeRow.{NodeRow}
-use Rattle.expr_judge.specs.Constants.{bits_of, whole_constant, with_bits}
+use Rattle.expr_judge.specs.Constants.{bits_of, with_bits}
 use Rattle.expr_judge.specs.Operators.{HasKindOf, IsOfKind}
-use Rattle.expr_judge.specs.Rows.{SaysOnly, Tells, known_row, listed_failures, node_row}
+use Rattle.expr_judge.specs.Rows.{Tells, listed_failures, node_row}
 use Rattle.node_facts.proofs.GrowthLemmas.{joins_on}
 use Rattle.expr_judge.proofs.TakenLemmas.{row_taken}
 
@@ -92,10 +89,6 @@ module _ (table : TypeTable) where
   all-fit kept [] = tt
   all-fit kept (handle ∷ handles) = (fits-at kept handle, all-fit kept handles)
 
-  pub constant_fits : (nodes : UnitNodes) (kept : List NodeFact) (handle : ℕ) → FitsItsKind (whole_constant nodes (nodes_seen table kept) handle)
-  constant_fits nodes kept handle =
-      node_constants_fit known_sizes (facts_for_constant nodes (nodes_seen table kept) handle) (all-fit kept (children_at nodes handle)) none-fits
-
   -- a fact with the constant that is of its type
   fact-with : (constant : Option Constant) (fact : NodeFact) → HasKindOf (node_seen table fact) constant → FitsItsKind constant
       → node_seen table (with_bits (bits_of constant) fact) ≡ with_constant (number_if constant) (node_seen table fact)
@@ -129,17 +122,3 @@ tells_with old new before after constant meant said has fits tells =
       failures = tells.failures;
       keeps = tells.keeps;
     }
-
--- what is known of a node of which no constant is asked
-pub says_without : (table : TypeTable) (fact : NodeFact) (meant : meaning.Fact) → node_seen table fact ≡ meant → IsKnownNodeFact table fact
-    → SaysOnly table (known_row (with_bits None fact)) (row_with_constant None (rows_of.known meant))
-says_without table fact meant is known =
-    record {
-      row = λ i. record { fact = (fact-with table None fact (none-has (node_seen table fact)) (none-fits table) ∙ ap (with_constant None) is) i; broken = None; passed = None };
-      ids = with-known table None fact known;
-      silent = refl;
-    }
-  where
-    none-has : (fact : meaning.Fact) → HasKindOf fact None
-    none-has (meaning.Expression expression) = tt
-    none-has fact = tt

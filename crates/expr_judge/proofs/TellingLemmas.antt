@@ -11,7 +11,7 @@ use Rattle.node_facts.specs.declared.expression.ExpressionFact.{ExpressionFact}
 use Rattle.node_facts.specs.Facts.{IsKnownNodeFact, node_seen}
 use Rattle.node_facts.specs.Growing.{TypesJoin}
 use Rattle.expression_rows.specs.declared.row.Row as expr
-use Rattle.expression_rows.specs.Arguments.{Appends, listed_failure}
+use Rattle.expression_rows.specs.Arguments.{listed_failure}
 use Rattle.expression_rows.specs.Facts.{IsKnownPart, part_seen}
 use Rattle.expression_rows.specs.Rows.{IsKnownFailure, IsKnownRow, Told, failure_listed, failure_seen, told}
 use Rattle.expression_rows.specs.Rows as rows

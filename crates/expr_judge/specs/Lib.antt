@@ -1,8 +1,5 @@
-pub mod Whole
 pub mod Found
 pub mod Rows
 pub mod Parts
 pub mod Constants
 pub mod Operators
-pub mod Named
-pub mod Judging

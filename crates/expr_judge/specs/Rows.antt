@@ -1,7 +1,5 @@
 -- How rows are seen: of what is broken, and of the tokens at which a limit is passed, the least.
-use Rattle.std.specs.Prelude.{◌≡◌, ℕ, Bool, true, false, List, [], ◌++◌, Option, Some, None, option_map}
-use Rattle.vocabulary.specs.declared.node_kind.NodeKind.{NodeKind}
-use Rattle.vocabulary.specs.declared.node_kind.NodeKind.TheVariants as kinds
+use Rattle.std.specs.Prelude.{◌≡◌, ℕ, List, [], ◌++◌, Option, Some, None, option_map}
 use Rattle.sparse_model.specs.declared.failure.Failure.{Failure}
 use Rattle.meaning_operands.specs.Failures as meaning
 use Rattle.meaning_typing.specs.Facts.{Fact}
@@ -59,34 +57,3 @@ node_row row = record { fact = fact_of_part row.fact; broken = row.broken; passe
 
 abbrev pub listed_failures : RowFailures → List Failure
 listed_failures failures = listed_failure failures.first ++ listed_failure failures.second
-
--- Kinds of nodes whose rows say something
-
--- of declarations and names of types (C11 6.7)
-abbrev pub is_of_declaration : NodeKind → Bool
-is_of_declaration kinds.Specifiers = true
-is_of_declaration kinds.TypedefName = true
-is_of_declaration kinds.Declarator = true
-is_of_declaration kinds.Parameter = true
-is_of_declaration kinds.TypeName = true
-is_of_declaration kinds.TypeofType = true
-is_of_declaration kinds.TypeofExpression = true
-is_of_declaration kind = false
-
--- primary expressions (6.5.1)
-abbrev pub is_primary : NodeKind → Bool
-is_primary kinds.Name = true
-is_primary (kinds.IntegerConstant kind) = true
-is_primary (kinds.CharacterConstant kind) = true
-is_primary kinds.StringLiteral = true
-is_primary kinds.Parenthesized = true
-is_primary kind = false
-
--- operators that look at places, and calls (6.5.2, 6.5.3.2, 6.5.16.1)
-abbrev pub is_operation : NodeKind → Bool
-is_operation kinds.Subscript = true
-is_operation kinds.Call = true
-is_operation kinds.Address = true
-is_operation kinds.Indirection = true
-is_operation kinds.Assignment = true
-is_operation kind = false

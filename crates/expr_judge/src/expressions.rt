@@ -6,19 +6,15 @@ ghost use Rattle.meaning_typing.specs.Facts.{fact_at};
 ghost use Rattle.meaning_typing.specs.Typing.{token_at as token_of};
 ghost use Rattle.meaning_typing.specs.Units.{child_at as child_of, node_at as node_of};
 ghost use Rattle.decl_judge.specs.Units.{nodes_of};
-ghost use Rattle.expr_judge.specs.Whole.{IsWhole};
 ghost use Rattle.expr_judge.specs.Rows.{Tells};
 ghost use Rattle.node_facts.specs.Facts.{IsKnownNodeFact, nodes_seen};
 
-use crate::parts::{expression_at, operand_at, operands_at};
+use crate::parts::{expression_at, operand_at};
 use crate::row::{NodeRow, take_row};
 use c_tree::{Handle, Unit};
 use c_types::Types;
 use decl_judge::{child_at, token_at};
-use expression_rows::{
-    SubscriptTokens, judge_address, judge_assignment, judge_indirection, judge_string,
-    judge_subscript,
-};
+use expression_rows::{judge_address, judge_indirection, judge_string};
 use node_facts::NodeFacts;
 use sparse_model::FailureList;
 use std::alloc::AllocError;
@@ -71,51 +67,5 @@ pub fn indirection(
     let operand = operand_at(types, facts, child)?;
     let token = token_at(unit, handle);
     let row = judge_indirection(types, token, token_at(unit, child), operand);
-    take_row(row, found)
-}
-
-/// The row of a subscript (6.5.2.1).
-pub fn subscript(
-    unit: &Unit,
-    types: &mut Types,
-    facts: &NodeFacts,
-    found: &mut FailureList,
-    handle: Handle,
-) -> Result<NodeRow, AllocError>
-    requires whole { unit.now.first ≡ 0 }
-    requires known { IsWhole types.old facts.now }
-    ensures { IfOk result (λ row. Tells types.old types.new found.old found.new row (meaning.subscript_row (token_of (nodes_of unit.now) handle) (token_of (nodes_of unit.now) (child_of (nodes_of unit.now) handle 0)) (token_of (nodes_of unit.now) (child_of (nodes_of unit.now) handle 1)) (fact_at (nodes_seen types.old facts.now) (child_of (nodes_of unit.now) handle 0)) (fact_at (nodes_seen types.old facts.now) (child_of (nodes_of unit.now) handle 1)))) }
-{
-    let first = child_at(unit, handle, 0);
-    let second = child_at(unit, handle, 1);
-    let (left, right) = operands_at(types, facts, first, second)?;
-    let tokens = SubscriptTokens {
-        token: token_at(unit, handle),
-        first: token_at(unit, first),
-        second: token_at(unit, second),
-    };
-    let row = judge_subscript(types, tokens, left, right);
-    take_row(row, found)
-}
-
-/// The row of an assignment (6.5.16.1).
-pub fn assignment(
-    unit: &Unit,
-    types: &mut Types,
-    facts: &NodeFacts,
-    found: &mut FailureList,
-    handle: Handle,
-) -> Result<NodeRow, AllocError>
-    requires whole { unit.now.first ≡ 0 }
-    requires known { IsWhole types.old facts.now }
-    ensures { IfOk result (λ row. Tells types.old types.new found.old found.new row (meaning.assignment_row (token_of (nodes_of unit.now) handle) (token_of (nodes_of unit.now) (child_of (nodes_of unit.now) handle 1)) (fact_at (nodes_seen types.old facts.now) (child_of (nodes_of unit.now) handle 0)) (fact_at (nodes_seen types.old facts.now) (child_of (nodes_of unit.now) handle 1)))) }
-{
-    let first = child_at(unit, handle, 0);
-    let second = child_at(unit, handle, 1);
-    let right = operand_at(types, facts, second)?;
-    let left = expression_at(facts, first);
-    let token = token_at(unit, handle);
-    let standing = token_at(unit, second);
-    let row = judge_assignment(types, token, standing, left, right)?;
     take_row(row, found)
 }

@@ -3,7 +3,6 @@ ghost use Rattle.std.specs.Prelude.{◌≡◌, All, IfOk};
 ghost use Rattle.meaning_typing.specs.Operations as operations;
 ghost use Rattle.meaning_typing.specs.Typing.{operation_row};
 ghost use Rattle.decl_judge.specs.Units.{nodes_of};
-ghost use Rattle.expr_judge.specs.Whole.{IsWhole};
 ghost use Rattle.expr_judge.specs.Rows.{Tells};
 ghost use Rattle.node_facts.specs.Facts.{IsKnownNodeFact, nodes_seen};
 
@@ -12,11 +11,8 @@ use crate::parts::operand_at;
 use crate::row::{NodeRow, take_row};
 use c_tree::{Handle, Unit};
 use c_types::Types;
-use decl_judge::{child_at, token_at};
-use expression_rows::{
-    Argument, judge_binary, judge_comma, judge_compound, judge_expect, judge_logical, judge_not,
-    judge_size, judge_step_before, judge_step_behind, judge_unary,
-};
+use decl_judge::child_at;
+use expression_rows::{Argument, judge_comma, judge_expect, judge_logical, judge_not, judge_unary};
 use node_facts::NodeFacts;
 use sparse_model::FailureList;
 use std::alloc::AllocError;
@@ -57,77 +53,6 @@ pub fn not(
     take_row(row, found)
 }
 
-/// The row of `++` or `--` behind its operand (6.5.2.4).
-pub fn step_behind(
-    unit: &Unit,
-    types: &mut Types,
-    facts: &NodeFacts,
-    found: &mut FailureList,
-    handle: Handle,
-    op: Operator,
-) -> Result<NodeRow, AllocError>
-    requires whole { unit.now.first ≡ 0 }
-    requires known { IsWhole types.old facts.now }
-    ensures { IfOk result (λ row. Tells types.old types.new found.old found.new row (operation_row (nodes_of unit.now) (nodes_seen types.old facts.now) handle (operations.StepBehind op))) }
-{
-    let one = operand_of(unit, types, facts, handle)?;
-    let row = judge_step_behind(types, op, one.token, one.standing, one.operand)?;
-    take_row(row, found)
-}
-
-/// The row of `++` or `--` before its operand (6.5.3.1).
-pub fn step_before(
-    unit: &Unit,
-    types: &mut Types,
-    facts: &NodeFacts,
-    found: &mut FailureList,
-    handle: Handle,
-    op: Operator,
-) -> Result<NodeRow, AllocError>
-    requires whole { unit.now.first ≡ 0 }
-    requires known { IsWhole types.old facts.now }
-    ensures { IfOk result (λ row. Tells types.old types.new found.old found.new row (operation_row (nodes_of unit.now) (nodes_seen types.old facts.now) handle (operations.StepBefore op))) }
-{
-    let one = operand_of(unit, types, facts, handle)?;
-    let row = judge_step_before(types, op, one.token, one.standing, one.operand)?;
-    take_row(row, found)
-}
-
-/// The row of `sizeof` or `_Alignof` (6.5.3.4), whose operand may be a name of a type.
-pub fn size(
-    unit: &Unit,
-    types: &mut Types,
-    facts: &NodeFacts,
-    found: &mut FailureList,
-    handle: Handle,
-) -> Result<NodeRow, AllocError>
-    requires whole { unit.now.first ≡ 0 }
-    requires known { IsWhole types.old facts.now }
-    ensures { IfOk result (λ row. Tells types.old types.new found.old found.new row (operation_row (nodes_of unit.now) (nodes_seen types.old facts.now) handle operations.SizeOperation)) }
-{
-    let part = facts.at(child_at(unit, handle, 0));
-    let row = judge_size(types, token_at(unit, handle), part)?;
-    take_row(row, found)
-}
-
-/// The row of a binary operator that makes a value of two (6.5.5 to 6.5.12).
-pub fn binary(
-    unit: &Unit,
-    types: &mut Types,
-    facts: &NodeFacts,
-    found: &mut FailureList,
-    handle: Handle,
-    op: Operator,
-) -> Result<NodeRow, AllocError>
-    requires whole { unit.now.first ≡ 0 }
-    requires known { IsWhole types.old facts.now }
-    ensures { IfOk result (λ row. Tells types.old types.new found.old found.new row (operation_row (nodes_of unit.now) (nodes_seen types.old facts.now) handle (operations.BinaryOperation op))) }
-{
-    let two = operands_of(unit, types, facts, handle)?;
-    let row = judge_binary(types, op, two.at, two.left, two.right)?;
-    take_row(row, found)
-}
-
 /// The row of `&&` or `||` (6.5.13, 6.5.14).
 pub fn logical(
     unit: &Unit,
@@ -143,24 +68,6 @@ pub fn logical(
 {
     let two = operands_of(unit, types, facts, handle)?;
     let row = judge_logical(types, op, two.at, two.left, two.right)?;
-    take_row(row, found)
-}
-
-/// The row of a compound assignment (6.5.16.2).
-pub fn compound(
-    unit: &Unit,
-    types: &mut Types,
-    facts: &NodeFacts,
-    found: &mut FailureList,
-    handle: Handle,
-    op: Operator,
-) -> Result<NodeRow, AllocError>
-    requires whole { unit.now.first ≡ 0 }
-    requires known { IsWhole types.old facts.now }
-    ensures { IfOk result (λ row. Tells types.old types.new found.old found.new row (operation_row (nodes_of unit.now) (nodes_seen types.old facts.now) handle (operations.CompoundOperation op))) }
-{
-    let two = operands_of(unit, types, facts, handle)?;
-    let row = judge_compound(types, op, two.at, two.left, two.right)?;
     take_row(row, found)
 }
 

@@ -13,7 +13,7 @@ use Rattle.node_facts.specs.Growing.{TypesJoin}
 use Rattle.expression_rows.specs.declared.row.Broken.{Broken}
 use Rattle.expression_rows.specs.Arguments.{Appends}
 use Rattle.expr_judge.proofs.GrowthLemmas.{appended_later}
-use Rattle.expr_judge.proofs.JudgingLemmas.{appended_behind}
+use Rattle.expr_judge.proofs.GrowthLemmas.{appended_behind}
 use Rattle.initializer_levels.specs.declared.plan.Plan.{Plan}
 use Rattle.initializer_levels.specs.declared.met.Placed.{Placed}
 use Rattle.initializer_levels.specs.Met.{found_with}

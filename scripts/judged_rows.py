@@ -19,23 +19,38 @@ LONGEST = 20_000
 STACK, FRAMES = 1 << 29, 1_000_000
 
 MARK = re.compile(rb"//( *)([\^|]) (.*)")
-WORDS = re.compile(rb"// words: (.*)")
+WORDS = re.compile(rb"^// words: (.*)", re.MULTILINE)
+LIMIT = re.compile(rb"// err: (.*)")
+HEADER = re.compile(rb"// header: (.*)")
 
 
-def marked(name, text):
-    """The words of a fixture's command, and what its marks expect: the lines and the status."""
-    words, lines, place, code = [name], [], (1, 1), None
+def marks(name, text, headers):
+    """The lines that the marks of a file expect, those of the headers that it names among them."""
+    lines, place, code = [], (1, 1), None
     for number, line in enumerate(text.split(b"\n"), 1):
-        mark, said = MARK.match(line), WORDS.match(line)
+        mark, limit, header = MARK.match(line), LIMIT.match(line), HEADER.match(line)
+        if limit:
+            lines.append(limit[1] + b"\n")
+        elif header:
+            lines += marks(header[1], headers[header[1]], headers)
         if mark is None:
-            words = [name if word == b"FILE" else word for word in said[1].split()] if said else words
             code = code if line.startswith(b"//") or not line.strip() else number
             continue
         if mark[2] == b"^":
             place = (code, len(mark[1]) + 3) if code else (1, 1)
         begin = b"" if mark[3].startswith(b"error[") else b"warning: " if mark[2] == b"^" else b"   "
         lines.append(b"%b:%d:%d: %b%b\n" % (name, *place, begin, mark[3]))
-    status = judging.REFUSED if any(b": error[" in line for line in lines) else judging.WARNED if lines else judging.CLEAN
+    return lines
+
+
+def marked(name, text, headers):
+    """The words of a fixture's command, and what its marks expect: the lines and the status."""
+    said = WORDS.search(text)
+    words = [name if word == b"FILE" else word for word in said[1].split()] if said else [name]
+    lines = marks(name, text, headers)
+    refused = any(b": error[" in line for line in lines)
+    passed = any(line.startswith(b"ksparse: limit: ") for line in lines)
+    status = judging.LIMIT if passed else judging.REFUSED if refused else judging.WARNED if lines else judging.CLEAN
     return words, (b"", b"".join(lines), status)
 
 
@@ -50,7 +65,7 @@ def fixtures(data):
     for name in sorted(os.listdir(os.path.join(data, "judged"))):
         with open(os.path.join(data, "judged", name), "rb") as file:
             text = file.read()
-        words, expected = marked(name.encode(), text)
+        words, expected = marked(name.encode(), text, headers)
         yield name, words, headers | {name.encode(): text}, expected
 
 

@@ -30,6 +30,7 @@ class Expressions:
             "UnaryPlus": self.unary, "Negation": self.unary, "Complement": self.unary, "Cast": self.cast,
             "SizeofExpression": self.sizeof, "SizeofType": self.sizeof, "AlignofType": self.sizeof,
             "StatementExpression": self.statement_expression, "BuiltinExpect": self.expect,
+            "Member": self.member, "PointerMember": self.member, "BuiltinOffsetof": self.offset,
         }
         self.rows |= {kind: self.binary for kind in ARITHMETIC | BITWISE | COMPARISONS}
         self.rows |= {kind: self.step for kind in STEPS}
@@ -52,9 +53,12 @@ class Expressions:
         """What is known of the value of what an expression is: a place is loaded."""
         if fact is None or not fact.is_place:
             return fact
-        if fact.type.is_scalar():
+        of = fact.type
+        if of.is_aggregate() and not types.is_complete(of):
+            return self.found.breaks(10, node.at)
+        if of.is_scalar() or of.is_aggregate():
             self.access(node, fact, is_evaluated)
-        return Fact(types.value_of(fact.type))
+        return Fact(types.loaded(of, fact.width))
 
     def access(self, node, fact, is_evaluated):
         """A place is loaded or stored to."""
@@ -70,6 +74,13 @@ class Expressions:
             self.found.breaks(9, node.at)
         return fact is not None and not fact.is_void()
 
+    def is_condition(self, node, fact):
+        """Whether a value is known and can be tested; one that can't be is told."""
+        if fact is not None and fact.type.is_aggregate():
+            self.found.breaks(13, node.at)
+            return False
+        return self.used(node, fact)
+
     def values_used(self, nodes, is_evaluated):
         """The values of parts that are all used, or None where one of them can't be."""
         facts = [self.value(node, is_evaluated) for node in nodes]
@@ -77,12 +88,16 @@ class Expressions:
         return facts if all(are_used) else None
 
     def converts(self, value, to, token, word, part=0):
-        """A value becomes one of a type."""
+        """A value becomes one of a type; whether it can."""
+        if pairs.are_unlike(value.type, to):
+            self.found.breaks(11, token)
+            return False
         rule = pairs.conversion(value, to)
         if rule == "N1":
             self.found.fails("N1", token, part=part)
         elif rule:
             self.found.fails(rule, token, to, value.type, word=word, part=part)
+        return True
 
     def tests(self, token, facts):
         """Operands are tested or compared: a fouled one is told by the first restricted one."""
@@ -105,7 +120,7 @@ class Expressions:
         return self.fact(node.parts[0][1], is_evaluated)
 
     def statement_expression(self, node, is_evaluated):
-        return self.judge.body(node.parts[0][1], is_evaluated)
+        return self.judge.statement_expression(node.parts[0][1], is_evaluated)
 
     # Places
 
@@ -141,9 +156,88 @@ class Expressions:
         place = self.fact(node.parts[0][1], is_evaluated)
         if place is None:
             return None
-        if not place.is_place or place.register:
+        if not place.is_place or place.register or place.width is not None:
             return self.found.breaks(2, node.at)
         return Fact(pointer(place.type))
+
+    # Members
+
+    def member(self, node, is_evaluated):
+        """`.` and `->`."""
+        part = node.parts[0][1]
+        fact = self.fact(part, is_evaluated)
+        if node.kind == "PointerMember":
+            fact = self.loaded(part, fact, is_evaluated)
+        if not self.used(part, fact):
+            return None
+        if node.kind == "PointerMember":
+            if not fact.is_pointer():
+                return self.found.breaks(1, node.at)
+            fact = Fact(fact.type.inner, is_place=True)
+        way = self.way_to(fact.type, node.name, node.at)
+        return way and self.selected(node, fact, way)
+
+    def selected(self, node, fact, way):
+        """What is known of a member of a place or of a value."""
+        of = fact.type
+        for member in way:
+            if member.type is None:
+                return None
+            of = types.of_member(member.type, of.marks)
+        if fact.is_place:
+            return Fact(of, is_place=True, register=fact.register, width=way[-1].width)
+        if of.form == "array":
+            return self.found.breaks(4, node.at)
+        return Fact(types.loaded(of, way[-1].width))
+
+    def way_to(self, of, name, token):
+        """The members that lead to the one of this name; None where there is none, which is told at a token."""
+        if not of.is_aggregate():
+            return self.found.breaks(8, token)
+        if not types.is_complete(of):
+            return self.found.breaks(10, token)
+        if name not in of.aggregate.members:
+            return self.found.breaks(7, token, name)
+        return of.aggregate.members[name]
+
+    def offset(self, node, is_evaluated):
+        """`__builtin_offsetof`: the first name is asked for at the word, and the others at their dots."""
+        (_, named), *designators = node.parts
+        of, bits, width = self.judge.named_type(named), 0, None
+        steps = [(node.at, node.name, None)]
+        steps += [(part.at, part.name, part.parts[0][1] if part.parts else None) for _, part in designators]
+        for token, name, index in steps:
+            if index is not None:
+                (of, moved), width = self.element(of, index, token, bits), None
+            else:
+                of, width, moved = self.offset_of_member(of, name, token)
+            bits += moved
+        if width is not None:
+            return self.found.breaks(2, node.at)
+        return of and Fact(SIZE, constant=Constant("ULong", bits // 8) if bits <= MOST_BYTES * 8 else None)
+
+    def offset_of_member(self, of, name, token):
+        """The type of a member, its width, and how many bits it stands behind the first one."""
+        way = of and self.way_to(of, name, token)
+        if not way or any(member.type is None for member in way):
+            return None, None, 0
+        return way[-1].type, way[-1].width, sum(member.bit for member in way)
+
+    def element(self, of, index, token, bits):
+        """The type of an element, and how many bits it stands behind the first one."""
+        value = self.value(index, False)
+        is_array = of is not None and of.form == "array"
+        is_known = self.used(index, value)
+        if value is not None and not (is_known and value.type.form == "integer") or of is not None and not is_array:
+            return self.found.breaks(1, token), 0
+        if not is_known:
+            return None, 0
+        if value.type.is_restricted():
+            self.found.fails("B1", token, value.type)
+        number = value.constant.number if value.constant else -1
+        if number < 0 or is_array and number * types.size(of.inner) + bits // 8 > MOST_BYTES:
+            return self.found.breaks(40, token), 0
+        return (of.inner, number * types.size(of.inner) * 8) if is_array else (None, 0)
 
     # Calls
 
@@ -164,8 +258,10 @@ class Expressions:
             return self.found.breaks(6, node.at)
         if has_voids:
             return None
-        self.passes(arguments, values, called.parameters)
-        return Fact(types.value_of(called.inner))
+        are_passed = self.passes(arguments, values, called.parameters)
+        if called.inner.is_aggregate() and not types.is_complete(called.inner):
+            return self.found.breaks(10, node.at)
+        return Fact(types.value_of(called.inner)) if are_passed else None
 
     def has_voids(self, arguments, values):
         """Whether arguments are void, which is told of each."""
@@ -175,10 +271,12 @@ class Expressions:
         return bool(voids)
 
     def passes(self, arguments, values, parameters):
-        """Arguments become values of the types of parameters; nothing is said of one of which nothing is known."""
+        """Arguments become values of the types of parameters; nothing is said of one of which nothing is known. Whether they can."""
+        can = True
         for number, (argument, value, to) in enumerate(zip(arguments, values, parameters), 1):
-            if value is not None:
-                self.converts(value, to, argument.at, b"argument %d" % number, number)
+            if value is not None and not self.converts(value, to, argument.at, b"argument %d" % number, number):
+                can = False
+        return can
 
     def expect(self, node, is_evaluated):
         """Both operands are passed as to a function of two longs."""
@@ -186,8 +284,7 @@ class Expressions:
         values = [self.value(part, is_evaluated) for part in parts]
         if self.has_voids(parts, values):
             return None
-        self.passes(parts, values, (LONG, LONG))
-        return Fact(LONG)
+        return Fact(LONG) if self.passes(parts, values, (LONG, LONG)) else None
 
     # Operators before or behind one operand
 
@@ -230,16 +327,20 @@ class Expressions:
         place = self.changed_place(node, node.parts[0][1], is_evaluated)
         if place is None:
             return None
+        if not place.type.is_scalar():
+            return self.found.breaks(4, node.at)
         if place.type.form == "pointer" and not self.is_step_possible(node, place.type):
             return None
         if place.type.is_restricted():
             self.found.fails("B7", node.at, place.type)
-        return Fact(types.value_of(place.type))
+        return Fact(types.loaded(place.type, place.width if node.kind.startswith("Post") else None))
 
     def sizeof(self, node, is_evaluated):
         part = node.parts[0][1]
         if node.kind == "SizeofExpression":
             fact = self.fact(part, False)
+            if fact is not None and fact.width is not None:
+                return self.found.breaks(29, node.at)
             of = fact and fact.type
         else:
             of = self.judge.named_type(part)
@@ -256,7 +357,7 @@ class Expressions:
         value = self.value(part, is_evaluated)
         if to is None:
             return None
-        if to.form != "void" and (not to.is_scalar() or value is not None and value.is_void()):
+        if to.form != "void" and (not to.is_scalar() or value is not None and not value.type.is_scalar()):
             self.used(part, value)
             return self.found.breaks(12, node.at)
         if value is None:
@@ -289,6 +390,9 @@ class Expressions:
         values = self.values_used([part for _, part in node.parts], is_evaluated)
         if values is None:
             return None
+        if any(value.type.is_aggregate() for value in values):
+            are_unlike = node.kind in COMPARISONS and pairs.are_unlike(*(value.type for value in values))
+            return self.found.breaks(11 if are_unlike else 4, node.at)
         if any(value.is_pointer() for value in values):
             return self.with_pointer(node, *values)
         left, right = values
@@ -306,9 +410,9 @@ class Expressions:
         of = types.promoted(left.type) if node.kind in SHIFTS else types.common(left.type, right.type)
         return Fact(of, constant=constant)
 
-    def meeting(self, token, left, right):
+    def meeting(self, token, left, right, rule="B2"):
         if pairs.are_of_different_restricted_types(left, right):
-            self.found.fails("B2", token, left.type, right.type)
+            self.found.fails(rule, token, left.type, right.type)
 
     def degrading(self, token, *facts):
         restricted = first_restricted(facts)
@@ -372,8 +476,9 @@ class Expressions:
 
     def tested(self, node, is_evaluated):
         """`!`, `&&` and `||`."""
-        values = self.values_used([part for _, part in node.parts], is_evaluated)
-        if values is None:
+        parts = [part for _, part in node.parts]
+        values = [self.value(part, is_evaluated) for part in parts]
+        if not all([self.is_condition(part, value) for part, value in zip(parts, values)]):
             return None
         self.tests(node.at, values)
         known = [value.constant and value.constant.number != 0 for value in values]
@@ -391,7 +496,7 @@ class Expressions:
     def conditional(self, node, is_evaluated):
         condition, *parts = [part for _, part in node.parts]
         values = [self.value(part, is_evaluated) for part in (condition, *parts)]
-        is_tested = self.used(condition, values[0])
+        is_tested = self.is_condition(condition, values[0])
         if len(parts) == 1:
             parts, values = [condition, *parts], [values[0], *values]
         arms = values[1:]
@@ -413,6 +518,10 @@ class Expressions:
 
     def arms(self, node, condition, left, right):
         """The arms of `?:` meet."""
+        if pairs.are_unlike(left.type, right.type):
+            return self.found.breaks(11, node.at)
+        if left.type.is_aggregate():
+            return Fact(left.type)
         if left.is_pointer() or right.is_pointer():
             return self.arms_with_pointer(node, left, right)
         self.meeting(node.at, left, right)
@@ -439,13 +548,13 @@ class Expressions:
         is_void = value is not None and not self.used(source, value)
         if place is not None and not is_modifiable(place):
             return self.found.breaks(3, node.at)
-        if place is not None and place.is_void():
+        if place is not None and not types.is_complete_object(place.type):
             return self.found.breaks(10, node.at)
         if is_void or place is None:
             return None
         self.access(target, place, is_evaluated)
-        if value is not None:
-            self.converts(value, place.type, node.at, b"assignment")
+        if value is not None and not self.converts(value, place.type, node.at, b"assignment"):
+            return None
         return Fact(types.value_of(place.type))
 
     def compound(self, node, is_evaluated):
@@ -468,7 +577,7 @@ class Expressions:
 
     def can_be_changed(self, kind, of, value):
         """Whether an operator can change a place of this type by a value."""
-        return value.type.form == "integer" and (of.form == "integer" or kind in WITH_POINTERS)
+        return value.type.form == "integer" and (of.form == "integer" or of.form == "pointer" and kind in WITH_POINTERS)
 
 
 def first_restricted(facts):
@@ -478,7 +587,8 @@ def first_restricted(facts):
 
 def is_modifiable(fact):
     """It can be stored to (C11 6.3.2.1 p1)."""
-    return fact.is_place and not fact.type.marks.const and fact.type.form not in ("array", "function")
+    of = fact.type
+    return fact.is_place and not of.marks.const and of.form not in ("array", "function") and not types.has_const_member(of)
 
 
 def kept(constant, of, fouled):

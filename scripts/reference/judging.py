@@ -1,116 +1,67 @@
 """What the judge says of a unit, from the rules alone: the types of its nodes, the rules that fail, the least broken constraint.
 
-Judged are declarations of arithmetic types, pointers, functions and arrays, with typedefs and attributes; bodies, `return` and
-expression statements; and all expressions without members and compound literals.
+Judged is everything but initializers and compound literals.
 """
-from typing import NamedTuple
-
-from . import reading, trees, types
+from . import pairs, reading, trees, types
 from .commands import BadWord, Command, line
-from .expressions import MOST_BYTES, Expressions
+from .declarations import Declarations, NotBuilt, Scope
+from .expressions import Expressions
 from .macros import Passed
 from .pairs import Fact
 from .preprocessing import NoSuchFile, Refusal, Unit
+from .statements import Around, Inside, Labels, Loop, Switch
 from .texts import Found
-from .types import NONE, Marks, Type
 
 CLEAN, WARNED, REFUSED, USAGE, LIMIT = 0, 1, 2, 3, 7
 
-QUALIFIERS = {"ConstQualifier": Marks(const=True), "VolatileQualifier": Marks(volatile=True), "RestrictQualifier": NONE}
-# The kind that type words say, but for their signs
-WORDS = {
-    ("BoolSpecifier",): "Bool", ("CharSpecifier",): "Char", ("ShortSpecifier",): "Short", ("IntSpecifier", "ShortSpecifier"): "Short",
-    (): "Int", ("IntSpecifier",): "Int", ("LongSpecifier",): "Long", ("IntSpecifier", "LongSpecifier"): "Long",
-    ("LongSpecifier", "LongSpecifier"): "LLong", ("IntSpecifier", "LongSpecifier", "LongSpecifier"): "LLong",
-}
-
-
-class NotBuilt(Exception):
-    """The unit has a form that isn't judged here, or breaks a constraint of declarations."""
-
 
 class Indexed(trees.Builder):
-    """Builds trees in which a node leads to the index of another's token."""
+    """Builds trees in which a node leads to the index of another's token, and notes which names hide others."""
+
+    def __init__(self, tokens):
+        super().__init__(tokens)
+        # By the token of a declaration that of the one of an outer scope which it hides
+        self.hidden = {}
 
     def place(self, at):
         return at
 
+    def hide(self, name, at, scopes):
+        outer = next((scope["name", name] for scope in reversed(scopes) if ("name", name) in scope), None)
+        if outer is not None:
+            self.hidden[at] = outer[1]
 
-class Declared(NamedTuple):
-    """What a declarator declares: its type where that is known, its name where it has linkage, and whether it is a register's."""
+    def bind(self, at, is_typedef):
+        self.hide(self.spelled(at), at, self.scopes[:-1])
+        super().bind(at, is_typedef)
 
-    type: Type | None
-    linked: bytes | None
-    register: bool
-
-
-class Attributes(NamedTuple):
-    """What some attribute lists come to."""
-
-    marks: Marks
-    bitwise: bool
-    force: bool
-
-
-def attributes(lists):
-    marks, found = NONE, set()
-    for each in lists:
-        for _, item in each.parts:
-            found.add(item.kind)
-            if item.kind == "AddressSpaceAttribute":
-                marks = marks._replace(space=item.name or b"%d" % item.number)
-    marks = marks._replace(noderef="NoderefAttribute" in found)
-    return Attributes(marks, "BitwiseAttribute" in found, "ForceAttribute" in found)
+    def body(self, own=None):
+        # the function's own name may be hidden by a parameter
+        for (space, name), found in (own or {}).items():
+            if space == "name":
+                self.hide(name, found[1], self.scopes)
+        return super().body(own)
 
 
-def lists_of(node):
-    return [part for _, part in node.parts if part.kind == "AttributeList"]
-
-
-def with_attributes(of, lists, identity):
-    """A type with attributes; a restricted type is one of the declaration that begins at a token."""
-    found = attributes(lists)
-    if of is None:
-        return None
-    if found.bitwise:
-        if of.form != "integer":
-            raise NotBuilt
-        of = types.changed(of, identity=identity)
-    return types.marked(of, found.marks)
-
-
-def with_qualifiers(of, node):
-    for _, part in node.parts:
-        if of is not None and part.kind in QUALIFIERS:
-            of = types.marked(of, QUALIFIERS[part.kind])
-    return of
-
-
-def type_of_words(words):
-    if words == ["VoidSpecifier"]:
-        return types.VOID
-    plain = tuple(sorted(word for word in words if word not in ("SignedSpecifier", "UnsignedSpecifier")))
-    kind = WORDS[plain]
-    if "UnsignedSpecifier" in words:
-        return types.integer("U" + kind)
-    return types.integer("SChar" if kind == "Char" and "SignedSpecifier" in words else kind)
-
-
-class Judge:
+class Judge(Declarations):
     """Goes over a unit once, from its first token to its last one."""
 
     rows = Expressions
     notes = Found
 
-    def __init__(self):
-        self.found = self.notes()
-        self.expressions = self.rows(self.found, self)
-        # Declarators by their tokens; the types of those with linkage by their names; the typedefs of each open scope
-        self.declared = {}
-        self.linked = {}
-        self.typedefs = [{}]
+    def __init__(self, hidden=None):
+        found = self.notes()
+        self.start(found, self.rows(found, self), hidden or {})
+        self.around = Around(found)
         self.result = None
         self.is_in_function = False
+        self.statements = {
+            "Declaration": self.declared_in_body, "CompoundStatement": self.body, "ReturnStatement": self.returned,
+            "IfStatement": self.chosen, "SwitchStatement": self.switch, "WhileStatement": self.loop, "DoStatement": self.do,
+            "ForStatement": self.for_loop, "LabelStatement": self.label, "CaseStatement": self.case,
+            "DefaultStatement": self.default, "GotoStatement": self.goto, "BreakStatement": self.leaves,
+            "ContinueStatement": self.leaves, "StaticAssertion": lambda node, _: self.assertion(node),
+        }
 
     def not_built(self, node):
         return NotBuilt(node.kind)
@@ -121,203 +72,162 @@ class Judge:
                 self.definition(part)
             else:
                 self.item(part, True)
+        self.end()
         return self.found
-
-    # Types
-
-    def specified(self, node, identity):
-        """The type that specifiers say, or None."""
-        words, of = [], None
-        for _, part in node.parts:
-            if part.kind in trees.TYPE_WORDS.values():
-                words.append(part.kind)
-            elif part.kind == "TypedefName":
-                of = self.declared[part.number].type
-            elif part.kind == "TypeofType":
-                of = self.named_type(part.parts[0][1])
-            elif part.kind == "TypeofExpression":
-                fact = self.expressions.fact(part.parts[0][1], False)
-                of = fact and fact.type
-            elif part.kind in trees.TAGGED.values():
-                raise NotBuilt(part.kind)
-        of = type_of_words(words) if words else of
-        return with_attributes(with_qualifiers(of, node), lists_of(node), identity)
-
-    def derived(self, of, node, identity):
-        """The type that a declarator makes of one, or None."""
-        for _, part in node.parts:
-            if part.kind == "PointerDeclarator":
-                of = of and with_attributes(with_qualifiers(types.pointer(of), part), lists_of(part), identity)
-            elif part.kind == "ArrayDeclarator":
-                of = self.array(of, part)
-            elif part.kind == "FunctionDeclarator":
-                of = self.function(of, part)
-            else:
-                of = with_attributes(of, [each for _, each in part.parts], identity)
-        return of
-
-    def array(self, element, node):
-        length = None
-        for _, size in node.parts:
-            fact = self.expressions.value(size, False)
-            if fact is None or fact.is_void():
-                self.expressions.used(size, fact)
-                return None
-            if fact.constant is None or fact.constant.number < 0:
-                raise NotBuilt("a length")
-            length = fact.constant.number
-        if element is None:
-            return None
-        if element.form in ("void", "function") or not types.is_complete(element):
-            raise NotBuilt("an element")
-        of = types.array(element, length)
-        if length is not None and types.size(of) > MOST_BYTES:
-            self.found.limits.append(node.at)
-        return of
-
-    def function(self, result, node):
-        parameters = [part for _, part in node.parts if part.kind == "Parameter"]
-        takes_more = len(parameters) < len(node.parts)
-        found = [self.parameter(each) for each in parameters]
-        if len(found) == 1 and found[0] is types.VOID and len(parameters[0].parts) == 1:
-            found = []
-        if types.VOID in [each and types.simplest(each) for each in found]:
-            raise NotBuilt("a parameter of type void")
-        if result is None or None in found:
-            return None
-        if result.form in ("array", "function"):
-            raise NotBuilt("a result")
-        return types.function(result, tuple(found), takes_more)
-
-    def parameter(self, node):
-        """The type of a parameter, whose name is declared."""
-        (_, specifiers), *parts = node.parts
-        of, name = self.specified(specifiers, node.at), None
-        for _, part in parts:
-            if part.kind == "Declarator":
-                of, name = self.derived(of, part, node.at), part
-        of = with_attributes(of, lists_of(node), node.at)
-        if name is not None and name.name:
-            self.found.names.setdefault(node.at, name.name)
-            self.declared[name.at] = Declared(of and self.parameter_object(of), None, has(specifiers, "RegisterSpecifier"))
-        return of and types.parameter_of(of)
-
-    def parameter_object(self, declared):
-        """The type of the object that a parameter is."""
-        return types.parameter_of(declared)
-
-    def named_type(self, node):
-        """The type that a type name names, or None."""
-        of = self.specified(node.parts[0][1], node.at)
-        for _, declarator in node.parts[1:]:
-            of = self.derived(of, declarator, node.at)
-        return of
-
-    def is_forced(self, node):
-        """Whether a type name has `force` among its specifiers, behind a star or behind its declarator."""
-        holders = [node.parts[0][1], *(part for _, declarator in node.parts[1:] for _, part in declarator.parts)]
-        return any(attributes(lists_of(holder)).force for holder in holders if holder.kind != "FunctionDeclarator")
-
-    # Declarations
-
-    def declaration(self, node, is_file):
-        (_, specifiers), *parts = node.parts
-        base = self.specified(specifiers, node.at)
-        leading = ()
-        while parts:
-            (_, part), *parts = parts
-            if part.kind == "LeadingAttributes":
-                leading = [each for _, each in part.parts]
-                continue
-            if part.kind != "Declarator":
-                raise NotBuilt(part.kind)
-            lists = [*leading]
-            while parts and parts[0][1].kind == "AttributeList":
-                lists.append(parts.pop(0)[1])
-            of = with_attributes(self.derived(base, part, node.at), lists, node.at)
-            self.declare(node, specifiers, part, of, is_file)
-            leading = ()
-
-    def declare(self, node, specifiers, declarator, of, is_file):
-        """A declarator declares its name."""
-        name = declarator.name
-        self.found.names.setdefault(node.at, name)
-        if has(specifiers, "TypedefSpecifier"):
-            self.declared[declarator.at] = Declared(of and self.typedef(declarator, of), None, False)
-            return
-        is_function = of is not None and of.form == "function"
-        is_linked = is_file or has(specifiers, "ExternSpecifier") or is_function
-        self.declared[declarator.at] = Declared(of, name if is_linked else None, has(specifiers, "RegisterSpecifier"))
-        if is_linked and of is not None:
-            self.link(declarator, of)
-
-    def typedef(self, declarator, of):
-        """The type of a typedef, or None where the first of its name in the scope has another one."""
-        if self.typedefs[-1].setdefault(declarator.name, of) is of:
-            return of
-        return self.found.breaks(41, declarator.at, declarator.name)
-
-    def link(self, declarator, of):
-        """A name with linkage is declared, perhaps again."""
-        earlier = self.linked.setdefault(declarator.name, [])
-        other = next((each for each in earlier if not types.agree(each, of)), None)
-        if other is not None:
-            self.found.fails("A7", declarator.at, other, of, word=declarator.name)
-        earlier.append(of)
-
-    def type_of_linked(self, name):
-        """The type of the first declaration so far that is known, with a length that a later one has."""
-        first, *later = self.linked[name]
-        if first.form != "array" or first.length is not None:
-            return first
-        lengths = [each.length for each in later if each.form == "array" and types.agree(first, each)]
-        return types.array(first.inner, next((length for length in lengths if length is not None), None))
-
-    def named(self, node):
-        """What is known of the name of an object or a function."""
-        declared = self.declared.get(node.number)
-        if declared is None:
-            raise NotBuilt("an enumerator")
-        if declared.type is None:
-            return None
-        of = declared.type if declared.linked is None else self.type_of_linked(declared.linked)
-        return Fact(of, is_place=True, register=declared.register)
 
     # Statements
 
     def definition(self, node):
-        (_, specifiers), (_, declarator), *parts = node.parts
-        *lists, body = [part for _, part in parts]
-        of = with_attributes(self.derived(self.specified(specifiers, node.at), declarator, node.at), lists, node.at)
-        self.declare(node, specifiers, declarator, of, True)
-        self.result, self.is_in_function = of and of.inner, True
-        self.body(body, True)
+        self.result, own = self.defined_function(node)
+        self.is_in_function, self.around.labels = True, Labels()
+        self.scopes.append(Scope())
+        self.declares_parameters(own)
+        self.items(node.parts[-1][1], True)
+        self.scopes.pop()
+        self.around.leave_labels()
         self.is_in_function = False
 
     def body(self, node, is_evaluated):
         """A body, and what is known of its last value, as a statement expression has it."""
-        self.typedefs.append({})
+        self.scopes.append(Scope())
+        last = self.items(node, is_evaluated)
+        self.scopes.pop()
+        return last
+
+    def items(self, node, is_evaluated):
         last = Fact(types.VOID)
         for _, part in node.parts:
             value = self.item(part, is_evaluated)
             is_value = part.kind == "ExpressionStatement" and part.parts
             last = value if is_value else Fact(types.VOID)
-        self.typedefs.pop()
         return last and Fact(last.type, fouled=last.fouled)
+
+    def statement_expression(self, node, is_evaluated):
+        """The value of the body of a statement expression; outside of every function it holds its labels."""
+        is_outermost = self.around.labels is None
+        if is_outermost:
+            self.around.labels = Labels()
+        self.around.stack.append(Inside())
+        last = self.body(node, is_evaluated)
+        self.around.stack.pop()
+        if is_outermost:
+            self.around.leave_labels()
+        return last
 
     def item(self, node, is_evaluated):
         """A declaration or a statement; the value of an expression statement."""
-        if node.kind == "Declaration":
-            self.declaration(node, len(self.typedefs) == 1)
-        elif node.kind == "CompoundStatement":
-            self.body(node, is_evaluated)
-        elif node.kind == "ReturnStatement":
-            self.returned(node, is_evaluated)
-        elif node.kind == "ExpressionStatement":
+        if node.kind == "ExpressionStatement":
             return self.expressions.value(node.parts[0][1], is_evaluated) if node.parts else None
-        elif node.kind != "EmptyDeclaration":
+        if node.kind in self.statements:
+            self.statements[node.kind](node, is_evaluated)
+        elif node.kind not in ("EmptyDeclaration", "AttributeStatement", "ContextStatement"):
             raise NotBuilt(node.kind)
         return None
+
+    def declared_in_body(self, node, is_evaluated):
+        self.declaration(node)
+
+    def within(self, around, node, is_evaluated):
+        """A statement within a loop or a switch."""
+        self.around.stack.append(around)
+        self.item(node, is_evaluated)
+        self.around.stack.pop()
+
+    def condition(self, node, token, is_evaluated):
+        """A condition, which is tested at a token."""
+        value = self.expressions.value(node, is_evaluated)
+        if value is None:
+            return
+        if value.is_void():
+            self.found.refuses(9, node.at)
+        elif value.type.is_aggregate():
+            self.found.refuses(13, node.at)
+        else:
+            self.expressions.tests(token, (value,))
+
+    def chosen(self, node, is_evaluated):
+        (_, condition), *parts = node.parts
+        self.condition(condition, node.at, is_evaluated)
+        for _, part in parts:
+            self.item(part, is_evaluated)
+
+    def loop(self, node, is_evaluated):
+        (_, condition), (_, part) = node.parts
+        self.condition(condition, node.at, is_evaluated)
+        self.within(Loop(), part, is_evaluated)
+
+    def do(self, node, is_evaluated):
+        (_, part), (_, condition) = node.parts
+        if part.kind != "CompoundStatement":
+            self.found.fails("S5", node.at)
+        self.within(Loop(), part, is_evaluated)
+        self.condition(condition, node.at, is_evaluated)
+
+    def for_loop(self, node, is_evaluated):
+        begin, condition, step, part = (part for _, part in node.parts)
+        self.scopes.append(Scope())
+        if begin.kind == "Declaration":
+            self.declaration(begin)
+        elif begin.kind != "OmittedExpression":
+            self.expressions.value(begin, is_evaluated)
+        if condition.kind != "OmittedExpression":
+            self.condition(condition, node.at, is_evaluated)
+        if step.kind != "OmittedExpression":
+            self.expressions.value(step, is_evaluated)
+        self.within(Loop(), part, is_evaluated)
+        self.scopes.pop()
+
+    def switch(self, node, is_evaluated):
+        (_, condition), (_, part) = node.parts
+        value = self.expressions.value(condition, is_evaluated)
+        if value is not None and value.is_void():
+            self.found.refuses(9, condition.at)
+        elif value is not None and value.type.form != "integer":
+            self.found.refuses(14, condition.at)
+        elif value is not None:
+            self.expressions.tests(node.at, (value,))
+        self.within(Switch(value), part, is_evaluated)
+
+    def case(self, node, is_evaluated):
+        (_, label), (_, part) = node.parts
+        value = self.expressions.value(label, False)
+        switch = self.around.switch(node.at)
+        if value is not None and value.is_void():
+            self.found.refuses(9, label.at)
+        elif value is not None and (value.type.form != "integer" or value.constant is None):
+            self.found.refuses(15, label.at)
+        elif value is not None:
+            self.labelled(node.at, label.at, value, switch)
+        self.item(part, is_evaluated)
+
+    def labelled(self, token, at, value, switch):
+        """A constant label meets the value of its switch, and the labels before it."""
+        self.expressions.tests(token, (value,))
+        if switch is None or switch.value is None:
+            return
+        self.expressions.meeting(token, value, switch.value, "B6")
+        number = switch.number(value.constant)
+        if number in switch.numbers:
+            self.found.refuses(16, at)
+        switch.numbers.add(number)
+
+    def default(self, node, is_evaluated):
+        switch = self.around.switch(node.at)
+        if switch is not None and switch.has_default:
+            self.found.refuses(17, node.at)
+        if switch is not None:
+            switch.has_default = True
+        self.item(node.parts[0][1], is_evaluated)
+
+    def label(self, node, is_evaluated):
+        self.around.label(node.at, node.name)
+        self.item(node.parts[0][1], is_evaluated)
+
+    def goto(self, node, is_evaluated):
+        self.around.goto(node.at, node.name)
+
+    def leaves(self, node, is_evaluated):
+        self.around.jump(node.at, (Loop,) if node.kind == "ContinueStatement" else (Loop, Switch))
 
     def returned(self, node, is_evaluated):
         value = self.expressions.value(node.parts[0][1], is_evaluated) if node.parts else None
@@ -325,16 +235,20 @@ class Judge:
             return
         if not node.parts:
             if self.result.form != "void":
-                self.found.breaks(24, node.at)
+                self.found.refuses(24, node.at)
+        elif value is None:
+            return
         elif self.result.form == "void":
-            if value is not None and not value.is_void():
-                self.found.breaks(23, node.at)
-        elif self.expressions.used(node.parts[0][1], value):
+            if value.is_void():
+                self.found.fails("S4", node.at)
+            else:
+                self.found.refuses(23, node.at)
+        elif value.is_void():
+            self.found.refuses(9, node.parts[0][1].at)
+        elif pairs.are_unlike(value.type, self.result):
+            self.found.refuses(11, node.at)
+        else:
             self.expressions.converts(value, self.result, node.at, b"return")
-
-
-def has(specifiers, kind):
-    return any(part.kind == kind for _, part in specifiers.parts)
 
 
 def parse_refusal(unit):
@@ -355,7 +269,8 @@ def judged(unit, classes):
     if refused is not None:
         return refused
     builder = Indexed(unit.tokens)
-    found = Judge().unit(builder.unit())
+    root = builder.unit()
+    found = Judge(builder.hidden).unit(root)
     refusal = found.refusal()
     if refusal is not None:
         at, text = refusal

@@ -17,6 +17,8 @@ class Fact:
     # It is a null pointer constant of type `void *`
     null: bool = False
     register: bool = False
+    # It is a bit-field of this width
+    width: int | None = None
 
     def is_zero(self):
         """It is the constant 0, which is plain."""
@@ -29,6 +31,11 @@ class Fact:
         return self.type.form == "pointer"
 
 
+def are_unlike(*of):
+    """Whether an aggregate is among these types, and another type."""
+    return any(each.is_aggregate() for each in of) and len({types.bare(types.value_of(each)) for each in of}) > 1
+
+
 def conversion(value, to):
     """The rule that fails where a value becomes one of a type, or None."""
     if value.is_pointer() and to.form == "pointer":
@@ -37,6 +44,8 @@ def conversion(value, to):
         if types.mix_spaces(value.type.inner, to.inner):
             return "A1"
         return "A2" if types.are_others(value.type.inner, to.inner) else None
+    if to.is_aggregate():
+        return None
     if to.form == "pointer":
         return "N1" if value.is_zero() else "A2"
     if value.is_pointer():

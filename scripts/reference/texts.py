@@ -18,19 +18,34 @@ RULES = {
     "B3": (10, b"bitwise", b"incorrect type in %b (different restricted types)"),
     "B4": (11, b"bitwise", b"cast %b"),
     "B5": (12, b"bitwise", b"fouled restricted %b compared or tested"),
+    "B6": (13, b"bitwise", b"case label of a different restricted type"),
     "B7": (14, b"bitwise", b"bad assignment operator on restricted %b"),
     "N1": (18, b"non-pointer-null", b"using plain integer as NULL pointer"),
+    "S1": (19, b"decl", b"symbol '%b' was not declared. Should it be static?"),
+    "S2": (20, b"shadow", b"symbol '%b' shadows an earlier one"),
+    "S4": (22, b"return-void", b"returning void-valued expression"),
+    "S5": (23, b"do-while", b"do-while statement is not a compound statement"),
+    "S6": (24, b"strict-prototypes", b"empty parameter list taken as (void)"),
+    "S7": (25, b"one-bit-signed-bitfield", b"one-bit signed bit-field"),
     "S8": (26, b"cast-truncate", b"cast truncates constant (%b)"),
 }
 EXPECTED = {"A1", "A2", "A7", "B3"}
-BESIDE = {"A3", "B2"}
+BESIDE = {"A3", "B2", "B6"}
 NAMED = {"B1", "B5", "B7"}
 
 # Each constraint by its number; its error is 60 more
 CONSTRAINTS = {
     1: b"cannot dereference this type", 2: b"cannot take this address", 3: b"not a modifiable place", 4: b"wrong operand types",
-    5: b"called object is not a function", 6: b"wrong number of arguments", 9: b"void value used", 10: b"incomplete type",
-    12: b"bad cast", 23: b"value returned from void function", 24: b"return without value", 41: b"typedef '%b' has another type",
+    5: b"called object is not a function", 6: b"wrong number of arguments", 7: b"no such member '%b'",
+    8: b"not a structure or union", 9: b"void value used", 10: b"incomplete type", 11: b"incompatible types", 12: b"bad cast",
+    13: b"condition is not scalar", 14: b"switch on a value that is not an integer", 15: b"case label is not constant",
+    16: b"case value used twice", 17: b"two default labels", 18: b"label outside switch", 19: b"jump outside loop",
+    20: b"label '%b' is not defined", 21: b"label '%b' defined twice", 22: b"jump into statement expression",
+    23: b"value returned from void function", 24: b"return without value", 25: b"unsupported: variable-length array",
+    26: b"negative array size", 27: b"bad element type", 28: b"bad result type", 29: b"bad bit-field",
+    30: b"unsupported: restricted bit-field", 31: b"bitwise on a type that is not an integer", 32: b"enumerator is not constant",
+    33: b"enumerator out of range", 34: b"member '%b' declared twice", 35: b"tag '%b' redeclared", 36: b"'%b' defined twice",
+    37: b"static assertion failed", 40: b"bad designator", 41: b"typedef '%b' has another type",
 }
 
 
@@ -81,7 +96,11 @@ class Found:
         self.failures.setdefault(failure.order(), failure)
 
     def breaks(self, number, token, name=b""):
-        """Notes a broken constraint; nothing is known of the node that is judged."""
+        """Notes a constraint that an expression breaks; nothing is known of the node that is judged."""
+        self.broken.append((token, number, name))
+
+    def refuses(self, number, token, name=b""):
+        """The same of a declaration or a statement."""
         self.broken.append((token, number, name))
 
     def refusal(self):

@@ -75,8 +75,10 @@ def lines(unit, tokens, judge):
 
 def typed(unit):
     """The lines of a preprocessed unit."""
-    builder, judge = Indexed(unit.tokens), Typed()
-    judge.unit(builder.unit())
+    builder = Indexed(unit.tokens)
+    root = builder.unit()
+    judge = Typed(builder.hidden)
+    judge.unit(root)
     return b"".join(lines(unit, builder.tokens, judge))
 
 

@@ -54,9 +54,19 @@ class Marks(NamedTuple):
 NONE = Marks()
 
 
+class Aggregate:
+    """A structure or a union, by the tag that names it; what its body says joins at the body's end."""
+
+    def __init__(self, words):
+        self.words = words
+        # The way to each member by its name, through members without one; None before the body's end
+        self.members = None
+        self.size, self.alignment, self.has_const = 0, 1, False
+
+
 @dataclass(frozen=True, eq=False)
 class Type:
-    """A type: `void`, an `integer`, a `pointer`, an `array` or a `function`."""
+    """A type: `void`, an `integer`, a `pointer`, an `array`, a `function` or an `aggregate`."""
 
     form: str
     marks: Marks
@@ -68,6 +78,7 @@ class Type:
     length: int | None
     parameters: tuple
     takes_more: bool
+    aggregate: Aggregate | None
 
     def is_restricted(self):
         return self.identity is not None
@@ -84,6 +95,9 @@ class Type:
     def is_scalar(self):
         return self.form in ("integer", "pointer")
 
+    def is_aggregate(self):
+        return self.form == "aggregate"
+
 
 made = cache(Type)
 
@@ -94,23 +108,27 @@ def changed(of, **parts):
     return made(*whole.values())
 
 
-VOID = made("void", NONE, "", None, None, None, (), False)
+VOID = made("void", NONE, "", None, None, None, (), False, None)
 
 
 def integer(kind, identity=None):
-    return made("integer", NONE, kind, identity, None, None, (), False)
+    return made("integer", NONE, kind, identity, None, None, (), False, None)
 
 
 def pointer(target, marks=NONE):
-    return made("pointer", marks, "", None, target, None, (), False)
+    return made("pointer", marks, "", None, target, None, (), False, None)
 
 
 def array(element, length):
-    return made("array", NONE, "", None, element, length, (), False)
+    return made("array", NONE, "", None, element, length, (), False, None)
 
 
 def function(result, parameters, takes_more):
-    return made("function", NONE, "", None, result, None, parameters, takes_more)
+    return made("function", NONE, "", None, result, None, parameters, takes_more, None)
+
+
+def aggregate(of):
+    return made("aggregate", NONE, "", None, None, None, (), False, of)
 
 
 INT, LONG, SIZE = integer("Int"), integer("Long"), integer("ULong")
@@ -123,6 +141,13 @@ def marked(of, marks):
     if of.form == "function":
         return of
     return changed(of, marks=of.marks.with_more(marks))
+
+
+def of_member(of, place):
+    """The type of a member of a place with these marks: a space of its own stays."""
+    if of.form == "array":
+        return array(of_member(of.inner, place), of.length)
+    return changed(of, marks=place.with_more(of.marks))
 
 
 def each_level(of, change):
@@ -165,9 +190,31 @@ def parameter_of(declared):
     return changed(declared, marks=declared.marks._replace(const=False, volatile=False))
 
 
+def loaded(of, width):
+    """The type of the value of a place, which may be a bit-field of this width (C11 6.3.1.1 p2)."""
+    if width is None or KINDS[of.kind].rank > KINDS["Int"].rank:
+        return value_of(of)
+    is_wide = of.kind == "UInt" and width == KINDS["UInt"].bits
+    return integer("UInt" if is_wide else "Int")
+
+
 def is_complete(of):
     """It has a size, or is taken as of size 1."""
+    if of.is_aggregate():
+        return of.aggregate.members is not None
     return of.form != "array" or (of.length is not None and is_complete(of.inner))
+
+
+def is_complete_object(of):
+    """It has a size, and is neither void nor a function."""
+    return of.form not in ("void", "function") and is_complete(of)
+
+
+def has_const_member(of):
+    """A member is const, or one of a member or of an element (C11 6.3.2.1 p1)."""
+    if of.form == "array":
+        return has_const_member(of.inner)
+    return of.is_aggregate() and of.aggregate.has_const
 
 
 def size(of):
@@ -176,10 +223,14 @@ def size(of):
         return KINDS[of.kind].size
     if of.form == "array":
         return of.length * size(of.inner)
+    if of.is_aggregate():
+        return of.aggregate.size
     return 8 if of.form == "pointer" else 1
 
 
 def alignment(of):
+    if of.is_aggregate():
+        return of.aggregate.alignment
     return alignment(of.inner) if of.form == "array" else size(of)
 
 
@@ -231,6 +282,8 @@ def words_of(marks):
 def base_spelled(of, names):
     if of.form == "void":
         return b"void"
+    if of.is_aggregate():
+        return of.aggregate.words
     return b"restricted " + restricted_name(of, names) if of.is_restricted() else KINDS[of.kind].words
 
 

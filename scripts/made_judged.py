@@ -119,6 +119,8 @@ class Maker:
         self.slip = chance.choice([0, 0, 20, 10, 10, 8])
         self.scopes = [list(KNOWN)]
         self.made = 0
+        # The shape that the function gives whose body is made
+        self.result = "void"
 
     def often(self, percent):
         return self.chance.randrange(100) < percent
@@ -436,7 +438,7 @@ class Maker:
         return f"return {written(value, False)} ;"
 
     def definition(self):
-        shape = self.chance.choice(["void", "void", "int", "p"])
+        shape = self.result = self.chance.choice(["void", "void", "int", "p"])
         result = {"void": ["void"], "int": ["int", "le32", "le16", "char", "_Bool"], "p": ["int *", "int USER *", "char *"]}[shape]
         parameters = []
         self.scopes.append([])

@@ -405,10 +405,11 @@ class Declarations:
             self.found.fails("S6", node.at)
         parameters = [part for _, part in node.parts if part.kind == "Parameter"]
         self.scopes.append(Scope(is_prototype=True))
-        found = [self.parameter(each) for each in parameters]
+        declared = [self.parameter(each) for each in parameters]
+        found = [of and types.parameter_of(of) for of in declared]
         self.scopes.pop()
         self.parameters[node.at] = list(zip(parameters, found))
-        is_nothing = len(node.parts) == 1 and len(found) == 1 and found[0] is types.VOID and len(parameters[0].parts) == 1
+        is_nothing = len(node.parts) == 1 and declared == [types.VOID] and len(parameters[0].parts) == 1
         found = [] if is_nothing else found
         for each, of in zip(parameters, found):
             if of is not None and of.form == "void":
@@ -420,7 +421,7 @@ class Declarations:
         return types.function(result, tuple(found), len(parameters) < len(node.parts))
 
     def parameter(self, node):
-        """The type of a parameter, whose name is declared."""
+        """The type of a parameter as it is written, whose name is declared."""
         (_, specifiers), *parts = node.parts
         of, name = self.specified(specifiers, node.at), None
         for _, part in parts:
@@ -430,7 +431,7 @@ class Declarations:
         if name is not None and name.name:
             self.found.names.setdefault(node.at, name.name)
             self.declared[name.at] = Declared(of and self.parameter_object(of), None, has(specifiers, "RegisterSpecifier"))
-        return of and types.parameter_of(of)
+        return of
 
     def parameter_object(self, declared):
         """The type of the object that a parameter is."""
@@ -453,8 +454,9 @@ class Declarations:
 
     def assertion(self, node):
         """A static assertion."""
-        part = node.parts[0][1]
+        part, text = (part for _, part in node.parts)
         fact = self.expressions.value(part, False)
+        self.expressions.fact(text, False)
         if fact is not None and (fact.type.form != "integer" or fact.constant is None or fact.constant.number == 0):
             self.found.refuses(37, node.at)
 

@@ -36,7 +36,7 @@ class Placing:
             bit, bits = up(bit, size), 0
         else:
             bits = member.width
-            alignment = max(natural if member.name else 1, member.alignment)
+            alignment = max(natural, member.alignment) if member.name else 1
             bit = up(bit, member.alignment * 8)
             if bit // size != (bit + bits - 1) // size:
                 bit = up(bit, size)

@@ -269,7 +269,7 @@ class Declarations:
             member = self.bit_field(member, width)
         if of is not None and of.form == "array" and of.length is None:
             lengthless.append((token, member))
-        elif of is not None and not types.is_complete_object(of):
+        elif of is not None and not types.is_complete_object(of) and (member.name or width is None):
             self.found.refuses(10, token)
             member = member._replace(type=None)
         body.put(member)
@@ -409,7 +409,7 @@ class Declarations:
         found = [of and types.parameter_of(of) for of in declared]
         self.scopes.pop()
         self.parameters[node.at] = list(zip(parameters, found))
-        is_nothing = len(node.parts) == 1 and declared == [types.VOID] and len(parameters[0].parts) == 1
+        is_nothing = len(node.parts) == 1 and declared == [types.VOID] and is_bare(parameters[0])
         found = [] if is_nothing else found
         for each, of in zip(parameters, found):
             if of is not None and of.form == "void":
@@ -577,6 +577,11 @@ def own_lists(specifiers, declarator, lists):
     """The lists that say something of the declared function or object itself."""
     inside = [each for _, part in declarator.parts if part.kind == "ParenthesizedAttributes" for _, each in part.parts]
     return [*all_lists(specifiers), *inside, *lists]
+
+
+def is_bare(parameter):
+    """It is nothing but specifiers, and no register's."""
+    return len(parameter.parts) == 1 and not has(parameter.parts[0][1], "RegisterSpecifier")
 
 
 def parameter_token(node):

@@ -47,6 +47,15 @@ class Listed(Expressions):
         self.done.append(Row(node.at, last, min(self.found.open.pop(), default=None), fact))
         return fact
 
+    def loaded(self, node, fact, is_evaluated):
+        """A place that can't be loaded is told in its own row."""
+        self.found.open.append([])
+        value = super().loaded(node, fact, is_evaluated)
+        broken = self.found.open.pop()
+        if broken:
+            self.done[-1] = self.done[-1]._replace(broken=min(broken), fact=None)
+        return value
+
     def in_order(self):
         """The rows as they end in the text: the lengths of an array of arrays are done from the last one on."""
         return sorted(self.done, key=lambda row: row.last)

@@ -360,6 +360,39 @@ def declarations(count):
     return b"".join(b"int *n%06d; " % number for number in range(count))
 
 
+def used_members(count):
+    """A structure of so many members, each used by its name."""
+    members = b"".join(b"int m%06d; " % number for number in range(count))
+    return b"struct { " + members + b"} x; void f(void) { " + b"".join(b"x.m%06d; " % number for number in range(count)) + b"}"
+
+
+def structures_of_pointers(count):
+    """So many structures, each with a pointer to the one before."""
+    return b"".join(b"struct s%d { struct s%d *p; }; " % (number + 1, number) for number in range(count))
+
+
+def typedefs_of_functions(count):
+    """So many types of functions, each of the one before."""
+    return b"typedef int t0(int); " + b"".join(b"typedef int t%d(t%d); " % (number, number - 1) for number in range(1, count))
+
+
+def cases(count):
+    """A switch with so many cases."""
+    return b"void f(int a) { switch (a) { " + b"".join(b"case %d: ; " % number for number in range(count)) + b"} }"
+
+
+def cases_of_nested_switches(count):
+    """So many cases, a hundred of each of the switches that stand in one another."""
+    labels = b"".join(b"case %d: " % number for number in range(100))
+    return b"void f(int a) { " + (b"switch (a) " + labels) * (count // 100) + b"; }"
+
+
+def labels_across(count):
+    """So many labels, and as many jumps to them, the first one to the last."""
+    lines = (b"l%06d: goto l%06d; " % (number, count - 1 - number) for number in range(count))
+    return b"void f(void) { " + b"".join(lines) + b"}"
+
+
 def functions_of_parameters(count):
     """So many functions that each use a parameter and the function before."""
     front = b"int f0(int a) { return a; } "

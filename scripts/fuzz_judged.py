@@ -17,16 +17,27 @@ import tempfile
 
 import refusals
 from made_judged import Maker
+from made_whole import Whole
 from reference import judging, typed
 from shrinking import shrunk
 
 COMPILER = "gcc"
-CLASSES = [b"-Wcast-to-as", b"-Wcast-truncate", b"-Wno-bitwise", b"-Wno-address-space", b"-Wno-non-pointer-null"]
+# What is off, and what is on by default
+OFF = [
+    b"-Wcast-to-as", b"-Wcast-truncate", b"-Wdecl", b"-Wshadow", b"-Wreturn-void", b"-Wdo-while", b"-Wstrict-prototypes",
+    b"-Wone-bit-signed-bitfield",
+]
+ON = [b"-Wno-bitwise", b"-Wno-address-space", b"-Wno-non-pointer-null"]
 
 
-def maker(chance, is_plain):
-    """A maker of units, one in four without operators."""
-    return Maker(chance, has_operators=chance.randrange(4) > 0, is_plain=is_plain)
+def plain_maker(chance):
+    """A maker of units for a compiler that knows no marks, one in four without operators."""
+    return Maker(chance, has_operators=chance.randrange(4) > 0, is_plain=True)
+
+
+def maker(chance):
+    """A maker of units, half of which have all forms; of the others one in four has no operators."""
+    return Whole(chance) if chance.randrange(2) else Maker(chance, has_operators=chance.randrange(4) > 0)
 
 
 def words_of(chance):
@@ -34,8 +45,8 @@ def words_of(chance):
     if chance.randrange(4) == 0:
         return [b"-types", b"t.c"]
     if chance.randrange(4):
-        return [*CLASSES[:2], b"t.c"]
-    return [word for word in CLASSES if chance.randrange(3) == 0] + [b"t.c"]
+        return [*OFF, b"t.c"]
+    return [word for word in OFF + ON if chance.randrange(3) == 0] + [b"t.c"]
 
 
 def put(folder, text):
@@ -90,7 +101,7 @@ def check_judged(program, folder, chance, count):
         print(f"fuzz: no program {program}: what the judge says isn't compared")
         return True
     for number in range(count):
-        text, words = maker(chance, False).unit().encode(), words_of(chance)
+        text, words = maker(chance).unit().encode(), words_of(chance)
         differs = judged_differs(program, words, folder)
         if differs(text):
             small = shrunk(text, differs)
@@ -108,7 +119,7 @@ def check_refusals(folder, chance, count):
         print(f"fuzz: no {COMPILER}: what it refuses isn't compared")
         return True
     for number in range(count):
-        text = maker(chance, True).unit().encode()
+        text = plain_maker(chance).unit().encode()
         differs = refusal_differs(folder)
         if differs(text):
             small = shrunk(text, differs)

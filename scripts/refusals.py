@@ -43,7 +43,7 @@ class Differing(Expressions):
     def converts(self, value, to, token, word, part=0):
         if to.form == "pointer" and value.type.is_plain("Bool"):
             self.found.breaks(4, token)
-        super().converts(value, to, token, word, part)
+        return super().converts(value, to, token, word, part)
 
     def difference(self, node, left, right):
         if not left.is_pointer() or not pairs.can_be_subtracted(left, right):
@@ -80,13 +80,13 @@ class DifferingJudge(judging.Judge):
     def parameter_object(self, declared):
         return types.value_of(declared) if declared.form in ("array", "function") else declared
 
-    def link(self, declarator, of):
-        for earlier in self.linked.get(declarator.name, []):
+    def link(self, declarator, of, sums):
+        for earlier, _ in self.linked.get(declarator.name, []):
             lengths = {each.length for each in (earlier, of)} if earlier.form == of.form == "array" else ()
             known = types.changed(of, length=earlier.length) if None in lengths else of
             if known is not earlier:
                 self.found.breaks(36, declarator.at)
-        super().link(declarator, of)
+        super().link(declarator, of, sums)
 
 
 def is_refused(text):

@@ -100,6 +100,13 @@ OPERATORS = 600_000
 CONDITIONALS = 400_000
 PARENTHESES = 4_000
 STATEMENTS = 3_600
+# How deep bodies, `do`, `if` and structures stand in one another; how long chains of loops, of switches and of `else if` are.
+BODIES = 31_900
+LOOPS = 13_000
+CONDITIONS_IN_ONE_ANOTHER = 65_000
+STRUCTURES = 12_900
+BRANCHES = 100_000
+ALTERNATIVES = 280_000
 
 # What chains stand behind, all in the first line.
 UNIT = "typedef unsigned short __attribute__((bitwise)) t; void f(int a, t h, int *p, char *s, char c) { "
@@ -111,6 +118,7 @@ CHANGED = ("warning: bad assignment operator on restricted t",)
 STORED = ("warning: incorrect type in assignment (different restricted types)", "   expected int", "   got restricted t")
 CAST = ("warning: cast of restricted t",)
 UNLIKE = ("warning: incompatible types in conditional", "   left int", "   right int *")
+DOUBLE = ("error[76]: case value used twice",)
 WRONG = ("error[64]: wrong operand types",)
 POINTER = ("warning: incorrect type in assignment (different base types)", "   expected int *")
 NULL = ("warning: using plain integer as NULL pointer",)
@@ -152,6 +160,11 @@ class Chain(NamedTuple):
         return 2 if self.texts[0].startswith("error") else 1
 
 
+def statements(name, link, count, back=""):
+    """Statements in one another, of which the innermost one fails."""
+    return Chain(f"{name} in one another", "", link, count, "p = s;", (*POINTER, "   got char *"), last=len(link) + 2, back=back)
+
+
 def operands(operators, end, texts):
     """Chains of operands with these operators between, of which the last operator fails."""
     return [Chain(f"operands of {it}", "", f"a {it} ", OPERATORS, end, texts, last=2) for it in operators.split()]
@@ -189,6 +202,15 @@ CHAINS = (
     Chain("parentheses around 0", "p = ", "(", PARENTHESES, "1 - 1", NULL, back=")", at=2),
     Chain("statement expressions", "p = ", "({ ", STATEMENTS, "c", (*POINTER, "   got char"), back="; })", at=2),
     Chain("a fouled value in statements", "!", "({ ", STATEMENTS, "~h", TESTED, back="; })"),
+    statements("bodies", "{ ", BODIES, back=" }"),
+    statements("do", "do ", LOOPS, back=" while (a);"),
+    statements("if", "if (a) ", CONDITIONS_IN_ONE_ANOTHER),
+    statements("while", "while (a) ", BRANCHES),
+    statements("for", "for (; a; ) ", BRANCHES),
+    statements("switches", "switch (a) case 1: ", BRANCHES),
+    statements("else if", "if (a) ; else ", ALTERNATIVES),
+    Chain("structures in one another", "", "struct { ", STRUCTURES, "int y;", (), back=" } x;"),
+    Chain("a label of each switch", "switch (a) { case 0: ", "switch (a) case 1: case 2: ", BRANCHES, "case 2: ; }", DOUBLE, last=len("switch (a) case 1: case 2: case ")),
 )
 
 

@@ -306,15 +306,13 @@ class Expressions:
     def changed_place(self, node, part, is_evaluated):
         """What is known of a place that an operator loads and stores to, or None."""
         fact = self.fact(part, is_evaluated)
-        if fact is None:
+        value = Expressions.loaded(self, part, fact, is_evaluated)
+        if value is None:
             return None
-        is_used = self.used(part, fact)
+        is_used = self.used(part, value)
         if not is_modifiable(fact):
             return self.found.breaks(3, node.at)
-        if not is_used:
-            return None
-        self.access(part, fact, is_evaluated)
-        return fact
+        return fact if is_used else None
 
     def is_step_possible(self, node, of):
         """Whether a pointer of this type can be moved: what it points to is complete."""
@@ -506,7 +504,11 @@ class Expressions:
         if is_known and any(arm.is_void() for arm in arms):
             arms_fact = self.void_arms(parts, arms)
             return arms_fact if is_tested else None
-        return self.arms(node, values[0], *arms) if is_tested and is_known else None
+        if not is_known:
+            return None
+        # the arms meet whatever the condition is
+        arms_fact = self.arms(node, values[0] if is_tested else Fact(INT), *arms)
+        return arms_fact if is_tested else None
 
     def void_arms(self, parts, arms):
         """One arm of `?:` is void: the other one has to be, too."""

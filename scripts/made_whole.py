@@ -62,7 +62,9 @@ struct @ { int * a : 3 ; } ;|struct @ { le32 a : 3 ; } ;|struct @ { int a ; stru
 struct @ { _Static_assert ( 0 , "a" ) ; int a ; } ;|typedef int @ ; typedef int USER @ ;|typedef int @ ; typedef const int @ ;
 int @ ( struct unknown ) ;|extern char @ [ 1099511627777 ] ;|extern struct { char a [ 1099511627776 ] , b ; } @ ;|register struct pair @ ; & @ . ma ;
 extern int @ [ sizeof ( struct unknown ) ] ;|struct @ ; extern struct @ @b [ 2 ] ;|union @ { int a ; } ; struct @ { int a ; } ;
-int @ [ x . ma ] ;|int @ [ none ( ) ] ;|enum { @ = none ( ) } ;|struct @ { int a : none ( ) ; } ;|_Static_assert ( none ( ) , "a" ) ;|void * @ [ p ] ;""".replace("\n", "|").split("|")
+int @ [ x . ma ] ;|int @ [ none ( ) ] ;|enum { @ = none ( ) } ;|struct @ { int a : none ( ) ; } ;|_Static_assert ( none ( ) , "a" ) ;|void * @ [ p ] ;
+struct unknown @ [ 2 ] ;|struct @ { struct unknown a [ 2 ] ; } ;|int @ ( void ) ( void ) [ 3 ] ;|int @ [ 3 ] ( void ) [ 2 ] ;|struct @ { int a , b ; struct unknown * a ; } ;
+struct @ { struct @ { int a ; } b ; } ;|enum @ { @b = sizeof ( enum @ { @c } ) } ;|struct @ { int a : 3 ; } @b ; & @b . a ;|struct @ { int a ; struct unknown : 3 ; } ;""".replace("\n", "|").split("|")
 
 
 class Whole(Maker):
@@ -299,12 +301,18 @@ class Whole(Maker):
             f"extern int * USER {name} , SPACE2 * {name}b ; extern int ( USER * {name}c ) ; extern int * {name}c ;",
             f"extern struct unknown {name} ; extern struct unknown {name}b ( struct unknown ) ;",
             f"extern int {name} ( enum {tag} {{ {tag}a , {tag}b }} a ) ;",
+            f"extern void {name} ( void ) {self.context()} ; extern {self.context()} void {name} ( void ) , {self.context()} {name}b ( void ) ;",
+            f"{self.context()} void {name} ( void ) ; extern void ( {self.context()} {name} ) ( void ) ; extern void {name} ( {chance.choice(['void', 'int'])} ) {self.context()} ;",
             f"extern char {name} [ 1099511627776 ] ; extern char {name}b [ {chance.choice(['16', '1099511627776', '1099511627777' if self.slip else '4'])} ] ;",
         ])
 
+    def context(self):
+        chance = self.chance
+        return chance.choice(["", f"__attribute__((context(a, {chance.randrange(2)}, {chance.randrange(2)})))", "__attribute__((context(0, 1), context(1, 0)))"])
+
     def bad(self):
         text = self.chance.choice(BAD).strip().replace("#", self.constant())
-        return text.replace("@b", self.new_name()).replace("@", self.new_name())
+        return text.replace("@b", self.new_name()).replace("@c", self.new_name()).replace("@", self.new_name())
 
     def tentative(self):
         """An object of the file, which is defined."""

@@ -37,7 +37,7 @@ class Placing:
         else:
             bits = member.width
             alignment = max(natural, member.alignment) if member.name else 1
-            bit = up(bit, member.alignment * 8)
+            bit = up(bit, member.alignment * 8) if member.alignment > 1 else bit
             if bit // size != (bit + bits - 1) // size:
                 bit = up(bit, size)
             self.alignment = max(self.alignment, alignment)

@@ -149,6 +149,13 @@ class Declarations:
         self.defined = set()
         self.parameters = {}
 
+    def noted(self, lists):
+        """The numbers of contexts are expressions."""
+        for each in lists:
+            for _, item in each.parts:
+                for _, number in item.parts:
+                    self.expressions.fact(number, False)
+
     def is_at_file_scope(self):
         return len(self.scopes) == 1
 
@@ -157,6 +164,7 @@ class Declarations:
     def with_attributes(self, of, lists, identity):
         """A type with attributes; a restricted type is one of the declaration that begins at a token."""
         found = attributes(lists)
+        self.noted(lists)
         if of is None:
             return None
         if found.bitwise is not None:
@@ -193,6 +201,7 @@ class Declarations:
             lists = lists_of(node)
             self.found.refuses(35, lists[-1].number if lists else node.at + 1, node.name)
             tag = Tag(node.kind, words)
+            self.found.is_unclear = True
         if has_body(node):
             tag.has_body = True
             if node.kind == "EnumSpecifier":
@@ -223,6 +232,7 @@ class Declarations:
         for token, member in lengthless:
             if body.is_union or named < 2 or member is not body.members[-1]:
                 self.found.refuses(10, token)
+                self.found.is_unclear = True
 
     def members(self, body, node, lengthless):
         """The members of one declaration."""
@@ -258,6 +268,7 @@ class Declarations:
         """A name joins those of a body."""
         if name in body.ways:
             self.found.refuses(34, token, name)
+            self.found.is_unclear = True
         body.ways.setdefault(name, token)
 
     def member(self, body, member, width, lengthless):
@@ -272,6 +283,7 @@ class Declarations:
         elif of is not None and not types.is_complete_object(of) and (member.name or width is None):
             self.found.refuses(10, token)
             member = member._replace(type=None)
+        self.found.is_unclear |= member.type is None
         body.put(member)
 
     def bit_field(self, member, width):
@@ -310,6 +322,7 @@ class Declarations:
                 number = None if each.constant is None else each.constant.number
                 found.append((part.at, each))
         if any(each.constant is None for _, each in found):
+            self.declared |= {token: Declared(None, None, False) for token, _ in found}
             return None
         return self.joined(node, found)
 
@@ -559,10 +572,12 @@ class Declarations:
         self.defined.add(declarator.name)
         if of is not None and of.inner.is_aggregate() and not types.is_complete(of.inner):
             self.found.refuses(10, declarator.at)
+            self.found.is_unclear = True
         own = [part for _, part in declarator.parts if part.kind == "FunctionDeclarator"][-1]
         for each, parameter in self.parameters[own.at]:
             if parameter is not None and parameter.is_aggregate() and not types.is_complete(parameter):
                 self.found.refuses(10, parameter_token(each))
+                self.found.is_unclear = True
         return of and of.inner, own
 
     def declares_parameters(self, own):

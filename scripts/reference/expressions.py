@@ -168,7 +168,8 @@ class Expressions:
         fact = self.fact(part, is_evaluated)
         if node.kind == "PointerMember":
             fact = self.loaded(part, fact, is_evaluated)
-        if not self.used(part, fact):
+        # a place of type void isn't used
+        if fact is None or not fact.is_place and not self.used(part, fact):
             return None
         if node.kind == "PointerMember":
             if not fact.is_pointer():

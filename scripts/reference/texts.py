@@ -87,6 +87,8 @@ class Found:
         self.failures = {}
         self.broken = []
         self.limits = []
+        # Something was declared whose types aren't said behind the constraint that it breaks
+        self.is_unclear = False
         # What each token names at which a restricted type may be declared
         self.names = {}
 

@@ -5,7 +5,7 @@ from typing import NamedTuple
 from . import judging, types
 from .commands import line
 from .expressions import Expressions
-from .judging import Indexed, Judge
+from .judging import Indexed, Judge, NotBuilt
 from .pairs import Fact
 from .preprocessing import Unit
 from .texts import Found, constraint_text
@@ -88,6 +88,8 @@ def typed(unit):
     root = builder.unit()
     judge = Typed(builder.hidden)
     judge.unit(root)
+    if judge.found.is_unclear:
+        raise NotBuilt("what stands behind a bad member, tag or definition")
     return b"".join(lines(unit, builder.tokens, judge))
 
 

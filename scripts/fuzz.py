@@ -15,8 +15,8 @@ Random control flow graphs go through FLOWS, which must print the answers that `
 
 Random units by the grammar go through TREES, which must print the tree that a second reader makes of them.
 
-Random expressions over declared objects go through JUDGED, and without their marks through gcc, as `fuzz_judged.py` says, which
-makes those alone.
+Random units of all forms but initializers go through JUDGED, and expressions over declared objects without their marks through gcc,
+as `fuzz_judged.py` says, which makes those alone.
 
 Where a compiler is installed, random macros go through it and through `reference`, and both must come to the same tokens.
 """

@@ -10,7 +10,8 @@ AGGREGATES = """struct pair { int ma; int mb[2]; int mf : 3; int USER mu; };
 struct other { int mz; le16 mh; };
 struct unknown;
 union word { int mi; unsigned char mc[4]; struct { short ml, mg : 5; }; const struct { int me; } md; };
-struct wide { const int mk; char m2 : 2; unsigned m32 : 32; long m40 : 40; _Bool mt : 1; unsigned short m7 : 7; le32 mr; struct pair mp; int SPACE2 *ms; le16 *mq; struct { int mn; union { int mv; int USER mw; }; } NODEREF; int mx[]; };
+struct wide { const int mk; char m2 : 2; unsigned m32 : 32; long m40 : 40; _Bool mt : 1; unsigned short m7 : 7; \
+le32 mr; struct pair mp; int SPACE2 *ms; le16 *mq; struct { int mn; union { int mv; int USER mw; }; } NODEREF; int mx[]; };
 enum num { E0, E1 = 5, E2 = -1 };
 enum big { G0 = 5000000000, G1 };
 enum rest { R0, R1 = (FORCE le32)1, R2 = (FORCE le32)6 };
@@ -39,32 +40,105 @@ VALUES = {
     "other": ["z", "* zp", "* take ( x , 1 )"], "word": ["w1", "* wp"], "wide": ["wd", "* wq", "* ws"], "unknown": ["* no"],
 }
 POINTERS = {
-    "pair": ["xp", "xu", "& x", "& kx", "xs", "* xpp", "& wd . mp", "& ws -> mp", "( xp + 1 )", "( xp = & y )"], "other": ["zp", "& z", "take ( x , 1 )"],
+    "pair": [
+        "xp", "xu", "& x", "& kx", "xs", "* xpp", "& wd . mp", "& ws -> mp", "( xp + 1 )", "( xp = & y )",
+    ], "other": ["zp", "& z", "take ( x , 1 )"],
     "word": ["wp", "& w1"], "wide": ["wq", "& wd", "ws"], "unknown": ["no"],
 }
 ENUMERATORS = ["E0", "E1", "E2", "G0", "G1", "R0", "R1", "R2"]
 ALL_MEMBERS = sorted({name for of in MEMBERS.values() for names_of in of.values() for name in names_of} | {"md", "none_such"})
-KINDS = ["int", "char", "unsigned char", "short", "unsigned", "long", "unsigned long", "_Bool", "signed char", "enum num", "enum big", "long long"]
+KINDS = [
+    "int", "char", "unsigned char", "short", "unsigned", "long", "unsigned long", "_Bool", "signed char", "enum num", "enum big",
+    "long long",
+]
 RESTRICTED = ["le32", "le16", "enum rest", "unsigned short BITWISE"]
+# What `__builtin_offsetof` may ask for, and what it may not
+OFFSETS = [
+    "struct pair , ma", "struct pair , mb [ 1 ]", "struct wide , mp . mb [ 7 ]", "struct wide , mv", "union word , mc [ E1 ]",
+    "struct wide , mx [ 3 ]", "struct pair , mb [ ( FORCE le32 ) 1 ]", "union word , md . me", "struct wide , mr", "struct pair , mb [ 'a' - 90 ]",
+]
+BAD_OFFSETS = [
+    "struct pair , mf", "struct wide , m40", "struct pair , none_such", "struct pair , ma . mb", "struct pair , ma [ 1 ]",
+    "struct pair , mb [ - 1 ]", "struct pair , mb [ i ]", "struct unknown , ma", "int , ma", "struct wide , ms [ 1 ]",
+    "struct pair , mb [ p ]", "struct wide , mp . none_such", "struct pair , mb [ 274877906944 ]", "struct wide , mp . mf",
+    "struct wide , mp . mf . ma", "struct pair , mb [ none ( ) ]", "void , ma",
+]
 # The bits of the kinds
 BITS = {"int": 32, "char": 8, "unsigned char": 8, "short": 16, "unsigned": 32, "long": 64, "unsigned long": 64, "_Bool": 1,
         "signed char": 8, "enum num": 32, "enum big": 64, "long long": 64}
 # Declarations that break a constraint, of a name @ and with an expression #
-BAD = """int @ [ - 1 ] ;|int @ [ i ] ;|int @ [ # ] ;|struct unknown @ ;|void @ ;|int @ ( void ) [ 3 ] ;|int @ ( void ) ( int ) ;
-extern void @ ( void , int ) ;|extern void @ ( int , void ) ;|extern int @ ( const void ) ;|extern int @ ( void , ... ) ;
-enum { @ = i } ;|enum { @ = # } ;|enum { @ = - 1 , @b = 18446744073709551615u } ;|enum { @ = 18446744073709551615u , @b } ;
-_Static_assert ( 0 , "a" ) ;|_Static_assert ( # , "a" ) ;|struct pair { int again ; } ;|union pair * @ ;|enum pair * @ ;|struct num * @ ;
-extern int * BITWISE @ ;|extern struct pair BITWISE @ ;|extern int BITWISE * BITWISE @ ;|void @ [ 3 ] ;|extern struct unknown @ [ 3 ] ;
-extern int @ [ 2 ] ( void ) ;|extern int @ [ 2 ] [ ] ;|extern struct @ { int a ; struct @ b ; } @b ;|struct @ { int a , a ; } ;
-struct @ { int a [ ] ; } ;|struct @ { int a [ ] , b ; } ;|struct @ { int a ; int b ( void ) ; } ;|union @ { int a ; int b [ ] ; } ;
-struct @ { int a ; void b ; } ;|struct @ { int a : # ; } ;|struct @ { int a : 33 ; } ;|struct @ { int a : 0 ; } ;|struct @ { int : - 1 ; } ;
-struct @ { int * a : 3 ; } ;|struct @ { le32 a : 3 ; } ;|struct @ { int a ; struct { int b , a ; } ; } ;|struct @ { struct unknown a ; } ;
-struct @ { _Static_assert ( 0 , "a" ) ; int a ; } ;|typedef int @ ; typedef int USER @ ;|typedef int @ ; typedef const int @ ;
-int @ ( struct unknown ) ;|extern char @ [ 1099511627777 ] ;|extern struct { char a [ 1099511627776 ] , b ; } @ ;|register struct pair @ ; & @ . ma ;
-extern int @ [ sizeof ( struct unknown ) ] ;|struct @ ; extern struct @ @b [ 2 ] ;|union @ { int a ; } ; struct @ { int a ; } ;
-int @ [ x . ma ] ;|int @ [ none ( ) ] ;|enum { @ = none ( ) } ;|struct @ { int a : none ( ) ; } ;|_Static_assert ( none ( ) , "a" ) ;|void * @ [ p ] ;
-struct unknown @ [ 2 ] ;|struct @ { struct unknown a [ 2 ] ; } ;|int @ ( void ) ( void ) [ 3 ] ;|int @ [ 3 ] ( void ) [ 2 ] ;|struct @ { int a , b ; struct unknown * a ; } ;
-struct @ { struct @ { int a ; } b ; } ;|enum @ { @b = sizeof ( enum @ { @c } ) } ;|struct @ { int a : 3 ; } @b ; & @b . a ;|struct @ { int a ; struct unknown : 3 ; } ;""".replace("\n", "|").split("|")
+BAD = """int @ [ - 1 ] ;
+int @ [ i ] ;
+int @ [ # ] ;
+struct unknown @ ;
+void @ ;
+int @ ( void ) [ 3 ] ;
+int @ ( void ) ( int ) ;
+extern void @ ( void , int ) ;
+extern void @ ( int , void ) ;
+extern int @ ( const void ) ;
+extern int @ ( void , ... ) ;
+enum { @ = i } ;
+enum { @ = # } ;
+enum { @ = - 1 , @b = 18446744073709551615u } ;
+enum { @ = 18446744073709551615u , @b } ;
+_Static_assert ( 0 , "a" ) ;
+_Static_assert ( # , "a" ) ;
+struct pair { int again ; } ;
+union pair * @ ;
+enum pair * @ ;
+struct num * @ ;
+extern int * BITWISE @ ;
+extern struct pair BITWISE @ ;
+extern int BITWISE * BITWISE @ ;
+void @ [ 3 ] ;
+extern struct unknown @ [ 3 ] ;
+extern int @ [ 2 ] ( void ) ;
+extern int @ [ 2 ] [ ] ;
+extern struct @ { int a ; struct @ b ; } @b ;
+struct @ { int a , a ; } ;
+struct @ { int a [ ] ; } ;
+struct @ { int a [ ] , b ; } ;
+struct @ { int a ; int b ( void ) ; } ;
+union @ { int a ; int b [ ] ; } ;
+struct @ { int a ; void b ; } ;
+struct @ { int a : # ; } ;
+struct @ { int a : 33 ; } ;
+struct @ { int a : 0 ; } ;
+struct @ { int : - 1 ; } ;
+struct @ { int * a : 3 ; } ;
+struct @ { le32 a : 3 ; } ;
+struct @ { int a ; struct { int b , a ; } ; } ;
+struct @ { struct unknown a ; } ;
+struct @ { _Static_assert ( 0 , "a" ) ; int a ; } ;
+typedef int @ ; typedef int USER @ ;
+typedef int @ ; typedef const int @ ;
+int @ ( struct unknown ) ;
+extern char @ [ 1099511627777 ] ;
+extern struct { char a [ 1099511627776 ] , b ; } @ ;
+register struct pair @ ; & @ . ma ;
+extern int @ [ sizeof ( struct unknown ) ] ;
+struct @ ; extern struct @ @b [ 2 ] ;
+union @ { int a ; } ; struct @ { int a ; } ;
+int @ [ x . ma ] ;
+int @ [ none ( ) ] ;
+enum { @ = none ( ) } ;
+struct @ { int a : none ( ) ; } ;
+_Static_assert ( none ( ) , "a" ) ;
+void * @ [ p ] ;
+struct unknown @ [ 2 ] ;
+struct @ { struct unknown a [ 2 ] ; } ;
+int @ ( void ) ( void ) [ 3 ] ;
+int @ [ 3 ] ( void ) [ 2 ] ;
+struct @ { int a , b ; struct unknown * a ; } ;
+struct @ { struct @ { int a ; } b ; } ;
+enum @ { @b = sizeof ( enum @ { @c } ) } ;
+struct @ { int a : 3 ; } @b ; & @b . a ;
+struct @ { int a ; struct unknown : 3 ; } ;""".splitlines()
+
+
+KEYWORDS = {"struct", "union", "enum", "le16", "le32"}
+TAGS = {"pair", "other", "unknown", "word", "wide", "num", "big", "rest"}
 
 
 class Whole(Maker):
@@ -130,7 +204,10 @@ class Whole(Maker):
         if kind == 6:
             return primary(self.offset(depth))
         if kind == 7:
-            tag = self.chance.choice(["struct pair", "struct other", "union word", "struct wide", "enum num", "enum big", "struct unknown"][: 7 if self.slip else 6])
+            tags = [
+                "struct pair", "struct other", "union word", "struct wide", "enum num", "enum big",
+            ] + ["struct unknown"] * bool(self.slip)
+            tag = self.chance.choice(tags)
             return unary(f"{self.chance.choice(['sizeof', '_Alignof'])} ( {tag} )")
         if kind == 8:
             return unary("sizeof", (self.whole(self.chance.choice(["pair", "other", "word", "wide"]), 0), UNARY))
@@ -138,25 +215,26 @@ class Whole(Maker):
 
     def offset(self, depth):
         chance = self.chance
-        good = ["struct pair , ma", "struct pair , mb [ 1 ]", "struct wide , mp . mb [ 7 ]", "struct wide , mv", "union word , mc [ E1 ]", "struct wide , mx [ 3 ]",
-                "struct pair , mb [ ( FORCE le32 ) 1 ]", "union word , md . me", "struct wide , mr", "struct pair , mb [ 'a' - 90 ]"]
-        bad = ["struct pair , mf", "struct wide , m40", "struct pair , none_such", "struct pair , ma . mb", "struct pair , ma [ 1 ]", "struct pair , mb [ - 1 ]",
-               "struct pair , mb [ i ]", "struct unknown , ma", "int , ma", "struct wide , ms [ 1 ]", "struct pair , mb [ p ]", "struct wide , mp . none_such",
-               "struct pair , mb [ 274877906944 ]", "struct wide , mp . mf", "struct wide , mp . mf . ma", "struct pair , mb [ none ( ) ]", "void , ma",
-               f"struct pair , mb [ {written(self.expression('int', depth - 1), False)} ]"]
-        return f"__builtin_offsetof ( {chance.choice(bad if self.slips(20) else good)} )"
+        bad = [*BAD_OFFSETS, f"struct pair , mb [ {written(self.expression('int', depth - 1), False)} ]"]
+        return f"__builtin_offsetof ( {chance.choice(bad if self.slips(20) else OFFSETS)} )"
 
     def odd(self, depth):
         """An operator over what it may not take."""
         tag = self.chance.choice(list(VALUES))
         value = Expression(COMMA, [self.chance.choice(VALUES[tag] + POINTERS[tag])])
-        other = self.expression(self.chance.choice(["int", "p", "void *", "void"]), depth - 2) if self.often(50) else self.whole(self.chance.choice(list(VALUES)), 0)
+        other = self.whole(self.chance.choice(list(VALUES)), 0)
+        if self.often(50):
+            other = self.expression(self.chance.choice(["int", "p", "void *", "void"]), depth - 2)
         operator = self.chance.choice(["+", "-", "==", "!=", "<", "&&", "||", "&", "=", "+=", ",", "?", "? :", "[", "("])
         pair = [value, other] if self.often(60) else [other, value]
         if self.often(30):
-            return unary(self.chance.choice(["*", "&", "!", "~", "-", "sizeof", "++", "--", "( int )", "( struct pair )", "( void )", "( long )"]), (pair[0], CAST))
+            return unary(self.chance.choice([
+                "*", "&", "!", "~", "-", "sizeof", "++", "--", "( int )", "( struct pair )", "( void )", "( long )",
+            ]), (pair[0], CAST))
         if operator == "?":
-            return Expression(CONDITIONAL, [(self.expression("int", 0), FIRST_OF_TWO), "?", (pair[0], COMMA), ":", (pair[1], CONDITIONAL)])
+            return Expression(CONDITIONAL, [
+                (self.expression("int", 0), FIRST_OF_TWO), "?", (pair[0], COMMA), ":", (pair[1], CONDITIONAL),
+            ])
         if operator in "[(":
             return postfix((pair[0], POSTFIX), operator, (pair[1], ASSIGNMENT), {"[": "]", "(": ")"}[operator])
         return primary("(", (pair[0], UNARY), operator, (pair[1], UNARY), ")")
@@ -167,7 +245,10 @@ class Whole(Maker):
         if self.slips(6):
             return written(self.expression(self.any(), depth), False)
         if depth <= 0 or self.often(35):
-            return chance.choice([*LITERALS[:8], *ENUMERATORS, "- 1", "( FORCE le32 ) 5", "~ ( FORCE le16 ) 1", "sizeof ( int )", "( char ) 300", "4294967297"])
+            return chance.choice([
+                *LITERALS[:8], *ENUMERATORS, "- 1", "( FORCE le32 ) 5", "~ ( FORCE le16 ) 1", "sizeof ( int )", "( char ) 300",
+                "4294967297",
+            ])
         kind = chance.randrange(6)
         if kind == 0:
             return f"( {self.constant(depth - 1)} {chance.choice(['+', '-', '*', '&', '|', '==', '<', '&&', '<<'])} {self.constant(depth - 1)} )"
@@ -185,7 +266,11 @@ class Whole(Maker):
         """A length that is none too large."""
         if self.slips(4):
             return self.constant()
-        return self.chance.choice(["1", "2", "3", "E1", "sizeof ( struct pair ) / 2", "1 + 2", "( FORCE le32 ) 2", "0", "'\\3'", "__builtin_offsetof ( struct wide , mr )", "i ? 1 : 1"][: 11 if self.slip else 10])
+        good = [
+            "1", "2", "3", "E1", "sizeof ( struct pair ) / 2", "1 + 2", "( FORCE le32 ) 2", "0", "'\\3'",
+            "__builtin_offsetof ( struct wide , mr )",
+        ]
+        return self.chance.choice(good + ["i ? 1 : 1"] * bool(self.slip))
 
     # Structures, unions, enums
 
@@ -208,7 +293,10 @@ class Whole(Maker):
         if kind == 4 and depth > 0:
             return f"{self.aggregate(self.chance.choice(['', self.new_name()]), number + 20, depth - 1)} {chance.choice(['', '* '])}{name} ;"
         if kind == 5:
-            return chance.choice([";", "int ;", "_Static_assert ( 1 , \"a\" ) ;", f"enum {{ {self.new_name()} = {self.constant(1)} }} {name} ;", "struct unknown * n0a ;"])
+            return chance.choice([
+                ";", "int ;", "_Static_assert ( 1 , \"a\" ) ;", f"enum {{ {self.new_name()} = {self.constant(1)} }} {name} ;",
+                "struct unknown * n0a ;",
+            ])
         if kind == 6:
             return f"{chance.choice(['struct pair', 'struct other', 'union word', 'struct wide', 'const struct other'])}{self.attribute(10)} {name} ;"
         star = chance.choice(["", "", "*", "* USER ", "* const "])
@@ -246,7 +334,8 @@ class Whole(Maker):
             name = self.new_name()
             value = chance.choice(["", "", f" = {self.constant(1)}"])
             if is_restricted:
-                value = f" = {chance.choice(['0', '( FORCE le32 ) 1', '( FORCE le32 ) 2', '( FORCE be32 ) 1' if self.often(30) else '0', '7' if self.often(30) else '0', '~ ( FORCE le32 ) 0'])}"
+                odd = ["( FORCE be32 ) 1", "7"] if self.often(30) else []
+                value = f" = {chance.choice(['0', '0', '( FORCE le32 ) 1', '( FORCE le32 ) 2', '~ ( FORCE le32 ) 0', *odd])}"
             found.append(f"{name}{value}")
             self.scopes[-1].append(Name(name, "int", False, False))
         return f"enum {tag} {{ {' , '.join(found)} }}"
@@ -281,7 +370,10 @@ class Whole(Maker):
     def prototype(self):
         """A function, or a pointer to one, that is declared."""
         chance, name = self.chance, self.new_name()
-        parameters = chance.choice(["", "void", "int", "int a , char * b", "struct pair a", "int USER * , ...", "int a [ 3 ]", "int ( * ) ( )", "struct unknown", "int a [ sizeof ( int ) ]", "enum num", "const le32 i"])
+        parameters = chance.choice([
+            "", "void", "int", "int a , char * b", "struct pair a", "int USER * , ...", "int a [ 3 ]", "int ( * ) ( )", "struct unknown",
+            "int a [ sizeof ( int ) ]", "enum num", "const le32 i",
+        ])
         result = chance.choice(["void", "int", "struct pair", "le16", "int USER *", "struct unknown", "enum rest"])
         head = chance.choice(["{0} ( {1} )", "( * {0} ) ( {1} )", "( {0} ) ( {1} )", "( * {0} ( ) ) ( {1} )", "( * {0} [ 2 ] ) ( {1} )"])
         return f"extern {result} {head.format(name, parameters)}{chance.choice(['', ' __attribute__((noreturn))', ' __attribute__((unused))'])} ;"
@@ -371,7 +463,9 @@ class Whole(Maker):
         if kind == 25:
             return self.chance.choice([";", "l{0} : __attribute__((unused)) ;", "_l{0} : ;"]).format(self.new_name())
         if kind == 26 and self.slip:
-            return self.chance.choice([f"case {self.constant(1)} : ;", "default : ;", "break ;", "continue ;", "goto nowhere ;"]) if self.often(30) else ";"
+            return self.chance.choice([
+                f"case {self.constant(1)} : ;", "default : ;", "break ;", "continue ;", "goto nowhere ;",
+            ]) if self.often(30) else ";"
         if kind == 27:
             return self.returned(self.chance.choice(["int", "void"]) if self.slips(20) else self.result, depth - 1)
         return self.block(depth - 1)
@@ -388,7 +482,9 @@ class Whole(Maker):
     def for_loop(self, depth):
         self.scopes.append([])
         begin = self.chance.choice([";", f"{written(self.expression(self.any(), 1), False)} ;", "", ""])
-        begin = begin or self.chance.choice([f"int {self.chance.choice(['i', 'j', self.new_name()])} ;", f"struct {{ int a ; }} {self.new_name()} ;", self.declaration("register ")])
+        if not begin:
+            name = self.chance.choice(["i", "j", self.new_name()])
+            begin = self.chance.choice([f"int {name} ;", f"struct {{ int a ; }} {name} ;", self.declaration("register ")])
         condition = self.condition(depth - 1) if self.often(70) else ""
         step = written(self.expression(self.any(), 1), False) if self.often(60) else ""
         text = f"for ( {begin} {condition} ; {step} ) {self.looped(depth)}"
@@ -408,7 +504,8 @@ class Whole(Maker):
             if self.slips(30):
                 label = f"case {self.constant(1)} :"
             elif self.often(15):
-                label = f"case {chance.choice(['( FORCE le32 ) %d', '( FORCE le16 ) %d', '~ ( FORCE le16 ) %d', '( FORCE be32 ) %d']) % numbers.pop()} :"
+                kind = chance.choice(["( FORCE le32 )", "( FORCE le16 )", "~ ( FORCE le16 )", "( FORCE be32 )"])
+                label = f"case {kind} {numbers.pop()} :"
             if self.slips(5):
                 label = f"( {{ {label} ; }} ) ;"
             lines.append(f"{label} {self.statement(depth - 2)}")
@@ -453,7 +550,9 @@ class Whole(Maker):
         if (len(self.scopes), name) in self.redeclared:
             return ";"
         self.redeclared.add((len(self.scopes), name))
-        return self.chance.choice(["int {} ;", "extern int {} ;", "static char {} ;", "register long {} ;", "enum {{ {} }} ;", "{{ typedef int {} ; }}"]).format(name)
+        return self.chance.choice([
+            "int {} ;", "extern int {} ;", "static char {} ;", "register long {} ;", "enum {{ {} }} ;", "{{ typedef int {} ; }}",
+        ]).format(name)
 
     def definition(self):
         self.wanted, self.redeclared = [], set()
@@ -471,7 +570,10 @@ class Whole(Maker):
             lines.append(self.definition())
             lines += [self.line_of_file()] if self.often(20) else []
         if self.slips(3):
-            lines.append(self.chance.choice(["void f1 ( void ) { } void f1 ( void ) { }", "struct unknown f1 ( void ) { }", "void f1 ( struct unknown a ) { }", "int f1 ( int , int ) { }"]))
+            lines.append(self.chance.choice([
+                "void f1 ( void ) { } void f1 ( void ) { }", "struct unknown f1 ( void ) { }", "void f1 ( struct unknown a ) { }",
+                "int f1 ( int , int ) { }",
+            ]))
         text = "\n".join(lines) + "\n"
         text = aggregates_of(text) + text
         return MARKS + objects_of(text) + text
@@ -482,8 +584,9 @@ def aggregates_of(text):
     named, found = set(WORD.findall(text)), []
     for line in reversed(AGGREGATES.splitlines()):
         words = set(WORD.findall(line))
-        declares = words - COMMON - {"struct", "union", "enum", "pair", "other", "unknown", "word", "wide", "num", "big", "rest", "le16", "le32"}
-        if line.split("{")[0].split()[1].strip("; ") in named and line[0] != "e" or declares & named or line.startswith("enum") and words & named - {"enum", "le32"}:
+        declares = words - COMMON - KEYWORDS - TAGS
+        is_tag_named = not line.startswith("extern") and line.split()[1].strip(";") in named
+        if is_tag_named or declares & named:
             named |= words
             found.append(line + "\n")
     return "".join(reversed(found))

@@ -4,4 +4,5 @@ pub mod WayLemmas
 pub mod OutlineLemmas
 pub mod KnownLemmas
 pub mod MeasureLemmas
+pub mod SizedLemmas
 pub mod OffsetLemmas

@@ -7,8 +7,9 @@ use Rattle.c_types.specs.declared.outline.Outline.{Outline}
 use Rattle.c_types.specs.declared.outline.Outline.TheVariants as outlines
 use Rattle.c_types.specs.Layouts.{told_in}
 use Rattle.c_types.specs.Table.{TypeTable}
+use Rattle.meaning_layout.specs.Sizes.{bytes_of}
 use Rattle.meaning_constants.specs.Constants.{Constant}
-use Rattle.meaning_constants.specs.Nodes.{node_constant}
+use Rattle.meaning_constants.specs.Nodes.{loaded_kind, node_constant}
 use Rattle.meaning_constants.specs.Sizes.{Sizes, sizes_by}
 use Rattle.const_fold.specs.Known.{node_at, node_facts}
 use Rattle.const_fold.specs.Offsets.{offset_of_node}
@@ -31,3 +32,12 @@ abbrev pub has_one_byte : Outline → Bool
 has_one_byte outlines.Void = true
 has_one_byte outlines.Function = true
 has_one_byte outline = false
+
+-- what is asked of the type of a place, as it is asked of what is loaded from there
+abbrev pub field_bytes : (width : ℕ) → Outline → (whole : Option ℕ) → Option ℕ
+field_bytes width (outlines.Integer kind) whole = Some (bytes_of (loaded_kind width kind))
+field_bytes width outline whole = whole
+
+abbrev pub loaded_bytes : (width : Option ℕ) → Outline → (whole : Option ℕ) → Option ℕ
+loaded_bytes None outline whole = whole
+loaded_bytes (Some width) outline whole = field_bytes width outline whole

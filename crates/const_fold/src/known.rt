@@ -29,7 +29,7 @@ pub fn kept_at(nodes: &NodeTypes, handle: Handle) -> Option<NodeType>
     }
 }
 
-/// The kind that is loaded: an unsigned int of fewer bits is loaded as an int (C11 6.3.1.1 p2).
+/// The kind that is loaded: that of a bit-field is promoted, and an unsigned int of fewer bits is loaded as an int (C11 6.3.1.1 p2).
 pub fn loaded_kind(width: Option<u32>, kind: IntKind) -> IntKind
     ensures { result ≡ loaded_kind_if width kind }
 {
@@ -44,7 +44,7 @@ fn narrow_kind(width: u32, kind: IntKind) -> IntKind
 {
     match kind {
         IntKind::UInt => narrow_unsigned(width),
-        _ => kind,
+        _ => promoted_kind(kind),
     }
 }
 

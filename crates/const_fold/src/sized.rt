@@ -1,6 +1,7 @@
 // The bytes that a node asks for, by the layouts of types.
 ghost use Rattle.std.specs.Prelude.{◌≡◌, ◌∷◌, [], All};
 ghost use Rattle.meaning_constants.specs.Nodes.{fold_of};
+ghost use Rattle.meaning_layout.specs.Sizes.{bytes_of};
 ghost use Rattle.meaning_constants.specs.Sizes as sizes;
 ghost use Rattle.c_tree.specs.Seen.{node_of};
 ghost use Rattle.c_types.specs.Layouts.{told_in};
@@ -9,16 +10,16 @@ ghost use Rattle.const_fold.specs.Known.{IsKnownNode, node_facts, part_at};
 ghost use Rattle.const_fold.specs.Measured.{bytes_asked, measure_of_only};
 ghost use Rattle.const_fold.specs.Offsets.{offset_of_node};
 ghost use Rattle.const_fold.specs.Outlined.{known_children};
-ghost use Rattle.const_fold.specs.Sized.{has_one_byte, sizes_in};
+ghost use Rattle.const_fold.specs.Sized.{field_bytes, has_one_byte, loaded_bytes, sizes_in};
 
 use crate::children::{Children, children_of};
-use crate::known::kept_at;
+use crate::known::{kept_at, loaded_kind};
 use crate::offset::offset_of_node;
 use crate::way::{Way, way_of};
 use c_layout::{align_of, size_of};
 use c_tree::{Handle, Node, Unit};
 use c_types::{NodeTypes, Outline, Types};
-use sparse_model::TypeId;
+use sparse_model::{IntKind, TypeId};
 
 // Void and functions have one byte, as in GNU C.
 fn has_one_byte(outline: Outline) -> bool
@@ -59,13 +60,53 @@ fn asked_align(types: &Types, t: TypeId) -> Option<u64>
     }
 }
 
+// The bytes of an integer of this kind, to a multiple of which it is aligned.
+fn kind_bytes(kind: IntKind) -> u64
+    ensures { result ≡ bytes_of kind }
+{
+    match kind {
+        IntKind::Bool => 1,
+        IntKind::Char => 1,
+        IntKind::SChar => 1,
+        IntKind::UChar => 1,
+        IntKind::Short => 2,
+        IntKind::UShort => 2,
+        IntKind::Int => 4,
+        IntKind::UInt => 4,
+        IntKind::Long => 8,
+        IntKind::ULong => 8,
+        IntKind::LLong => 8,
+        IntKind::ULLong => 8,
+    }
+}
+
+fn field_bytes(width: u32, outline: Outline, whole: Option<u64>) -> Option<u64>
+    ensures { result ≡ field_bytes width outline whole }
+{
+    match outline {
+        Outline::Integer(kind) => Some(kind_bytes(loaded_kind(Some(width), kind))),
+        _ => whole,
+    }
+}
+
+// The size or the alignment of what is loaded of a place, whose own is this one: a bit-field is loaded as an integer.
+fn loaded_bytes(width: Option<u32>, outline: Outline, whole: Option<u64>) -> Option<u64>
+    ensures { result ≡ loaded_bytes width outline whole }
+{
+    match width {
+        Some(width) => field_bytes(width, outline, whole),
+        None => whole,
+    }
+}
+
 // The size of what the node with this handle is as a part of another, if it has a type.
 fn size_at(types: &Types, nodes: &NodeTypes, handle: Handle) -> Option<u64>
     requires { All (IsKnownNode types.now) nodes.now }
     ensures { result ≡ measure_of_only (sizes.asked_size (told_in types.now)) (part_at types.now nodes.now handle ∷ []) }
 {
     let node = kept_at(nodes, handle)?;
-    asked_size(types, node.of)
+    let whole = asked_size(types, node.of);
+    loaded_bytes(node.value.width, types.outline(node.of), whole)
 }
 
 fn align_at(types: &Types, nodes: &NodeTypes, handle: Handle) -> Option<u64>
@@ -73,7 +114,8 @@ fn align_at(types: &Types, nodes: &NodeTypes, handle: Handle) -> Option<u64>
     ensures { result ≡ measure_of_only (sizes.asked_align (told_in types.now)) (part_at types.now nodes.now handle ∷ []) }
 {
     let node = kept_at(nodes, handle)?;
-    asked_align(types, node.of)
+    let whole = asked_align(types, node.of);
+    loaded_bytes(node.value.width, types.outline(node.of), whole)
 }
 
 // The size of the only child.

@@ -7,15 +7,16 @@ use Rattle.vocabulary.specs.declared.node_kind.NodeKind.TheVariants as nodes
 use Rattle.vocabulary.specs.declared.operator.Operator.{Operator}
 use Rattle.vocabulary.specs.declared.operator.Operator.TheVariants as operators
 use Rattle.meaning_types.specs.Types.{TypeTree, Typed, IntegerTree}
+use Rattle.meaning_types.specs.Conversions.{promoted}
 use Rattle.meaning_types.specs.Ranges.{width}
 use Rattle.meaning_constants.specs.Constants.{Constant, Part, literal_constant, size_constant, cast_constant, own_constant, unary_constant, binary_constant, and_constant, or_constant, conditional_constant, conditional_without_middle}
 use Rattle.meaning_constants.specs.Sizes.{Sizes}
 
--- The type of what is loaded from a place of this type, where that is a bit-field of so many bits: an int can have all numbers
--- of an unsigned int that has fewer bits (6.3.1.1 p2).
+-- The type of what is loaded from a place of this type, where that is a bit-field of so many bits: it is promoted, and an int can
+-- have all numbers of an unsigned int that has fewer bits (6.3.1.1 p2).
 abbrev pub loaded_kind : (bits : ℕ) → IntKind → IntKind
 loaded_kind bits kinds.UInt = if nat_lt bits (width kinds.UInt) then kinds.Int else kinds.UInt
-loaded_kind bits kind = kind
+loaded_kind bits kind = promoted kind
 
 abbrev pub loaded_type : Option ℕ → TypeTree → TypeTree
 loaded_type (Some bits) (Typed (IntegerTree kind) qualifiers flags) = Typed (IntegerTree (loaded_kind bits kind)) qualifiers flags

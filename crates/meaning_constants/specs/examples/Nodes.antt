@@ -154,11 +154,22 @@ pub record SizeExamples : Type 0 where
       ∷ (NamedMember 1 ∷ ElementAt (Some (pos 1099511627776)) ∷ []) ∷ (NamedMember 0 ∷ NamedMember 0 ∷ []) ∷ []))
 
 pub record KeptExamples : Type 0 where
-  -- an unsigned bit-field of fewer bits than an int has is an int once it is loaded
+  -- a bit-field of fewer bits than an int has is an int once it is loaded, and an unsigned int where it has as many; one of a wider type
+  -- keeps it
   pub bit_fields :
       map (λ bits. loaded_type bits (plain kinds.UInt)) (Some 3 ∷ Some 31 ∷ Some 32 ∷ None ∷ [])
       ≡ plain kinds.Int ∷ plain kinds.Int ∷ plain kinds.UInt ∷ plain kinds.UInt ∷ []
-  pub other_fields : map (λ of. loaded_type (Some 3) of) (plain kinds.ULong ∷ plain kinds.UChar ∷ le16 ∷ []) ≡ plain kinds.ULong ∷ plain kinds.UChar ∷ le16 ∷ []
+  pub narrow_fields :
+      map (λ kind. loaded_type (Some 1) (plain kind)) (kinds.Bool ∷ kinds.Char ∷ kinds.SChar ∷ kinds.UChar ∷ kinds.Short ∷ kinds.UShort ∷ kinds.Int ∷ [])
+      ≡ replicate 7 (plain kinds.Int)
+  pub whole_fields :
+      loaded_type (Some 8) (plain kinds.UChar) ∷ loaded_type (Some 16) (plain kinds.UShort) ∷ loaded_type (Some 32) (plain kinds.Int) ∷ []
+      ≡ replicate 3 (plain kinds.Int)
+  pub wide_fields :
+      map (λ kind. loaded_type (Some 3) (plain kind)) (kinds.Long ∷ kinds.ULong ∷ kinds.LLong ∷ kinds.ULLong ∷ [])
+      ≡ map plain (kinds.Long ∷ kinds.ULong ∷ kinds.LLong ∷ kinds.ULLong ∷ [])
+  -- what is no bit-field stays as it is
+  pub other_fields : loaded_type None (plain kinds.UChar) ∷ loaded_type (Some 3) le16 ∷ [] ≡ plain kinds.UChar ∷ le16 ∷ []
   pub bits : map bits_of_number (pos 5 ∷ negsuc 0 ∷ negsuc 1 ∷ []) ≡ 5 ∷ 18446744073709551615 ∷ 18446744073709551614 ∷ []
   -- a fouled unsigned short keeps the bits above its own
   pub numbers :

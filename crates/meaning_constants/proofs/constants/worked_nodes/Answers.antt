@@ -36,6 +36,9 @@ returns-clause-sizes c = record {
 pub returns-clause-kept : goal.returns-clause-kept
 returns-clause-kept c = record {
   bit_fields = refl;
+  narrow_fields = refl;
+  whole_fields = refl;
+  wide_fields = refl;
   other_fields = refl;
   bits = refl;
   numbers = refl;

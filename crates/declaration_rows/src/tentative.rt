@@ -83,12 +83,16 @@ pub fn is_tentative(
         && !is_extern(unit, types, facts, surrounding.parent)
 }
 
-/// What a tentative object of this type breaks at its name at the end of the unit: a length may be missing.
+/// What a tentative object, whose name has this type, breaks at its name at the end of the unit: a length may be missing, and behind a
+/// function of its name there is no object.
 pub fn tentative_broken(types: &Types, token: u32, of: TypeId) -> Option<Broken>
     requires { IsTypeId types.now of }
     ensures { option_map broken_seen result ≡ least_broken (meaning.tentative_broken (told_in types.now) token (type_at types.now of)) }
 {
-    incomplete_name(token, is_no_object(types, of) && !is_unbounded(types, of))
+    incomplete_name(
+        token,
+        !is_function(types, of) && is_no_object(types, of) && !is_unbounded(types, of),
+    )
 }
 
 /// The type that a declaration gives to its name behind nodes of which this is known, where those with linkage are kept.

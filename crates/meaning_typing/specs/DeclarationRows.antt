@@ -168,8 +168,9 @@ is_tentative nodes facts surrounding declaration =
     && (in_file nodes surrounding && (not declaration.is_typedef && (not (is_function declaration.type_)
     && (not (has_initializer nodes surrounding) && not (is_extern_said (specifiers_of nodes facts surrounding.parent))))))
 
+-- one that is declared behind a function of its name names that function, and so defines no object (6.2.2 p2, 6.9.2 p2)
 abbrev pub tentative_broken : Told → (token : ℕ) → TypeTree → List Broken
-tentative_broken told token type_ = incomplete_name token (is_no_object told type_ && not (is_unbounded type_))
+tentative_broken told token type_ = incomplete_name token (not (is_function type_) && (is_no_object told type_ && not (is_unbounded type_)))
 
 abbrev pub tentative_of : Told → UnitNodes → List Fact → (token : ℕ) → Surrounding → Fact → List Broken
 tentative_of told nodes facts token surrounding (Declared declaration) =

@@ -106,6 +106,13 @@ pub record CompletenessExamples : Type 0 where
       (declaration 0 (tagged kinds.StructSpecifier 0 (codes "later") 0 ∷ []) (called 2 k ∷ [])
       ∷ declaration 4 (aggregate kinds.StructSpecifier 4 (codes "later") 0 6 (ints 7 (called 8 (codes "a") ∷ []) ∷ []) ∷ []) [] ∷ []) ∷ [])
       ≡ [] ∷ [] ∷ []
+  -- `void k(void); int k;`, `void k(void); struct unknown k;`, and `struct unknown k; void k(void);`
+  pub behind_function :
+      map breaking
+      (nodes_of (declaration 0 (void_at 0) (declarator 1 k (void_list 2 ∷ []) ∷ []) ∷ declaration 6 (int_at 6) (called 7 k ∷ []) ∷ [])
+      ∷ nodes_of (declaration 0 (void_at 0) (declarator 1 k (void_list 2 ∷ []) ∷ []) ∷ declaration 6 (unknown_at 6) (called 8 k ∷ []) ∷ [])
+      ∷ nodes_of (declaration 0 (unknown_at 0) (called 2 k ∷ []) ∷ declaration 4 (void_at 4) (declarator 5 k (void_list 6 ∷ []) ∷ []) ∷ []) ∷ [])
+      ≡ [] ∷ [] ∷ breaks_at IncompleteType 2 ∷ []
   -- `struct unknown f(void) { }`, `void f(struct unknown k) { }`, and its prototype
   pub definitions :
       map breaking

@@ -21,6 +21,7 @@ returns-clause-completeness c = record {
   in_block = refl;
   in_file = refl;
   told_later = refl;
+  behind_function = refl;
   definitions = refl;
   void_parameter = refl;
   twice = refl;

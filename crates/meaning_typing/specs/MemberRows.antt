@@ -226,17 +226,15 @@ typed_member_broken nodes surroundings told handle declaration (Some type_) =
     member_broken told (node_at nodes handle).token (has_width (entry_with_declarator handle (member_entries nodes declaration)))
     (may_be_flexible nodes surroundings handle declaration) type_
 
-abbrev pub member_declaration_broken : UnitNodes → List Surrounding → Told → (handle : ℕ) → Surrounding → Fact → List Broken
-member_declaration_broken nodes surroundings told handle surrounding fact =
-    typed_member_broken nodes surroundings told handle surrounding.parent (type_declared fact) ++ name_broken nodes surroundings handle
-
-abbrev pub member_declarator_by : List Broken → Fact → Row
-member_declarator_by broken fact = record nothing { fact = unless_broken broken fact; broken = broken }
+-- by what its type breaks and what its name does: a name that stands twice leaves the member its type, by which its width is judged
+abbrev pub member_declarator_by : (typed names : List Broken) → Fact → Row
+member_declarator_by typed names fact = record nothing { fact = unless_broken typed fact; broken = typed ++ names }
 
 abbrev pub member_declarator_row : UnitNodes → List Surrounding → Told → List Fact → (handle : ℕ) → Surrounding → Row
 member_declarator_row nodes surroundings told facts handle surrounding =
     member_declarator_by
-    (member_declaration_broken nodes surroundings told handle surrounding (member_declarator_fact nodes facts handle surrounding))
+    (typed_member_broken nodes surroundings told handle surrounding.parent (type_declared (member_declarator_fact nodes facts handle surrounding)))
+    (name_broken nodes surroundings handle)
     (member_declarator_fact nodes facts handle surrounding)
 
 -- Specifiers of structures and unions: the type, and at the keyword the limit of the size of an object

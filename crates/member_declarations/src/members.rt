@@ -29,7 +29,7 @@ use c_tree::{Handle, Unit};
 use c_types::Types;
 use decl_judge::token_at;
 use declaration_rows::{incomplete_name, is_no_object, is_unbounded};
-use expression_rows::{Broken, lesser};
+use expression_rows::Broken;
 use node_facts::{NodeFact, NodeFacts};
 use node_surroundings::Surroundings;
 use sparse_model::TypeId;
@@ -74,8 +74,9 @@ fn fact_broken(
 
 /// The row of the declarator with this handle, which stands in a declaration of members and of which this is known, where what is
 /// kept is that of its body and this is broken by its name, if something is. `IncompleteType` is broken at its token where its type
-/// is void, a function, or not complete, unless it is a bit-field, or is an array without a length that may be flexible. It takes
-/// a few steps, and one for each part between the declarator and its width, or the next declarator.
+/// is void, a function, or not complete, unless it is a bit-field, or is an array without a length that may be flexible. What its
+/// name breaks leaves it its type. It takes a few steps, and one for each part between the declarator and its width, or the next
+/// declarator.
 pub fn member_row(
     unit: &Unit,
     surroundings: &Surroundings,
@@ -95,14 +96,14 @@ pub fn member_row(
     requires body { IsToldOf (nodes_of unit.now) (list_around (surroundings_seen surroundings.now) handle) body }
     requires fact { IsKnownNodeFact types.now fact }
     ensures row { (names : List failures.Broken) → option_map broken_seen declared_twice ≡ least_broken names
-        → row_seen types.now result ≡ told (meaning.member_declarator_by (meaning.typed_member_broken (nodes_of unit.now) (surroundings_seen surroundings.now) (told_in types.now) handle (surrounding_at (surroundings_seen surroundings.now) handle).parent (type_declared (node_seen types.now fact)) ++ names) (node_seen types.now fact)) }
+        → row_seen types.now result ≡ told (meaning.member_declarator_by (meaning.typed_member_broken (nodes_of unit.now) (surroundings_seen surroundings.now) (told_in types.now) handle (surrounding_at (surroundings_seen surroundings.now) handle).parent (type_declared (node_seen types.now fact))) names (node_seen types.now fact)) }
     ensures known { IsKnownNodeFact types.now result.fact }
 {
     let declaration = surroundings.get(handle).parent;
     let is_field = has_width(unit, surroundings, handle);
     let flexible = may_be_flexible(unit, surroundings, body, handle, declaration);
     let broken = fact_broken(types, token_at(unit, handle), is_field, flexible, fact);
-    MemberRow::unless(lesser(broken, declared_twice), fact, None)
+    MemberRow::unless(broken, fact, None).breaking(declared_twice)
 }
 
 /// The row of the declarator with this handle, which stands in a declaration of members, where what is kept is that of its body and

@@ -1,8 +1,10 @@
 // What a row says: what is known, the constraint that is broken, which rule fails, and where a limit is passed.
-ghost use Rattle.std.specs.Prelude.{◌≡◌};
-ghost use Rattle.member_declarations.specs.Seen.{known_row, row_unless};
+ghost use Rattle.std.specs.Prelude.{◌≡◌, option_map};
+ghost use Rattle.c_types.specs.Table.{TypeTable};
+ghost use Rattle.expression_rows.specs.Rows.{broken_seen};
+ghost use Rattle.member_declarations.specs.Seen.{known_row, row_breaking, row_seen, row_unless};
 
-use expression_rows::Broken;
+use expression_rows::{Broken, lesser};
 use node_facts::NodeFact;
 use sparse_model::Failure;
 
@@ -43,6 +45,18 @@ impl MemberRow {
                 broken: Some(least),
                 failure,
             },
+        }
+    }
+
+    /// This is broken too, and what is known stays.
+    pub fn breaking(self, broken: Option<Broken>) -> MemberRow
+        ensures row { (table : TypeTable) → row_seen table result ≡ row_breaking (row_seen table self) (option_map broken_seen broken) }
+        ensures fact { result.fact ≡ self.fact }
+    {
+        MemberRow {
+            fact: self.fact,
+            broken: lesser(self.broken, broken),
+            failure: self.failure,
         }
     }
 }

@@ -9,10 +9,10 @@ use Rattle.meaning_types.specs.Spaces.{is_void}
 use Rattle.meaning_types.specs.Types.{TypeTree}
 use Rattle.meaning_typing.specs.Aggregates.{KnownAggregates}
 use Rattle.meaning_typing.specs.DeclarationRows.{declarator_parts_broken, parameter_node_broken}
-use Rattle.meaning_typing.specs.Declarators.{declarator_fact, named_if, parameter_fact, parameter_type, specifiers_of}
+use Rattle.meaning_typing.specs.Declarators.{declarator_fact, named_if, parameter_fact, parameter_type, specifiers_of, type_declared}
 use Rattle.meaning_typing.specs.Facts.{Fact, Unknown, Expression, Specified, Declared, NamedType, SpecifiedFact, type_of_value}
 use Rattle.meaning_typing.specs.MemberDeclarations.{member_declarator_fact, member_declared_if, member_type_said}
-use Rattle.meaning_typing.specs.MemberRows.{is_member_declaration, member_declaration_broken, member_declarator_row}
+use Rattle.meaning_typing.specs.MemberRows.{is_member_declaration, member_declarator_row, typed_member_broken}
 use Rattle.meaning_typing.specs.Rows.{Row, breaks, breaks_at, converted, nothing, unless_broken}
 use Rattle.meaning_typing.specs.Statements.{result_around, return_row}
 use Rattle.meaning_typing.specs.Surroundings.{Surrounding, Want, ForValue, surrounding_at}
@@ -91,7 +91,8 @@ module _ (aggregates : KnownAggregates) (nodes : UnitNodes) (surroundings : List
       by : (test : Bool) → IsNoExpression (if test then member_declarator_row nodes surroundings aggregates.told facts handle surrounding
           else declaration_row_by aggregates.told nodes surroundings facts handle surrounding (declarator_fact nodes surrounding facts handle specifiers)).fact
       by true =
-          unless_none (member_declaration_broken nodes surroundings aggregates.told handle surrounding (member_declarator_fact nodes facts handle surrounding))
+          unless_none
+          (typed_member_broken nodes surroundings aggregates.told handle surrounding.parent (type_declared (member_declarator_fact nodes facts handle surrounding)))
           (member_declarator_fact nodes facts handle surrounding)
           (member_none (node_at nodes handle).name (member_type_said nodes facts handle surrounding specifiers))
       by false = declaration_none surrounding (declarator_fact nodes surrounding facts handle specifiers)

@@ -206,6 +206,11 @@ pub record MemberListExamples : Type 0 where
   pub widths :
       breaking (structure_of (ints 3 (called 4 (codes "a") ∷ bits 5 33 ∷ []) ∷ ints 8 (called 9 [] ∷ bits 9 40 ∷ []) ∷ ints 12 (called 13 (codes "b") ∷ bits 14 0 ∷ []) ∷ []))
       ≡ breaks_at BadBitField 4 ++ breaks_at BadBitField 9 ++ breaks_at BadBitField 13
+  -- `{ int a; int a : 33; }`, `{ int a; int a : 3; }` and `{ int a; int a : 0; }`, whose widths are judged though the name stands twice
+  pub width_of_twice :
+      map (λ wide. breaking (structure_of (ints 3 (called 4 (codes "a") ∷ []) ∷ ints 6 (called 7 (codes "a") ∷ bits 8 wide ∷ []) ∷ []))) (33 ∷ 3 ∷ 0 ∷ [])
+      ≡ (breaks_named MemberDeclaredTwice 7 (codes "a") ++ breaks_at BadBitField 7) ∷ breaks_named MemberDeclaredTwice 7 (codes "a")
+      ∷ (breaks_named MemberDeclaredTwice 7 (codes "a") ++ breaks_at BadBitField 7) ∷ []
   -- `{ int a, : 3; }`, whose width is none of a's, and `{ int : 3, : 3; }`, whose members have no name twice
   pub width_of_another : breaking (structure_of (members 3 (leaf kinds.CharSpecifier 3 ∷ []) (called 4 (codes "a") ∷ called 6 [] ∷ bits 6 9 ∷ []) ∷ [])) ≡ breaks_at BadBitField 6
   pub nameless_twice : breaking (structure_of (ints 3 (called 4 [] ∷ bits 4 3 ∷ called 7 [] ∷ bits 7 3 ∷ []) ∷ [])) ≡ []

@@ -33,6 +33,7 @@ returns-clause-members c = record {
   last = refl;
   last_of_two = refl;
   widths = refl;
+  width_of_twice = refl;
   width_of_another = refl;
   nameless_twice = refl;
   nameless_structure = refl;

@@ -1,4 +1,4 @@
-use Rattle.std.proofs.Common.{◌≡◌, ◌++◌, ap, ◌∙◌}
+use Rattle.std.proofs.Common.{◌≡◌, ap, ◌∙◌}
 use Rattle.meaning_typing.specs.Declarators.{type_declared}
 use Rattle.meaning_typing.specs.MemberDeclarations.{member_declarator_fact}
 use Rattle.meaning_typing.specs.MemberRows.{member_declarator_by, name_broken, typed_member_broken}
@@ -25,5 +25,6 @@ returns-clause-row c =
     c.member_row-row.ensures.row names c.requires.name
     ∙ (λ i. told
     (member_declarator_by
-    (typed_member_broken nodes seen (c.in_ok-fact.ensures.keeps.layouts i) handle (surrounding_at seen handle).parent (type_declared (fact i)) ++ names)
+    (typed_member_broken nodes seen (c.in_ok-fact.ensures.keeps.layouts i) handle (surrounding_at seen handle).parent (type_declared (fact i)))
+    names
     (fact i)))

@@ -1,18 +1,20 @@
-use Rattle.std.proofs.Common.{◌+◌, ◌<◌, ◌++◌, [], None, refl, ap, sym, subst, ◌∙◌}
-use Rattle.meaning_rules.specs.Rules.{least_broken, lesser}
+use Rattle.std.proofs.Common.{◌≡◌, ◌+◌, ◌<◌, [], None, refl, ap, sym, subst, ◌∙◌}
+use Rattle.meaning_rules.specs.Rules.{least_broken}
 use Rattle.meaning_tree.specs.Nodes.{end_of}
 use Rattle.meaning_typing.specs.Declarators.{type_declared}
 use Rattle.meaning_typing.specs.MemberRows.{may_be_flexible, typed_member_broken}
+use Rattle.meaning_typing.specs.Rows.{Row, nothing, unless_broken}
 use Rattle.meaning_typing.specs.Surroundings.{Surrounding, surrounding_at}
 use Rattle.meaning_typing.specs.Units.{kind_at}
 use Rattle.c_types.specs.Layouts.{told_in}
 use Rattle.node_facts.specs.Facts.{node_seen}
+use Rattle.expression_rows.specs.Rows.{told}
 use Rattle.expression_rows.proofs.LeastLemmas.{least_both}
 use Rattle.decl_judge.specs.Units.{nodes_of}
 use Rattle.node_surroundings.specs.Seen.{surroundings_seen}
 use Rattle.member_declarations.specs.Flexible.{IsToldOf}
 use Rattle.member_declarations.specs.Members.{type_broken}
-use Rattle.member_declarations.specs.Seen.{row_seen}
+use Rattle.member_declarations.specs.Seen.{row_breaking, row_seen}
 use Rattle.member_declarations.proofs.MemberLemmas.{typed_told}
 use Rattle.member_declarations.proofs.RowLemmas.{row_told}
 use Rattle.member_declarations.proofs.StandingLemmas.{part_within}
@@ -49,7 +51,9 @@ returns-clause-row c = λ names twice.
     c.fact_broken-broken.ensures
     ∙ (λ i. least_broken (type_broken (told_in table) (c.token_at.ensures i) (c.has_width-is_field.ensures i) (flexible i) of))
     ∙ ap least_broken (typed_told nodes seen (told_in table) handle declaration of) in
-    ap (row_seen table) c.unless.ensures
-    ∙ row_told table c.lesser.result c.args.fact None (typed ++ names) []
-    (c.lesser.ensures ∙ (λ i. lesser (broken i) (twice i)) ∙ sym (least_both typed names))
-    refl
+    let by_type : Row = record nothing { fact = unless_broken typed (node_seen table c.args.fact); broken = typed } in
+    let known : row_seen table c.unless.result ≡ told by_type =
+    ap (row_seen table) c.unless.ensures ∙ row_told table c.fact_broken-broken.result c.args.fact None typed [] broken refl in
+    c.breaking.ensures.row table
+    ∙ (λ i. row_breaking (known i) (twice i))
+    ∙ ap (λ least. record (told by_type) { broken = least }) (sym (least_both typed names))

@@ -12,7 +12,7 @@ use Rattle.meaning_types.specs.Spaces.{is_void}
 use Rattle.meaning_constants.specs.Numbers.{converted}
 use Rattle.meaning_operands.specs.Failures.{Failure, Broken}
 use Rattle.meaning_typing.specs.Facts.{Fact, Expression, ExpressionFact, type_of_value}
-use Rattle.meaning_typing.specs.Rows.{Row, nothing, breaks_at, breaks_named, fails_with}
+use Rattle.meaning_typing.specs.Rows.{Row, nothing, breaks_at, breaks_named, fails_with, void_used}
 use Rattle.meaning_typing.specs.Operators.{ValueSort, VoidSort, IntegerSort, PointerSort, OtherSort, value_sort, answer_of, condition_broken, condition_failures}
 use Rattle.meaning_typing.specs.Statements.{return_row}
 
@@ -94,7 +94,8 @@ label_placed token None enters = breaks_at LabelOutsideSwitch token
 label_placed token (Some switch) enters = if enters then breaks_at JumpIntoStatementExpression token else []
 
 abbrev pub constant_broken : (value : ℕ) → (label : Fact) → List Broken
-constant_broken value (Expression label) = if is_some (label_constant (Expression label)) then [] else breaks_at CaseLabelIsNotConstant value
+constant_broken value (Expression label) =
+    void_used value label ++ (if is_some (label_constant (Expression label)) then [] else breaks_at CaseLabelIsNotConstant value)
 constant_broken value fact = []
 
 -- it meets the switch value as an operand of `==` does

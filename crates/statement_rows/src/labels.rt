@@ -16,7 +16,7 @@ use crate::condition::{failed, tested_failure};
 use crate::numbers::constant_of;
 use bitwise_rules::operator_rule;
 use c_types::{Operand, Outline, Types};
-use expression_rows::{Broken, Row, RowFailures, Valued, broken_at, lesser, number_of};
+use expression_rows::{Broken, Row, RowFailures, Valued, broken_at, lesser, number_of, void_used};
 use sparse_model::{ErrorKind, Failure, RuleCode};
 use vocabulary::Operator;
 
@@ -79,13 +79,24 @@ fn not_constant(value: u32, constant: Option<i128>) -> Option<Broken>
     }
 }
 
+// Of a label that is known: a void one is used as a value besides.
+fn label_broken(types: &Types, value: u32, label: Valued) -> Option<Broken>
+    requires { IsValued types.now label }
+    ensures { option_map broken_seen result ≡ least_broken (meaning.constant_broken value (valued_part types.now (Some label))) }
+{
+    lesser(
+        void_used(types, value, label),
+        not_constant(value, constant_of(types, label)),
+    )
+}
+
 fn constant_broken(types: &Types, value: u32, label: Option<Valued>) -> Option<Broken>
     requires { IfSome label (IsValued types.now) }
     ensures { option_map broken_seen result ≡ least_broken (meaning.constant_broken value (valued_part types.now label)) }
 {
     match label {
         None => None,
-        Some(label) => not_constant(value, constant_of(types, label)),
+        Some(label) => label_broken(types, value, label),
     }
 }
 

@@ -1,5 +1,5 @@
 -- Worked examples: statements by what is known of their parts, as one can tell by eye. The keyword stands at token 2, an expression at 3.
-use Rattle.std.specs.Prelude.{◌≡◌, ℤ, pos, negsuc, Bool, true, false, List, [], ◌∷◌, map, Option, Some, None}
+use Rattle.std.specs.Prelude.{◌≡◌, ℤ, pos, negsuc, Bool, true, false, List, [], ◌∷◌, ◌++◌, map, Option, Some, None}
 use Rattle.vocabulary.specs.declared.error_kind.ErrorKind.TheVariants.{CaseLabelIsNotConstant, ConditionIsNotScalar, ReturnWithoutValue, SwitchOnNoInteger, ValueReturnedFromVoid, VoidValueUsed}
 use Rattle.vocabulary.specs.declared.node_kind.NodeKind.TheVariants as kinds
 use Rattle.vocabulary.specs.declared.rule.RuleCode.TheVariants.{B3, B5, B6, S4, S5}
@@ -70,6 +70,8 @@ pub record LabelExamples : Type 0 where
   pub object : labelled i i ≡ breaks (breaks_at CaseLabelIsNotConstant 3)
   pub pointer : labelled i p ≡ breaks (breaks_at CaseLabelIsNotConstant 3)
   pub integer : labelled i (number (pos 1)) ≡ nothing
+  -- `none()`, which is used as a value
+  pub no_value : labelled i void_value ≡ breaks (breaks_at VoidValueUsed 3 ++ breaks_at CaseLabelIsNotConstant 3)
   -- `~(FORCE le16)1` under h, and `(FORCE le16)1`
   pub fouled : labelled h (record fouled_h { constant = Some (negsuc 1) }) ≡ fails (names B5 le16 ∷ [])
   pub same : labelled h (constant le16 (pos 1)) ≡ nothing

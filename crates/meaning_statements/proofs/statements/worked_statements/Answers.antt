@@ -29,6 +29,7 @@ returns-clause-labels c = record {
   object = refl;
   pointer = refl;
   integer = refl;
+  no_value = refl;
   fouled = refl;
   same = refl;
   plain = refl;

@@ -65,7 +65,8 @@ fn bound_behind(state: &ParseState<'_>, class: StorageClass) -> Bound
     }
 }
 
-// A name stands for the node that was made last, unless its scope has declared it otherwise.
+// A name stands for the node that was made last, which is the tree on top and holds what the name hides, unless its scope has declared
+// it otherwise.
 fn declare(
     state: &mut ParseState<'_>,
     declared: DeclaredName,
@@ -79,6 +80,8 @@ fn declare(
     if state.redeclares(declared.name, kind) {
         return Err(ActionFault::Refused(ErrorKind::Redeclared, declared.token));
     }
+    let hidden = state.hidden_number(declared.name);
+    state.number_top(hidden);
     state.bind_last(declared.name, kind)?;
     Ok(())
 }

@@ -35,7 +35,7 @@ use Rattle.meaning_derivation.specs.State as states
 use Rattle.meaning_derivation.specs.Literals.{BadLiteral, bad_piece, constant_made, string_made}
 use Rattle.meaning_derivation.specs.Contexts.{tokens_behind, context_made}
 use Rattle.meaning_derivation.specs.Attributes.{tokens_from, listed_tokens, attributes_made, constant_at, context_tree, and_then, attribute_appended, word_dropped, context_appended, item_appended}
-use Rattle.meaning_derivation.specs.Scoping.{declared, bound, bound_as, last_handle, parameter_bound, tag_at, is_member_list, is_lone_tag, is_new_here, with_own_keyword, tag_declared, found_name, found_here, parts_below, ends_with_parameters, name_used, typedef_named, without_closed}
+use Rattle.meaning_derivation.specs.Scoping.{declared, bound_as, hidden_number, hiding_bound, top_numbered, parameter_bound, tag_at, is_member_list, is_lone_tag, is_new_here, with_own_keyword, tag_declared, found_name, found_here, parts_below, ends_with_parameters, name_used, typedef_named, without_closed}
 use Rattle.meaning_derivation.specs.Storage.{has_kind}
 use Rattle.meaning_derivation.specs.Specifiers.{is_bad_in_file, is_bad_in_block, is_bad_member, is_refused_parameter, parameter_error, held_where}
 use Rattle.meaning_derivation.specs.Actions.{below, specified}
@@ -204,17 +204,26 @@ word-sort : (test : Bool) (place name : Value) → sort_of place ≡ AWord → s
 word-sort true place name is_place is_name = is_name
 word-sort false place name is_place is_name = is_place
 
--- a name is bound
-declared-values : (s next : State) (tree : Value) (new : Bound) → declared s tree new ≡ Goes next → next.values ≡ s.values
-declared-values s next tree new is =
-    reached_unless (is_redeclared (bound_here (found_name s Ordinary (name_of tree))) new) (bound s Ordinary (name_of tree) (last_handle s) new) next _ _ is
+-- a name is bound, and the tree on top has another number
+top_numbered-sorts : (s : State) (number : ℕ) (values : List Value) → s.values ≡ values → sorts_of (top_numbered s number (value_at values 0)).values ≡ sorts_of values
+top_numbered-sorts s number [] is = ap sorts_of is
+top_numbered-sorts s number (WordValue token text ∷ values) is = ap sorts_of is
+top_numbered-sorts s number (TreeValue tree ∷ values) is = ap (λ (all : List Value). ATree ∷ sorts_of (drop 1 all)) is
+top_numbered-sorts s number (ListValue NoParts ∷ values) is = ap sorts_of is
+top_numbered-sorts s number (ListValue (Part role tree NoParts) ∷ values) is = ap (λ (all : List Value). AList ∷ sorts_of (drop 1 all)) is
+top_numbered-sorts s number (ListValue (Part role tree (Part other_role other parts)) ∷ values) is = ap sorts_of is
 
-parameter-values :
-    (s next : State) (specifiers : Value) (parts : Parts (List ℕ)) → parameter_bound s specifiers parts ≡ Goes next → next.values ≡ s.values
-parameter-values s next specifiers NoParts is = reached s next is
-parameter-values s next specifiers (Part role (Node kind token [] number parts) others) is = reached s next is
-parameter-values s next specifiers (Part role (Node kind token (byte ∷ bytes) number parts) others) is =
-    declared-values s next (TreeValue (Node kind token (byte ∷ bytes) number parts)) Unlinked is
+declared-sorts : (s next : State) (tree : Value) (new : Bound) → declared s tree new ≡ Goes next → sorts_of next.values ≡ sorts_of s.values
+declared-sorts s next tree new is =
+    ap sorts_of (reached_unless (is_redeclared (bound_here (found_name s Ordinary (name_of tree))) new) (hiding_bound s (name_of tree) new) next _ _ is)
+    ∙ top_numbered-sorts s (hidden_number (found_name s Ordinary (name_of tree))) s.values refl
+
+parameter-sorts :
+    (s next : State) (specifiers : Value) (parts : Parts (List ℕ)) → parameter_bound s specifiers parts ≡ Goes next → sorts_of next.values ≡ sorts_of s.values
+parameter-sorts s next specifiers NoParts is = ap sorts_of (reached s next is)
+parameter-sorts s next specifiers (Part role (Node kind token [] number parts) others) is = ap sorts_of (reached s next is)
+parameter-sorts s next specifiers (Part role (Node kind token (byte ∷ bytes) number parts) others) is =
+    declared-sorts s next (TreeValue (Node kind token (byte ∷ bytes) number parts)) Unlinked is
 
 -- something is noted, or not
 noted-values : (test : Bool) (s noted : State) → noted.values ≡ s.values → (if test then noted else s).values ≡ s.values
@@ -231,6 +240,15 @@ kept-sorted :
     → ((rest : List Sort) → (action_effect action).takes ++ rest ≡ (action_effect action).leaves ++ rest)
     → Finds action s after → sorts_of next.values ≡ after
 kept-sorted action s next after is = replaced action 0 [] s next after is
+
+-- so does its sort
+kept_sorts :
+    (action : Action) (s next : State) (after : List Sort) → sorts_of next.values ≡ sorts_of s.values
+    → ((rest : List Sort) → (action_effect action).takes ++ rest ≡ (action_effect action).leaves ++ rest)
+    → Finds action s after → sorts_of next.values ≡ after
+kept_sorts action s next after is leaves finds =
+    let (rest, stood, left) = exchange-cases action s after finds in
+    is ∙ stood ∙ leaves rest ∙ sym left
 
 -- the keyword that first names a tag is put on the top
 tag-sorted :
@@ -374,9 +392,9 @@ actions_are_sorted BeginDeclarators s next sorts is finds = replaced BeginDeclar
 actions_are_sorted AppendDeclarator s next sorts is finds = replaced AppendDeclarator 3 (_ ∷ []) s next sorts (reached _ next is) (λ rest. refl) finds
 actions_are_sorted AppendLeadingAttributes s next sorts is finds =
     leading-sorted s next _ _ sorts (sort_below AppendLeadingAttributes s sorts 1 AList (λ rest. refl) finds) is finds
-actions_are_sorted BindDeclarator s next sorts is finds = kept-sorted BindDeclarator s next sorts (declared-values s next (below s 0) (bound_as s (below s 1) (below s 0)) is) (λ rest. refl) finds
+actions_are_sorted BindDeclarator s next sorts is finds = kept_sorts BindDeclarator s next sorts (declared-sorts s next (below s 0) (bound_as s (below s 1) (below s 0)) is) (λ rest. refl) finds
 actions_are_sorted BindFurtherDeclarator s next sorts is finds =
-    kept-sorted BindFurtherDeclarator s next sorts (declared-values s next (below s 0) (bound_as s (below s 2) (below s 0)) is) (λ rest. refl) finds
+    kept_sorts BindFurtherDeclarator s next sorts (declared-sorts s next (below s 0) (bound_as s (below s 2) (below s 0)) is) (λ rest. refl) finds
 actions_are_sorted NoteFunctionDeclarator s next sorts is finds =
     kept-sorted NoteFunctionDeclarator s next sorts
     (reached _ next is ∙ noted-values (is_open s.scopes && ends_with_parameters (parts_below (below s 1))) s (record s { function_end = Some s.taken }) refl) (λ rest. refl) finds
@@ -402,7 +420,7 @@ actions_are_sorted DefineTag s next sorts is finds =
     tag-sorted DefineTag s next (found_here (found_name s Tags (text_of (below s 0)))) _ _ sorts is (λ rest. refl) finds
 actions_are_sorted UseTag s next sorts is finds = tag-sorted UseTag s next (found_name s Tags (text_of (below s 0))) _ _ sorts is (λ rest. refl) finds
 actions_are_sorted WithoutTag s next sorts is finds = replaced WithoutTag 0 (_ ∷ _ ∷ []) s next sorts (reached _ next is) (λ rest. refl) finds
-actions_are_sorted BindEnumerator s next sorts is finds = kept-sorted BindEnumerator s next sorts (declared-values s next (below s 0) Enumerator is) (λ rest. refl) finds
+actions_are_sorted BindEnumerator s next sorts is finds = kept_sorts BindEnumerator s next sorts (declared-sorts s next (below s 0) Enumerator is) (λ rest. refl) finds
 actions_are_sorted MakeAttributeList s next sorts is finds =
     attributes_made-sorted s next (below s 1) (below s 0) (attributes_read no_attributes (listed_tokens s (below s 1))) sorts is finds
 actions_are_sorted AppendAttribute s next sorts is finds =
@@ -423,7 +441,7 @@ actions_are_sorted CountParameter s next sorts is finds =
     kept-sorted CountParameter s next sorts
     (reached _ next is ∙ limited-values (nat_lt (part_count (parts_of (below s 0))) most_parameters) s (with_limit Parameters s) refl) (λ rest. refl) finds
 actions_are_sorted BindParameter s next sorts is finds =
-    kept-sorted BindParameter s next sorts (parameter-values s next (below s 1) (parts_of (below s 0)) is) (λ rest. refl) finds
+    kept_sorts BindParameter s next sorts (parameter-sorts s next (below s 1) (parts_of (below s 0)) is) (λ rest. refl) finds
 actions_are_sorted CloseParameters s next sorts is finds = kept-sorted CloseParameters s next sorts (reached _ next is) (λ rest. refl) finds
 actions_are_sorted OpenScope s next sorts is finds = kept-sorted OpenScope s next sorts (reached _ next is) (λ rest. refl) finds
 actions_are_sorted CloseScope s next sorts is finds = kept-sorted CloseScope s next sorts (reached _ next is) (λ rest. refl) finds

@@ -1,5 +1,5 @@
 -- What names are bound to while a unit is read (C11 6.2.1, 6.7 p3).
-use Rattle.std.specs.Prelude.{ℕ, ◌-◌, Bool, true, false, ◌||◌, ◌&&◌, not, List, [], ◌∷◌, ◌++◌, reverse, nat_eq, Option, Some, None, is_some, if◌then◌else◌}
+use Rattle.std.specs.Prelude.{ℕ, ◌+◌, ◌-◌, Bool, true, false, ◌||◌, ◌&&◌, not, List, [], ◌∷◌, ◌++◌, reverse, nat_eq, Option, Some, None, is_some, if◌then◌else◌}
 use Rattle.std.specs.Str.{bytes_eq}
 use Rattle.vocabulary.specs.declared.error_kind.ErrorKind.TheVariants.{NotDeclared, Redeclared}
 use Rattle.vocabulary.specs.declared.node_kind.NodeKind.{NodeKind}
@@ -11,7 +11,7 @@ use Rattle.vocabulary.specs.declared.scope.Bound.TheVariants.{Typedef, Linked, U
 use Rattle.meaning_tree.specs.Trees.{SyntaxTree, Node, Parts, NoParts, Part}
 use Rattle.meaning_scopes.specs.Scopes.{Entry, ScopeList, Opened, Binds, Found, find, innermost, is_open, with_entries, without_scope}
 use Rattle.meaning_scopes.specs.Redeclaration.{bound_here, is_redeclared}
-use Rattle.meaning_derivation.specs.Values.{Value, WordValue, TreeValue, token_of, text_of, stands_at, name_of, named_tree}
+use Rattle.meaning_derivation.specs.Values.{Value, WordValue, TreeValue, ListValue, value_at, token_of, text_of, stands_at, name_of, named_tree}
 use Rattle.meaning_derivation.specs.Storage.{StorageClass, TypedefClass, ExternClass, OtherClass, has_kind, noted_class}
 use Rattle.meaning_derivation.specs.State.{ClosedList, State, IsError, ActionOutcome, Goes, Refuses, with_values, with_value, made}
 
@@ -32,11 +32,34 @@ bound s space name declaration kind =
 abbrev pub last_handle : State → ℕ
 last_handle s = s.nodes - 1
 
--- a name stands for the node that was made last, unless its scope has declared it otherwise, which is told at this token
+-- what a name hides that is declared in the innermost scope (6.2.1 p4): the handle of what declares it in an outer one and one, or 0
+abbrev pub hidden_number : Option (Found (List ℕ)) → ℕ
+hidden_number None = 0
+hidden_number (Some found) = if found.is_innermost then 0 else found.entry.declaration + 1
+
+-- a tree with this number
+abbrev pub numbered : ℕ → SyntaxTree → SyntaxTree
+numbered number (Node kind token name other parts) = Node kind token name number parts
+
+-- the tree on top, or the only one of the list there, has this number from here on
+abbrev pub top_numbered : State → ℕ → (top : Value) → State
+top_numbered s number (TreeValue tree) = with_value s 1 (TreeValue (numbered number tree))
+top_numbered s number (ListValue (Part role tree NoParts)) = with_value s 1 (ListValue (Part role (numbered number tree) NoParts))
+top_numbered s number top = s
+
+-- a name stands for the node that was made last
+abbrev pub last_bound : State → (name : List ℕ) → Bound → State
+last_bound s name new = bound s Ordinary name (last_handle s) new
+
+-- that node stands on top, and has what its name hides as its number
+abbrev pub hiding_bound : State → (name : List ℕ) → Bound → State
+hiding_bound s name new = last_bound (top_numbered s (hidden_number (found_name s Ordinary name)) (value_at s.values 0)) name new
+
+-- a name is bound so, unless its scope has declared it otherwise, which is told at this token
 abbrev pub declared_at : State → (name : List ℕ) → (token : ℕ) → Bound → ActionOutcome
 declared_at s name token new =
     if is_redeclared (bound_here (found_name s Ordinary name)) new then Refuses (IsError Redeclared) token
-    else Goes (bound s Ordinary name (last_handle s) new)
+    else Goes (hiding_bound s name new)
 
 -- the name of a tree that was made last is bound as this
 abbrev pub declared : State → (tree : Value) → Bound → ActionOutcome

@@ -4,7 +4,7 @@ ghost use Rattle.meaning_derivation.specs.laws.Sorts.{ActionsAreSorted, ActionsL
 ghost use Rattle.meaning_derivation.specs.laws.Shapes.{ShapesAreMade};
 ghost use Rattle.meaning_derivation.specs.laws.Storage.{ClassesHaveNumbers, SpecifiersHaveTheirClass};
 ghost use Rattle.meaning_derivation.specs.examples.Literals.{ContextExamples, LiteralExamples};
-ghost use Rattle.meaning_derivation.specs.examples.Units.{NameExamples, TreeExamples, BodyExamples, BindExamples, ChainExamples, RefusalExamples};
+ghost use Rattle.meaning_derivation.specs.examples.Units.{NameExamples, TreeExamples, BodyExamples, BindExamples, HidingExamples, ChainExamples, RefusalExamples};
 ghost use Rattle.meaning_derivation.specs.examples.Tags.{TagExamples};
 ghost use Rattle.meaning_derivation.specs.examples.Specifiers.{SetExamples, SpecifierExamples, WordExamples, PlaceExamples, FunctionExamples};
 
@@ -43,6 +43,7 @@ pub fn worked_examples()
     ensures trees { TreeExamples }
     ensures bodies { BodyExamples }
     ensures binds { BindExamples }
+    ensures hiding { HidingExamples }
     ensures chains { ChainExamples }
     ensures refusals { RefusalExamples }
     ensures sets { SetExamples }

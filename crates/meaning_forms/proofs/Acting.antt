@@ -36,7 +36,7 @@ use Rattle.meaning_derivation.specs.Specifiers.{is_bad_in_file, is_bad_in_block,
 use Rattle.meaning_derivation.specs.Contexts.{tokens_behind, context_made}
 use Rattle.meaning_derivation.specs.Attributes.{tokens_from, listed_tokens, attributes_made, kind_of_flag, space_tree, context_appended, item_appended}
 use Rattle.meaning_derivation.specs.Literals.{BadLiteral, bad_piece, constant_made, constant_tree, string_made}
-use Rattle.meaning_derivation.specs.Scoping.{declared, bound, bound_as, last_handle, parameter_bound, tag_at, is_member_list, is_lone_tag, is_new_here, with_own_keyword, tag_declared, found_name, found_here, parts_below, ends_with_parameters, name_used, typedef_named, without_closed}
+use Rattle.meaning_derivation.specs.Scoping.{declared, bound_as, hidden_number, hiding_bound, numbered, top_numbered, parameter_bound, tag_at, is_member_list, is_lone_tag, is_new_here, with_own_keyword, tag_declared, found_name, found_here, parts_below, ends_with_parameters, name_used, typedef_named, without_closed}
 use Rattle.meaning_derivation.specs.Shapes.{Shape, shape_of, shaped_tree}
 use Rattle.meaning_derivation.specs.Actions.{act, below, specified}
 use Rattle.meaning_derivation.proofs.Shaping.{shapes_are_made}
@@ -480,15 +480,55 @@ module _ (begun : Parts (List ℕ)) (s next : State) (rest : List Value) where
 
   -- Names
 
-  declared_values : (tree : Value) (new : Bound) → declared s tree new ≡ Goes next → next.values ≡ s.values
-  declared_values tree new is =
-      reached_unless (is_redeclared (bound_here (found_name s Ordinary (name_of tree))) new) (bound s Ordinary (name_of tree) (last_handle s) new) next _ _ is
+  -- the number of the tree on top has no say in its form
 
-  parameter_values : (specifiers : Value) (parts : Parts (List ℕ)) → parameter_bound s specifiers parts ≡ Goes next → next.values ≡ s.values
-  parameter_values specifiers NoParts is = reached s next is
-  parameter_values specifiers (Part role (Node kind token [] number parts) others) is = reached s next is
-  parameter_values specifiers (Part role (Node kind token (byte ∷ bytes) number parts) others) is =
-      declared_values (TreeValue (Node kind token (byte ∷ bytes) number parts)) Unlinked is
+  numbered_formed : (number : ℕ) (tree : SyntaxTree) (sorts : List PartSort) → IsFormedTree tree × IsOf sorts tree → IsFormedTree (numbered number tree) × IsOf sorts (numbered number tree)
+  numbered_formed number (Node kind token name other parts) sorts formed = formed
+
+  numbered_part : (number : ℕ) (slots : List Slot) (role : Role) (tree : SyntaxTree) → AreOf slots (Part role tree NoParts) → AreOf slots (Part role (numbered number tree) NoParts)
+  numbered_part number slots role (Node kind token name other parts) are = (with_number-fits are.0, are.1)
+
+  abbrev number_of : (tree : Value) → ℕ
+  number_of tree = hidden_number (found_name s Ordinary (name_of tree))
+
+  -- where this stands on top
+  declared_values : (tree : Value) (new : Bound) (top : Value) (others : List Value) → s.values ≡ top ∷ others → declared s tree new ≡ Goes next
+      → next.values ≡ (top_numbered s (number_of tree) top).values
+  declared_values tree new top others stands is =
+      reached_unless (is_redeclared (bound_here (found_name s Ordinary (name_of tree))) new) (hiding_bound s (name_of tree) new) next _ _ is
+      ∙ ap (λ (all : List Value). (top_numbered s (number_of tree) (value_at all 0)).values) stands
+
+  declared_acts :
+      (new : Bound) (sorts : List PartSort) (known after : List Known) → declared s (below s 0) new ≡ Goes next → Some (ATree sorts ∷ known) ≡ Some after
+      → Stands (ATree sorts ∷ known) → Leaves after
+  declared_acts new sorts known after is found stand =
+      let (tree, others, top, formed, below_it) = tree_first begun sorts known s.values rest stand in
+      replace (ATree sorts) known after (TreeValue (numbered (number_of (below s 0)) tree)) others
+      (declared_values (below s 0) new (TreeValue tree) others top is ∙ beneath (ap (drop 1) top))
+      (numbered_formed (number_of (below s 0)) tree sorts formed) (same_Some _ _ found) below_it
+
+  parameter_acts :
+      (specifiers : Value) (slots : List Slot) (own : Parts (List ℕ)) (known after : List Known) (others : List Value) → s.values ≡ ListValue own ∷ others
+      → parameter_bound s specifiers own ≡ Goes next → AreOf slots own → Some (AList slots ∷ known) ≡ Some after → Stands (AList slots ∷ known)
+      → Stand begun known others rest → Leaves after
+  parameter_acts specifiers slots NoParts known after others top is are found stand below_it = kept (AList slots ∷ known) after (reached _ next is) found stand
+  parameter_acts specifiers slots (Part role (Node kind token [] number parts) further) known after others top is are found stand below_it =
+      kept (AList slots ∷ known) after (reached _ next is) found stand
+  parameter_acts specifiers slots (Part role (Node kind token (byte ∷ bytes) number parts) NoParts) known after others top is are found stand below_it =
+      let tree : SyntaxTree = Node kind token (byte ∷ bytes) number parts in
+      replace (AList slots) known after (ListValue (Part role (numbered (number_of (TreeValue tree)) tree) NoParts)) others
+      (declared_values (TreeValue tree) Unlinked (ListValue (Part role tree NoParts)) others top is ∙ beneath (ap (drop 1) top))
+      (numbered_part (number_of (TreeValue tree)) slots role tree are) (same_Some _ _ found) below_it
+  parameter_acts specifiers slots (Part role (Node kind token (byte ∷ bytes) number parts) (Part other_role other further)) known after others top is are found stand below_it =
+      let tree : SyntaxTree = Node kind token (byte ∷ bytes) number parts in
+      kept (AList slots ∷ known) after (declared_values (TreeValue tree) Unlinked (ListValue (Part role tree (Part other_role other further))) others top is) found stand
+
+  bind_parameter_acts :
+      (slots : List Slot) (known after : List Known) → act BindParameter s ≡ Goes next → Some (AList slots ∷ known) ≡ Some after → Stands (AList slots ∷ known) → Leaves after
+  bind_parameter_acts slots known after is found stand =
+      let (own, others, top, are, below_it) = list_first begun (AList slots) known s.values rest refl stand in
+      parameter_acts (below s 1) slots own known after others top
+      (subst (λ value. parameter_bound s (below s 1) (parts_of value) ≡ Goes next) (ap (λ all. value_at all 0) top) is) are found stand below_it
 
   tag_acts :
       (found : Option (Found (List ℕ))) (tag : List ℕ) (keyword : ℕ) (known after : List Known) → tag_at s found tag keyword ≡ Goes next
@@ -582,8 +622,10 @@ module _ (begun : Parts (List ℕ)) (s next : State) (rest : List Value) where
   acts AppendDeclarator known after is found stand = absurd (cc found)
   acts AppendLeadingAttributes (AList slots ∷ list ∷ known) after is found stand = append_leading_acts slots list known after is found stand
   acts AppendLeadingAttributes known after is found stand = absurd (cc found)
-  acts BindDeclarator known after is found stand = kept known after (declared_values (below s 0) (bound_as s (below s 1) (below s 0)) is) found stand
-  acts BindFurtherDeclarator known after is found stand = kept known after (declared_values (below s 0) (bound_as s (below s 2) (below s 0)) is) found stand
+  acts BindDeclarator (ATree sorts ∷ known) after is found stand = declared_acts (bound_as s (below s 1) (below s 0)) sorts known after is found stand
+  acts BindDeclarator known after is found stand = absurd (cc found)
+  acts BindFurtherDeclarator (ATree sorts ∷ known) after is found stand = declared_acts (bound_as s (below s 2) (below s 0)) sorts known after is found stand
+  acts BindFurtherDeclarator known after is found stand = absurd (cc found)
   acts NoteFunctionDeclarator known after is found stand =
       kept known after (reached _ next is ∙ noted_values (is_open s.scopes && ends_with_parameters (parts_below (below s 1))) (record s { function_end = Some s.taken }) refl) found stand
   acts AwaitBody known after is found stand = kept known after (reached _ next is) found stand
@@ -611,7 +653,8 @@ module _ (begun : Parts (List ℕ)) (s next : State) (rest : List Value) where
       (stand_same begun (AWord ∷ AWord ∷ known) (WordValue (token_of (below s 1)) [] ∷ WordValue (token_of (below s 1)) [] ∷ s.values) next.values rest (reached _ next is)
       (stand_more begun AWord (AWord ∷ known) (WordValue (token_of (below s 1)) []) (WordValue (token_of (below s 1)) [] ∷ s.values) rest tt
       (stand_more begun AWord known (WordValue (token_of (below s 1)) []) s.values rest tt stand)))
-  acts BindEnumerator known after is found stand = kept known after (declared_values (below s 0) Enumerator is) found stand
+  acts BindEnumerator (ATree sorts ∷ known) after is found stand = declared_acts Enumerator sorts known after is found stand
+  acts BindEnumerator known after is found stand = absurd (cc found)
   acts MakeAttributeList (AList slots ∷ AWord ∷ known) after is found stand = attribute_list_acts slots known after is found stand
   acts MakeAttributeList known after is found stand = absurd (cc found)
   acts AppendAttribute (AWord ∷ list ∷ known) after is found stand = append_attribute_acts list known after is found stand
@@ -631,7 +674,8 @@ module _ (begun : Parts (List ℕ)) (s next : State) (rest : List Value) where
       (type_name_values (parts_of (below s 0)) is)
   acts CountParameter known after is found stand =
       kept known after (reached _ next is ∙ limited_values (nat_lt (part_count (parts_of (below s 0))) most_parameters) (with_limit Parameters s) refl) found stand
-  acts BindParameter known after is found stand = kept known after (parameter_values (below s 1) (parts_of (below s 0)) is) found stand
+  acts BindParameter (AList slots ∷ known) after is found stand = bind_parameter_acts slots known after is found stand
+  acts BindParameter known after is found stand = absurd (cc found)
   acts CloseParameters known after is found stand = kept known after (reached _ next is) found stand
   acts OpenScope known after is found stand = kept known after (reached _ next is) found stand
   acts CloseScope known after is found stand = kept known after (reached _ next is) found stand

@@ -18,3 +18,4 @@ pub mod SpecifiedKinds
 pub mod HandedOn
 pub mod Numbered
 pub mod OwnKeywords
+pub mod HiddenNames

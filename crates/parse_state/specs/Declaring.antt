@@ -1,8 +1,9 @@
 -- Names that are declared, by ids and handles.
-use Rattle.std.specs.Prelude.{ℕ, List, [], ◌∷◌, Bool, if◌then◌else◌, Option, Some, None}
+use Rattle.std.specs.Prelude.{ℕ, ◌+◌, List, [], ◌∷◌, Bool, if◌then◌else◌, Option, Some, None}
 use Rattle.vocabulary.specs.declared.scope.Bound.{Bound}
 use Rattle.meaning_tree.specs.Trees.{Node, Parts, NoParts, Part}
 use Rattle.c_tokens.specs.Seen.{text_of}
+use Rattle.parse_state.specs.OnlyTrees.{only_child}
 use Rattle.parse_state.specs.declared.declaring.DeclaredName.{DeclaredName}
 use Rattle.parse_state.specs.declared.value.Value.{Value}
 use Rattle.parse_state.specs.declared.value.Value.TheVariants as kinds
@@ -39,3 +40,14 @@ first_in value = None
 abbrev pub told_here : Option (ℕ × Bound × Bool) → Option Bound
 told_here None = None
 told_here (Some told) = if told.2 then Some told.1 else None
+
+-- the number of what it hides, by what a look-up told
+abbrev pub told_hidden : Option (ℕ × Bound × Bool) → ℕ
+told_hidden None = 0
+told_hidden (Some told) = if told.2 then 0 else told.0 + 1
+
+-- the tree of a value, or the only one of a list
+abbrev pub top_in : Option Value → Option ℕ
+top_in (Some (kinds.Tree handle)) = Some handle
+top_in (Some (kinds.List children)) = only_child children
+top_in value = None

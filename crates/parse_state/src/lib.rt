@@ -10,6 +10,7 @@ mod children;
 mod declaring;
 mod fault;
 mod finishing;
+mod hiding;
 mod joining;
 mod leading;
 mod looking;

@@ -202,6 +202,44 @@ pub record BindExamples : Type 0 where
   -- parameters without a name bind nothing
   pub nameless : is_read (unit (codes "int f(int *, int *);")) ≡ true
 
+-- What names of inner scopes hide (6.2.1 p4): the number of each declarator and enumerator
+
+abbrev mutual
+  pub numbers_of : SyntaxTree → List ℕ
+  numbers_of (Node kinds.Declarator token name number parts) = number ∷ numbers_in parts
+  numbers_of (Node kinds.Enumerator token name number parts) = number ∷ numbers_in parts
+  numbers_of (Node kind token name number parts) = numbers_in parts
+
+  pub numbers_in : Parts (List ℕ) → List ℕ
+  numbers_in NoParts = []
+  numbers_in (Part role tree parts) = numbers_of tree ++ numbers_in parts
+
+abbrev pub hiding_numbers : Shown → List ℕ
+hiding_numbers (IsLeft (TreeValue tree ∷ [])) = numbers_of tree
+hiding_numbers told = []
+
+abbrev pub hiding : List ℕ → List ℕ
+hiding text = hiding_numbers (unit text)
+
+pub record HidingExamples : Type 0 where
+  -- the declarator of the file's `x` has handle 2
+  pub object : hiding (codes "int x; void f(void) { int x; }") ≡ 0 ∷ 0 ∷ 3 ∷ []
+  pub typedef : hiding (codes "int x; void f(void) { typedef int x; }") ≡ 0 ∷ 0 ∷ 3 ∷ []
+  pub enumerator : hiding (codes "int x; void f(void) { enum { x }; }") ≡ 0 ∷ 0 ∷ 3 ∷ []
+  pub linked : hiding (codes "int x; void f(void) { extern int x; }") ≡ 0 ∷ 0 ∷ 3 ∷ []
+  pub parameter : hiding (codes "int x; void f(int x) { }") ≡ 0 ∷ 0 ∷ 3 ∷ []
+  -- an enumerator is hidden as an object is
+  pub hidden_enumerator : hiding (codes "enum { x }; void f(void) { int x; }") ≡ 0 ∷ 0 ∷ 1 ∷ []
+  -- a parameter by an object of a block within the body, and that by one further in
+  pub blocks : hiding (codes "void f(int x) { { int x; { int x; } } }") ≡ 0 ∷ 0 ∷ 5 ∷ 11 ∷ []
+  -- the outer name is visible again behind the block, and so are no names of other blocks
+  pub behind : hiding (codes "int x; void f(void) { { int x; int y; } int x; int y; }") ≡ 0 ∷ 0 ∷ 3 ∷ 0 ∷ 3 ∷ 0 ∷ []
+  -- nothing is hidden in the file, nor by what is declared again in its scope
+  pub file : hiding (codes "int x; int x;") ≡ 0 ∷ 0 ∷ []
+  pub again : hiding (codes "int x; void f(void) { extern int x; extern int x; }") ≡ 0 ∷ 0 ∷ 3 ∷ 0 ∷ []
+  -- tags, members and labels are other names
+  pub tag : hiding (codes "struct x { int y; }; int y; void f(void) { int x; struct t { int y; }; y: ; }") ≡ 0 ∷ 0 ∷ 0 ∷ 0 ∷ 0 ∷ []
+
 -- Operators of one level, one behind the other (C11 6.5.5 to 6.5.14)
 
 -- `int x = 1 OPERATOR 2 OPERATOR 3;`

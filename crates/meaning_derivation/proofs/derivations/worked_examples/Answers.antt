@@ -51,6 +51,22 @@ returns-clause-binds c = record {
   nameless = refl;
 }
 
+pub returns-clause-hiding : goal.returns-clause-hiding
+unfolding opened
+returns-clause-hiding c = record {
+  object = refl;
+  typedef = refl;
+  enumerator = refl;
+  linked = refl;
+  parameter = refl;
+  hidden_enumerator = refl;
+  blocks = refl;
+  behind = refl;
+  file = refl;
+  again = refl;
+  tag = refl;
+}
+
 pub returns-clause-chains : goal.returns-clause-chains
 unfolding opened
 returns-clause-chains c = record {

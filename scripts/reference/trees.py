@@ -144,7 +144,11 @@ class Builder:
         return next((scope[space, name] for scope in reversed(self.scopes) if (space, name) in scope), None)
 
     def bind(self, at, is_typedef):
-        self.scopes[-1]["name", self.spelled(at)] = (is_typedef, at)
+        """Binds a name in the innermost scope, and gives the place of what it hides in an outer one, if it hides something."""
+        name = ("name", self.spelled(at))
+        hidden = None if name in self.scopes[-1] else self.found(*name)
+        self.scopes[-1][name] = (is_typedef, at)
+        return hidden and self.place(hidden[1])
 
     def starts_type(self, ahead=0):
         """Whether a type's specifiers begin here, attributes aside."""
@@ -214,8 +218,8 @@ class Builder:
     def declare(self, specifiers):
         """A declarator, whose name is bound at its end."""
         declared = self.declarator()
-        self.bind(declared.name, any(part.kind == "TypedefSpecifier" for _, part in specifiers.parts))
-        return declared
+        hidden = self.bind(declared.name, any(part.kind == "TypedefSpecifier" for _, part in specifiers.parts))
+        return declared._replace(node=declared.node._replace(number=hidden))
 
     def assertion(self):
         at = self.take()
@@ -317,8 +321,7 @@ class Builder:
             parts = of_type(*self.attribute_lists())
             if self.passes("="):
                 parts += ((U, self.conditional()),)
-            self.bind(at, False)
-            yield Node("Enumerator", at, self.spelled(at), parts=parts)
+            yield Node("Enumerator", at, self.spelled(at), self.bind(at, False), parts)
             self.passes(",")
         self.take("}")
 
@@ -383,10 +386,9 @@ class Builder:
     def parameter(self):
         first, specifiers = self.at, self.specifiers()
         declared = self.declarator()
-        if declared.name is not None:
-            self.bind(declared.name, False)
+        hidden = None if declared.name is None else self.bind(declared.name, False)
         is_said = declared.name is not None or declared.node.parts
-        said = [declared.node] if is_said else []
+        said = [declared.node._replace(number=hidden)] if is_said else []
         return Node("Parameter", first, parts=of_type(specifiers, *said, *self.attribute_lists()))
 
     # Attributes

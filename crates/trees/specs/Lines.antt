@@ -10,7 +10,7 @@ use Rattle.c_tokens.specs.declared.token.Token.{Token}
 use Rattle.c_tokens.specs.Seen.{text_of}
 use Rattle.trees.specs.Words.{kind_text, role_text}
 use Rattle.trees.specs.declared.lines.NumberUse.{NumberUse}
-use Rattle.trees.specs.declared.lines.NumberUse.TheVariants.{Nothing, Own, OwnWithoutName, OfToken, OfNode}
+use Rattle.trees.specs.declared.lines.NumberUse.TheVariants.{Nothing, Own, OwnWithoutName, OfToken, OfNode, OfHidden}
 
 -- nodes, the tokens to which they point, and the spellings of both
 pub record ShownUnit : Type 0 where
@@ -63,6 +63,11 @@ abbrev pub node_text : List Token → Option (TreeNode NameId) → List ℕ
 node_text tokens None = []
 node_text tokens (Some node) = leading_text tokens node.token
 
+-- a number that is 0, or the handle of a node and one
+abbrev pub hidden_text : ShownUnit → ℕ → List ℕ
+hidden_text shown zero = []
+hidden_text shown (suc handle) = node_text shown.tokens (node_at shown.list handle)
+
 -- what the number of a node of this kind is
 abbrev pub number_use : NodeKind → NumberUse
 number_use (kinds.IntegerConstant of_) = Own
@@ -79,6 +84,8 @@ number_use kinds.CompoundStatement = OfToken
 number_use kinds.DoStatement = OfToken
 number_use kinds.TypedefName = OfNode
 number_use kinds.Name = OfNode
+number_use kinds.Enumerator = OfHidden
+number_use kinds.Declarator = OfHidden
 number_use kind = Nothing
 
 -- the number of a node, which is this
@@ -88,6 +95,7 @@ number_used_so Own shown node = value_text node.number
 number_used_so OwnWithoutName shown node = value_without_name (text_of shown.names node.name) node.number
 number_used_so OfToken shown node = leading_text shown.tokens node.number
 number_used_so OfNode shown node = node_text shown.tokens (node_at shown.list node.number)
+number_used_so OfHidden shown node = hidden_text shown node.number
 
 abbrev pub number_shown : ShownUnit → TreeNode NameId → List ℕ
 number_shown shown node = number_used_so (number_use node.kind) shown node

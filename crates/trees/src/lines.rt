@@ -2,7 +2,7 @@
 ghost use Rattle.std.specs.Prelude.{◌≡◌, ◌++◌, OnOk};
 ghost use Rattle.std.specs.Fmt.{decimal};
 ghost use Rattle.c_tree.specs.Seen.{node_of};
-ghost use Rattle.trees.specs.Lines.{indentation, leading_text, line_and_column, name_text, node_line, number_shown, number_use, tag_text, value_text};
+ghost use Rattle.trees.specs.Lines.{hidden_text, indentation, leading_text, line_and_column, name_text, node_line, number_shown, number_use, tag_text, value_text};
 ghost use Rattle.trees.specs.Shown.{source_seen};
 
 use crate::source::Source;
@@ -25,9 +25,11 @@ pub enum NumberUse {
     OfToken,
     /// The handle of a node.
     OfNode,
+    /// The handle of a node and one, or 0.
+    OfHidden,
 }
 
-// What the number of a node of this kind is. Declarators, enumerators and names in expressions have none yet.
+// What the number of a node of this kind is.
 fn number_use(kind: NodeKind) -> NumberUse
     ensures { result ≡ number_use kind }
 {
@@ -45,6 +47,7 @@ fn number_use(kind: NodeKind) -> NumberUse
         | NodeKind::CompoundStatement
         | NodeKind::DoStatement => NumberUse::OfToken,
         NodeKind::TypedefName | NodeKind::Name => NumberUse::OfNode,
+        NodeKind::Enumerator | NodeKind::Declarator => NumberUse::OfHidden,
         _ => NumberUse::Nothing,
     }
 }
@@ -132,6 +135,22 @@ fn write_number(text: &mut Vec<u8>, source: &Source<'_>, node: &Node) -> Result<
             Some(node) => write_leading(text, source, node.token as u64),
             None => Ok(()),
         },
+        NumberUse::OfHidden => write_hidden(text, source, node.number),
+    }
+}
+
+// Appends that a declarator or an enumerator hides the one with the handle that is one less, if it hides one.
+#[tactic(auto, using(crate::proofs::Hidden::hidden_none, crate::proofs::Hidden::hidden_some))]
+fn write_hidden(text: &mut Vec<u8>, source: &Source<'_>, number: u64) -> Result<(), AllocError>
+    requires { source.now.unit.now.first ≡ 0 }
+    ensures { OnOk result (text.new.items ≡ text.old.items ++ hidden_text (source_seen source.now) number) }
+{
+    if number == 0 {
+        return Ok(());
+    }
+    match source.node(number - 1) {
+        Some(node) => write_leading(text, source, node.token as u64),
+        None => Ok(()),
     }
 }
 

@@ -1,0 +1,5 @@
+pub mod Scalars
+pub mod Rows
+pub mod Standing
+pub mod Declarators
+pub mod Objects

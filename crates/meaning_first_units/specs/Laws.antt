@@ -1,0 +1,20 @@
+-- What holds of units of the first form.
+use Rattle.std.specs.Prelude.{◌≢◌, List, []}
+use Rattle.vocabulary.specs.Rules.{rule_class}
+use Rattle.vocabulary.specs.declared.class.Class.TheVariants.{AddressSpace}
+use Rattle.meaning_operands.specs.Failures.{Failure}
+use Rattle.meaning_syntax.specs.Items.{Item}
+use Rattle.meaning_syntax.specs.Trees.{unit_tree}
+use Rattle.meaning_first_rules.specs.Failures.{IsListing}
+use Rattle.meaning_typing.specs.Units.{UnitNodes}
+use Rattle.meaning_typing.specs.laws.Surroundings.{IsLaidUnit}
+use Rattle.meaning_judgements.specs.WholeRules.{WholeFails}
+use Rattle.meaning_first_units.specs.Units.{IsInFirstForm}
+
+-- no rule of the class of address spaces fails in the unit
+abbrev pub IsSilent : UnitNodes → Type 0
+IsSilent nodes = (failure : Failure) → WholeFails nodes failure → rule_class failure.rule ≢ AddressSpace
+
+-- where none fails by the rules of all units, none does by those of the form
+abbrev pub SilenceIsHandedOver : Type 0
+SilenceIsHandedOver = (nodes : UnitNodes) (items : List Item) → IsLaidUnit nodes → IsInFirstForm nodes items → IsSilent nodes → IsListing (unit_tree items) []

@@ -152,6 +152,14 @@ links-extern : (in_file : Bool) (type_ : TypeTree) → links in_file extern_word
 links-extern true type_ = refl
 links-extern false type_ = refl
 
+pub object-linked :
+    (nodes : UnitNodes) (parent : ℕ) (role : Role) (outer : Surrounding) (name : List ℕ) (stars : ℕ) (flags : Flags) → kind_at nodes parent ≡ kinds.Declaration
+    → (object_declared nodes (asked kinds.Declaration parent 1 role outer) name stars flags).has_linkage ≡ true
+object-linked nodes parent role outer name stars flags is_parent =
+    let surrounding = asked kinds.Declaration parent 1 role outer in
+    ap (λ kind. declares_with_linkage kind && links (in_file nodes surrounding) extern_words.storage (scalar stars flags)) is_parent
+    ∙ links-extern (in_file nodes surrounding) (scalar stars flags)
+
 object-unbroken : (told : Told) (token : ℕ) (declaration : DeclaredFact) → declaration.is_typedef ≡ false → declaration.has_linkage ≡ true
     → object_broken told token false declaration ≡ []
 object-unbroken told token declaration no_typedef linked = rw (no_typedef, linked) refl
@@ -173,9 +181,7 @@ module _ (nodes : UnitNodes) (surroundings : List Surrounding) (earlier : List F
   what = object_declared nodes surrounding name stars flags
 
   linked : what.has_linkage ≡ true
-  linked =
-      ap (λ kind. declares_with_linkage kind && links (in_file nodes surrounding) extern_words.storage (scalar stars flags)) is_parent
-      ∙ links-extern (in_file nodes surrounding) (scalar stars flags)
+  linked = object-linked nodes parent role outer name stars flags is_parent
 
   specified : specifiers_of nodes earlier parent ≡ Some (extern_int flags)
   specified = ap (λ children. specified_by (fact_at earlier (get_or children 0 (length nodes)))) parts ∙ ap specified_by specify

@@ -138,7 +138,7 @@ is_quiet kinds.Address = true
 is_quiet kinds.Name = true
 is_quiet kind = false
 
-never : false ≡ true → ⊥
+pub never : false ≡ true → ⊥
 never is = cc is
 
 module _ (nodes : UnitNodes) (surroundings : List Surrounding) (earlier : List Fact) (handle : ℕ) where

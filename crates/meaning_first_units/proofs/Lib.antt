@@ -5,3 +5,6 @@ pub mod Declarators
 pub mod Objects
 pub mod Declaring
 pub mod Reaching
+pub mod Declared
+pub mod Distinct
+pub mod Types

@@ -5,6 +5,7 @@ use Rattle.vocabulary.specs.declared.node_kind.NodeKind.{NodeKind}
 use Rattle.vocabulary.specs.declared.role.Role.{Role}
 use Rattle.vocabulary.specs.Roles.{role_of}
 use Rattle.meaning_tree.specs.Nodes.{TreeNode, NodeList, HasNode, StandsFor, StandFor}
+use Rattle.meaning_tree.specs.Forms.{kind_of}
 use Rattle.meaning_tree.specs.Trees.{SyntaxTree, Node, Parts, NoParts, Part}
 use Rattle.meaning_typing.specs.Units.{UnitNodes, no_node, child_at, children_at, kind_at, node_at, unit_list}
 use Rattle.meaning_first_units.specs.Units.{own_number, without_link}
@@ -98,3 +99,13 @@ pub leaf-of :
 leaf-of nodes handle kind token name number makes =
     let is = node-of nodes handle kind token name number NoParts makes in
     subst (IsNode nodes handle kind token name number) (no-part nodes is.0 is.2) is.1
+
+-- the kind of a node is that of its tree, and so is its name
+pub makes-kind : (nodes : UnitNodes) (handle : ℕ) (tree : SyntaxTree) → Makes nodes handle tree → kind_at nodes handle ≡ kind_of tree
+makes-kind nodes handle (Node kind token name number parts) makes = (node-of nodes handle kind token name number parts makes).1.is_kind
+
+abbrev pub name_of : SyntaxTree → List ℕ
+name_of (Node kind token name number parts) = name
+
+pub makes-name : (nodes : UnitNodes) (handle : ℕ) (tree : SyntaxTree) → Makes nodes handle tree → (node_at nodes handle).name ≡ name_of tree
+makes-name nodes handle (Node kind token name number parts) makes = (node-of nodes handle kind token name number parts makes).1.is_name

@@ -136,7 +136,7 @@ pub record OfFunction (nodes : UnitNodes) (items : List Item) (handle : ℕ) : T
   pub is_kind : kind_at nodes parent ≡ kinds.FunctionDefinition
   pub is_named : (node_at nodes handle).name ≡ name
 
-by-parent :
+pub by-parent :
     (nodes : UnitNodes) (items : List Item) (handle parent place tag : ℕ) (tree : SyntaxTree) → kind_at nodes handle ≡ kinds.Declarator
     → slice_get (node_at nodes parent).children place ≡ Some (handle, tag) → Makes nodes parent tree → AllFine items tree
     → OfObject nodes items handle ⊎ OfFunction nodes items handle

@@ -8,3 +8,4 @@ pub mod Reaching
 pub mod Declared
 pub mod Distinct
 pub mod Types
+pub mod Named

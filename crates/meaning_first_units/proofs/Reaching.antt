@@ -172,7 +172,7 @@ child-fine nodes items parent place child (Node kind token name number parts) ma
     let is = node-of nodes parent kind token name number parts makes in
     part-fine nodes items is.0 parts place child is.2 fine.1 (ap (λ children. slice_get children place) (sym is.1.are_children) ∙ at)
 
-last-or-part : (handle count : ℕ) → handle < count → (handle ≡ count - 1) ⊎ (handle + 1 < count)
+pub last-or-part : (handle count : ℕ) → handle < count → (handle ≡ count - 1) ⊎ (handle + 1 < count)
 last-or-part handle count within = grind arith
 
 module _ (nodes : UnitNodes) (items : List Item) (unit : IsLaidUnit nodes) (root : Makes nodes (length nodes - 1) (unit_tree items)) where

@@ -9,3 +9,5 @@ pub mod Declared
 pub mod Distinct
 pub mod Types
 pub mod Named
+pub mod Statements
+pub mod Whole

@@ -1,0 +1,76 @@
+-- The promise, from the judge of all units to the machine.
+use Rattle.std.proofs.Common.{◌≡◌, ℕ, Bool, nat_le, true, false, ◌&&◌, List, [], ◌∷◌, Contains, Option, Some, None, if◌then◌else◌, refl, sym, ap, subst, ◌∙◌}
+use Rattle.std.proofs.lemmas.Bool.{both_ways}
+use Rattle.std.proofs.lemmas.Option.{none-some, same_Some}
+use Rattle.vocabulary.specs.Rules.{rule_class}
+use Rattle.vocabulary.specs.declared.class.Class.{Class}
+use Rattle.vocabulary.specs.declared.class.Class.TheVariants.{AddressSpace}
+use Rattle.meaning_operands.specs.Failures.{Failure, Broken}
+use Rattle.meaning_warnings.specs.Listing.{IsListing, is_on}
+use Rattle.meaning_rules.specs.Rules.{Judgement, Holds, BreaksConstraint, PassesObjectSize, first_refusal, least_broken, least_token}
+use Rattle.meaning_syntax.specs.Items.{Item}
+use Rattle.meaning_syntax.specs.Trees.{IsInFirstForm as IsTreeInForm, unit_tree}
+use Rattle.meaning_typing.specs.Facts.{Fact}
+use Rattle.meaning_typing.specs.Surroundings.{Surrounding, AreSurroundings}
+use Rattle.meaning_typing.specs.Units.{UnitNodes}
+use Rattle.meaning_typing.specs.laws.Surroundings.{IsLaidUnit}
+use Rattle.meaning_judgements.specs.WholeFacts.{AreWholeFacts}
+use Rattle.meaning_judgements.specs.WholeRules.{IsWholeJudged, holds, refused, whole_broken_in, whole_failures_in, whole_passed_in}
+use Rattle.meaning_judgements.proofs.JudgementLemmas.{failures_are_gathered}
+use Rattle.meaning_first_units.specs.Laws.{IsSilent}
+use Rattle.meaning_first_units.proofs.Whole.{silence_is_handed_over}
+use Rattle.meaning_machine.proofs.Worlds.{unit_is_safe}
+use Rattle.meaning_silence.specs.Laws.{AreOff, JudgedUnitsAreSafe, SilentUnitsAreSafe}
+use Rattle.meaning_silence.proofs.Listed.{listed}
+
+pub silent_units_are_safe : SilentUnitsAreSafe
+silent_units_are_safe nodes items unit form silent =
+    let tree_form : IsTreeInForm (unit_tree items) = record { items = items; fit = form.fit; bound = form.bound; is_tree = refl } in
+    unit_is_safe (unit_tree items) tree_form (silence_is_handed_over nodes items unit form silent)
+
+-- What is told
+
+-- a class that is on isn't off
+silent-by-listing :
+    (nodes : UnitNodes) (surroundings : List Surrounding) (facts : List Fact) (classes : List Class) (listing : List Failure) → IsLaidUnit nodes
+    → AreSurroundings nodes surroundings → AreWholeFacts nodes surroundings facts → IsListing (whole_failures_in nodes surroundings facts) listing
+    → is_on classes AddressSpace ≡ true → AreOff classes listing → IsSilent nodes
+silent-by-listing nodes surroundings facts classes listing unit are known lists on off failure fails is =
+    let found = (failures_are_gathered nodes surroundings facts unit are known failure).0 fails in
+    let other = listed (whole_failures_in nodes surroundings facts) listing lists failure found is in
+    both_ways (is_on classes AddressSpace) (sym (ap (is_on classes) other.2) ∙ off other.0 other.1) on
+
+-- a judgement that refuses holds of nothing
+abbrev listing_of : List Failure → Judgement → List Failure
+listing_of otherwise (Holds listing) = listing
+listing_of otherwise judgement = otherwise
+
+abbrev refuses : Judgement → Bool
+refuses (Holds listing) = false
+refuses judgement = true
+
+never-holds : (broken : Option Broken) (limit : Option ℕ) (listing : List Failure) → first_refusal broken limit ≡ Some (Holds listing) → ⊥
+never-holds None None listing is = none-some (Holds listing) is
+never-holds (Some broken) None listing is = both_ways true (sym (ap refuses (sym (same_Some _ _ is)))) refl
+never-holds None (Some token) listing is = both_ways true (sym (ap refuses (sym (same_Some _ _ is)))) refl
+never-holds (Some broken) (Some token) listing is = by (nat_le broken.token token) is
+  where
+    by : (before : Bool) → (if before then Some (BreaksConstraint broken) else Some PassesObjectSize) ≡ Some (Holds listing) → ⊥
+    by true same = both_ways true (sym (ap refuses (sym (same_Some _ _ same)))) refl
+    by false same = both_ways true (sym (ap refuses (sym (same_Some _ _ same)))) refl
+
+silent-by-judgement :
+    (nodes : UnitNodes) (surroundings : List Surrounding) (facts : List Fact) (classes : List Class) (listing : List Failure) (judgement : Judgement)
+    → judgement ≡ Holds listing → IsLaidUnit nodes → AreSurroundings nodes surroundings → AreWholeFacts nodes surroundings facts
+    → IsWholeJudged nodes surroundings facts judgement → is_on classes AddressSpace ≡ true → AreOff classes listing → IsSilent nodes
+silent-by-judgement nodes surroundings facts classes listing _ is unit are known (holds own none lists) on off =
+    let same : own ≡ listing = ap (listing_of listing) is in
+    silent-by-listing nodes surroundings facts classes listing unit are known (subst (IsListing (whole_failures_in nodes surroundings facts)) same lists) on off
+silent-by-judgement nodes surroundings facts classes listing _ is unit are known (refused judgement some) on off =
+    absurd (never-holds (least_broken (whole_broken_in nodes surroundings facts)) (least_token (whole_passed_in nodes surroundings facts)) listing
+    (some ∙ ap Some is))
+
+pub judged_units_are_safe : JudgedUnitsAreSafe
+judged_units_are_safe nodes items classes listing unit form judged on off =
+    silent_units_are_safe nodes items unit form
+    (silent-by-judgement nodes judged.0 judged.1 classes listing (Holds listing) refl unit judged.2 judged.3 judged.4 on off)

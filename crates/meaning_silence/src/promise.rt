@@ -1,0 +1,12 @@
+// The promise of silence.
+ghost use Rattle.meaning_silence.specs.Laws.{JudgedUnitsAreSafe, SilentUnitsAreSafe};
+
+/// No run of a unit of the first form meets a fault where no rule of the class of address spaces fails in the unit.
+pub fn silent_units_are_safe()
+    ensures { SilentUnitsAreSafe }
+{}
+
+/// Nor where the class is on and what is told of the unit has no failure of a class that is on.
+pub fn judged_units_are_safe()
+    ensures { JudgedUnitsAreSafe }
+{}

@@ -18,7 +18,7 @@ use Rattle.meaning_typing.specs.Units.{UnitNodes, child_at, children_at, kind_at
 use Rattle.meaning_typing.specs.WholeTyping.{whole_row_at}
 use Rattle.meaning_typing.specs.laws.Surroundings.{IsLaidUnit}
 use Rattle.meaning_judgements.specs.WholeFacts.{AreWholeFacts}
-use Rattle.meaning_first_units.specs.Units.{IsInFirstForm}
+use Rattle.meaning_first_units.specs.Units.{IsFirstFormUnit}
 use Rattle.meaning_first_units.proofs.Declarators.{declarator-fact, extern_int, object_declared, object-linked, specifiers-fact}
 use Rattle.meaning_first_units.proofs.Declaring.{NamedSo, NotDeclared, declared-by-name, is_quiet, never, nothing-declared}
 use Rattle.meaning_first_units.proofs.Objects.{ObjectShape, object-shape}

@@ -24,7 +24,7 @@ use Rattle.meaning_typing.specs.Units.{UnitNodes, child_at, children_at, kind_at
 use Rattle.meaning_typing.specs.WholeTyping.{whole_row_at}
 use Rattle.meaning_typing.specs.laws.Surroundings.{IsLaidUnit}
 use Rattle.meaning_judgements.specs.WholeFacts.{AreWholeFacts}
-use Rattle.meaning_first_units.specs.Units.{IsInFirstForm, without_link}
+use Rattle.meaning_first_units.specs.Units.{IsFirstFormUnit, without_link}
 use Rattle.meaning_first_units.proofs.Declarators.{declarator-fact, extern_int, object_declared, object-linked, specifiers-fact}
 use Rattle.meaning_first_units.proofs.Declared.{OfFunction, OfObject, by-parent}
 use Rattle.meaning_first_units.proofs.Declaring.{NamedSo, NotDeclared, declared-by-name, is_quiet, never, nothing-declared}
@@ -65,7 +65,7 @@ abbrev fact_name : Fact → List ℕ
 fact_name (Declared declaration) = declaration.name
 fact_name fact = []
 
-module _ (nodes : UnitNodes) (items : List Item) (surroundings : List Surrounding) (facts : List Fact) (unit : IsLaidUnit nodes) (form : IsInFirstForm nodes items)
+module _ (nodes : UnitNodes) (items : List Item) (surroundings : List Surrounding) (facts : List Fact) (unit : IsLaidUnit nodes) (form : IsFirstFormUnit nodes items)
     (are : AreSurroundings nodes surroundings) (known : AreWholeFacts nodes surroundings facts) where
   pub some-nodes : 0 < length nodes
   some-nodes = omega (arith, form.is_tree.0, length-map nodes without_link)

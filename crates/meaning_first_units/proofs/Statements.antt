@@ -33,7 +33,7 @@ use Rattle.meaning_typing.specs.laws.Surroundings.{IsLaidUnit}
 use Rattle.meaning_judgements.specs.UnitRows.{unit_row_at}
 use Rattle.meaning_judgements.specs.WholeFacts.{AreWholeFacts, whole_failures_at}
 use Rattle.meaning_first_units.specs.Laws.{IsSilent}
-use Rattle.meaning_first_units.specs.Units.{IsInFirstForm}
+use Rattle.meaning_first_units.specs.Units.{IsFirstFormUnit}
 use Rattle.meaning_first_units.proofs.Distinct.{found}
 use Rattle.meaning_first_units.proofs.Named.{around-is, earlier-is, fact-is, object-name}
 use Rattle.meaning_first_units.proofs.Reaching.{child-before}
@@ -110,7 +110,7 @@ behind : (stars : ℕ) (flags : Flags) (target : TypeTree) → target_of (value_
 behind zero flags target is = absurd (none-some target is)
 behind (suc stars) flags target is = record { fewer = stars; more = refl; is = sym (same_Some (scalar stars flags) target is) }
 
-module _ (nodes : UnitNodes) (items : List Item) (surroundings : List Surrounding) (facts : List Fact) (unit : IsLaidUnit nodes) (form : IsInFirstForm nodes items)
+module _ (nodes : UnitNodes) (items : List Item) (surroundings : List Surrounding) (facts : List Fact) (unit : IsLaidUnit nodes) (form : IsFirstFormUnit nodes items)
     (are : AreSurroundings nodes surroundings) (known : AreWholeFacts nodes surroundings facts) (silent : IsSilent nodes) where
   -- no rule of the class fails at a node
   none-fails : (handle : ℕ) → handle < length nodes → (failure : Failure) → Contains (whole_failures_at nodes surroundings facts handle) failure → rule_class failure.rule ≢ AddressSpace

@@ -29,13 +29,13 @@ use Rattle.meaning_typing.proofs.Surroundings.{surroundings_are_found}
 use Rattle.meaning_judgements.specs.WholeFacts.{AreWholeFacts}
 use Rattle.meaning_judgements.proofs.FactLemmas.{whole_facts_are_found}
 use Rattle.meaning_first_units.specs.Laws.{IsSilent, SilenceIsHandedOver}
-use Rattle.meaning_first_units.specs.Units.{IsInFirstForm}
+use Rattle.meaning_first_units.specs.Units.{IsFirstFormUnit}
 use Rattle.meaning_first_units.proofs.Declared.{FunctionShape, function-shape}
 use Rattle.meaning_first_units.proofs.Named.{around-is, root, some-nodes}
 use Rattle.meaning_first_units.proofs.Standing.{FirstPart, Make, Makes, first-part, node-of}
 use Rattle.meaning_first_units.proofs.Statements.{QuietAccess, QuietConversion, statement-quiet}
 
-module _ (nodes : UnitNodes) (items : List Item) (surroundings : List Surrounding) (facts : List Fact) (unit : IsLaidUnit nodes) (form : IsInFirstForm nodes items)
+module _ (nodes : UnitNodes) (items : List Item) (surroundings : List Surrounding) (facts : List Fact) (unit : IsLaidUnit nodes) (form : IsFirstFormUnit nodes items)
     (are : AreSurroundings nodes surroundings) (known : AreWholeFacts nodes surroundings facts) (silent : IsSilent nodes) where
   abbrev IsEvaluated : ℕ → Type 0
   IsEvaluated handle = (surrounding_at surroundings handle).is_evaluated ≡ true

@@ -9,7 +9,7 @@ use Rattle.meaning_first_rules.specs.Failures.{IsListing}
 use Rattle.meaning_typing.specs.Units.{UnitNodes}
 use Rattle.meaning_typing.specs.laws.Surroundings.{IsLaidUnit}
 use Rattle.meaning_judgements.specs.WholeRules.{WholeFails}
-use Rattle.meaning_first_units.specs.Units.{IsInFirstForm}
+use Rattle.meaning_first_units.specs.Units.{IsFirstFormUnit}
 
 -- no rule of the class of address spaces fails in the unit
 abbrev pub IsSilent : UnitNodes → Type 0
@@ -17,4 +17,4 @@ IsSilent nodes = (failure : Failure) → WholeFails nodes failure → rule_class
 
 -- where none fails by the rules of all units, none does by those of the form
 abbrev pub SilenceIsHandedOver : Type 0
-SilenceIsHandedOver = (nodes : UnitNodes) (items : List Item) → IsLaidUnit nodes → IsInFirstForm nodes items → IsSilent nodes → IsListing (unit_tree items) []
+SilenceIsHandedOver = (nodes : UnitNodes) (items : List Item) → IsLaidUnit nodes → IsFirstFormUnit nodes items → IsSilent nodes → IsListing (unit_tree items) []

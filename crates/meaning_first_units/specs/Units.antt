@@ -28,7 +28,7 @@ pub record IsLinked (nodes : UnitNodes) (name declarator : ℕ) : Type 0 where
   pub same : (node_at nodes declarator).name ≡ (node_at nodes name).name
 
 -- without their links the nodes stand for the tree of these items
-pub record IsInFirstForm (nodes : UnitNodes) (items : List Item) : Type 0 where
+pub record IsFirstFormUnit (nodes : UnitNodes) (items : List Item) : Type 0 where
   pub fit : list_all item_fits items ≡ true
   pub bound : are_bound [] items ≡ true
   pub is_tree : IsTreeOf (unit_list (map without_link nodes)) (unit_tree items)

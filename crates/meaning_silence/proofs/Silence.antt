@@ -20,8 +20,9 @@ use Rattle.meaning_judgements.proofs.JudgementLemmas.{failures_are_gathered}
 use Rattle.meaning_first_units.specs.Laws.{IsSilent}
 use Rattle.meaning_first_units.proofs.Whole.{silence_is_handed_over}
 use Rattle.meaning_machine.proofs.Worlds.{unit_is_safe}
-use Rattle.meaning_silence.specs.Laws.{AreOff, JudgedUnitsAreSafe, SilentUnitsAreSafe}
+use Rattle.meaning_silence.specs.Laws.{AreOff, JudgedUnitsAreSafe, SilentUnitsAreSafe, UntoldUnitsAreSafe}
 use Rattle.meaning_silence.proofs.Listed.{listed}
+use Rattle.meaning_silence.proofs.Untold.{unit-off}
 
 pub silent_units_are_safe : SilentUnitsAreSafe
 silent_units_are_safe nodes items unit form silent =
@@ -74,3 +75,7 @@ pub judged_units_are_safe : JudgedUnitsAreSafe
 judged_units_are_safe nodes items classes listing unit form judged on off =
     silent_units_are_safe nodes items unit form
     (silent-by-judgement nodes judged.0 judged.1 classes listing (Holds listing) refl unit judged.2 judged.3 judged.4 on off)
+
+pub untold_units_are_safe : UntoldUnitsAreSafe
+untold_units_are_safe nodes items shown classes listing unit form judged on none =
+    judged_units_are_safe nodes items classes listing unit form judged on (unit-off shown classes listing none)

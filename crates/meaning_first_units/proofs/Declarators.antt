@@ -1,30 +1,28 @@
 -- What the rows of specifiers and declarators say of objects of the first form.
-use Rattle.std.proofs.Common.{◌≡◌, ℕ, ℤ, zero, suc, ◌+◌, Bool, true, false, ◌||◌, ◌&&◌, not, List, [], ◌∷◌, ◌++◌, map, drop, get_or, length, Option, Some, None, option_map, option_and_then, if◌then◌else◌, refl, sym, ap, ap₂, ◌∙◌, append-nil}
+use Rattle.std.proofs.Common.{◌≡◌, ℕ, zero, suc, Bool, true, false, ◌||◌, ◌&&◌, List, [], ◌∷◌, ◌++◌, drop, get_or, length, Option, Some, option_map, option_and_then, if◌then◌else◌, refl, ap, ◌∙◌}
 use Rattle.vocabulary.specs.declared.node_kind.NodeKind.{NodeKind}
 use Rattle.vocabulary.specs.declared.node_kind.NodeKind.TheVariants as kinds
 use Rattle.vocabulary.specs.declared.role.Role.{Role}
 use Rattle.vocabulary.specs.declared.error_kind.ErrorKind.TheVariants.{DefinedTwice}
-use Rattle.vocabulary.specs.declared.int_kind.IntKind.TheVariants.{Int}
-use Rattle.meaning_types.specs.Types.{Space, NoSpace, NumberedSpace, NamedSpace, Flags, TypeTree, Typed, IntegerTree, PointerTree, flags_of, has_flag, no_flags, no_qualifiers, pointer_to}
+use Rattle.meaning_types.specs.Types.{Space, NoSpace, NumberedSpace, NamedSpace, Flags, TypeTree, no_flags, no_qualifiers, pointer_to}
 use Rattle.meaning_types.specs.Marks.{with_flags, marked, later_space}
 use Rattle.meaning_layout.specs.Sizes.{Told}
 use Rattle.meaning_operands.specs.Failures.{Broken}
 use Rattle.meaning_operands.specs.Operands.{is_integer}
-use Rattle.meaning_first_rules.specs.Typing.{behind_stars, flagged, int_with}
+use Rattle.meaning_first_rules.specs.Typing.{behind_stars, int_with}
 use Rattle.meaning_typing.specs.Aggregates.{KnownAggregates}
 use Rattle.meaning_typing.specs.DeclarationRows.{begins_with_initializer, declarator_parts_broken, declared_object_broken, definition_broken, defines, has_initializer, is_declaration_kind, is_definition_kind, is_earlier_definition, made_or, object_broken, own_bitwise_broken, part_broken, parts_broken}
 use Rattle.meaning_typing.specs.Declarators.{adjusted_in, declared, declared_if, declared_type, declarator_fact, declares_with_linkage, derived, derived_by, in_file, leading_lists, links, lists_before, lists_behind, lists_in_front, own_marks, specified_by, specifiers_of}
-use Rattle.meaning_typing.specs.Facts.{Fact, Specified, Declared, SpecifiedFact, DeclaredFact, StorageFact, fact_at}
-use Rattle.meaning_typing.specs.MemberRows.{aggregates_before, is_member_declaration}
-use Rattle.meaning_typing.specs.MemberRows.{member_declarator_row}
+use Rattle.meaning_typing.specs.Facts.{Fact, Specified, Declared, SpecifiedFact, DeclaredFact, fact_at}
+use Rattle.meaning_typing.specs.MemberRows.{aggregates_before, is_member_declaration, member_declarator_row}
 use Rattle.meaning_typing.specs.Rows.{breaks_named, unless_broken}
 use Rattle.meaning_typing.specs.Specifiers.{Marks, Words, attributes_among, marks_among, marks_behind, no_marks, no_words, with_marks, words_of, type_of_words}
 use Rattle.meaning_typing.specs.Surroundings.{Surrounding, Want, ForValue, asked, surrounding_at}
 use Rattle.meaning_typing.specs.Tags.{any_type_said, attributes_of_specifiers, bitwise_broken, bitwise_words, is_any_below, specifiers_by, specifiers_row}
 use Rattle.meaning_typing.specs.Typing.{token_at}
-use Rattle.meaning_typing.specs.Units.{UnitNodes, child_at, children_at, children_from, kind_at, node_at}
-use Rattle.meaning_typing.specs.Wholes.{loaded_broken, row_loaded}
-use Rattle.meaning_typing.specs.WholeTyping.{declaration_broken, declaration_row_by, declared_row, whole_constant_at, whole_declarator_row, whole_row_at, whole_row_by, whole_row_of}
+use Rattle.meaning_typing.specs.Units.{UnitNodes, child_at, children_at, kind_at, node_at}
+use Rattle.meaning_typing.specs.Wholes.{loaded_broken}
+use Rattle.meaning_typing.specs.WholeTyping.{declaration_broken, declaration_row_by, declared_row, whole_constant_at, whole_declarator_row, whole_row_at, whole_row_by}
 use Rattle.meaning_first_units.proofs.Rows.{row-known}
 use Rattle.meaning_first_units.proofs.Scalars.{scalar}
 

@@ -1,30 +1,18 @@
 -- Which declarators a unit of the first form has, and what they declare.
-use Rattle.std.proofs.Common.{◌≡◌, ℕ, zero, suc, ◌+◌, ◌-◌, ◌<◌, ◌≤◌, ◌⊎◌, inl, inr, Bool, true, false, ◌||◌, List, [], ◌∷◌, ◌++◌, length, take, get_or, Contains, Option, Some, None, slice_get, refl, sym, ap, subst, ◌∙◌, arith}
-use Rattle.std.proofs.lemmas.Option.{none-some, same_Some, get_or_from_slice_get}
-use Rattle.std.proofs.lemmas.List.{get_or-take}
+use Rattle.std.proofs.Common.{◌≡◌, ℕ, zero, suc, ◌+◌, ◌<◌, ◌⊎◌, inl, inr, Bool, true, false, ◌||◌, List, [], ◌∷◌, length, Contains, Some, slice_get, refl, sym, ap, subst, ◌∙◌}
+use Rattle.std.proofs.lemmas.Option.{none-some, same_Some}
 use Rattle.vocabulary.specs.declared.node_kind.NodeKind.{NodeKind}
 use Rattle.vocabulary.specs.declared.node_kind.NodeKind.TheVariants as kinds
 use Rattle.vocabulary.specs.declared.role.Role.TheVariants.{Evaluated, TypePart}
 use Rattle.vocabulary.specs.Roles.{role_of}
-use Rattle.meaning_types.specs.Types.{Flags, TypeTree, no_flags}
 use Rattle.meaning_tree.specs.Trees.{SyntaxTree, Node, Parts, NoParts, Part, parts_of}
 use Rattle.meaning_syntax.specs.Items.{Word, Statement, Item, Object, Function}
-use Rattle.meaning_syntax.specs.Trees.{function_declarator, function_tree, object_tree, plain_node, statement_trees, unit_tree, void_specifiers}
-use Rattle.meaning_first_rules.specs.Typing.{flagged}
-use Rattle.meaning_typing.specs.Facts.{Fact, Unknown, Declared, DeclaredFact, Specified, fact_at}
-use Rattle.meaning_typing.specs.MemberRows.{is_member_declaration}
-use Rattle.meaning_typing.specs.Surroundings.{Surrounding, AreSurroundings, asked, of_unit, surrounding_at}
-use Rattle.meaning_typing.specs.Units.{UnitNodes, child_at, children_at, kind_at, node_at}
-use Rattle.meaning_typing.specs.WholeTyping.{whole_row_at}
-use Rattle.meaning_typing.specs.laws.Surroundings.{IsLaidUnit}
-use Rattle.meaning_judgements.specs.WholeFacts.{AreWholeFacts}
-use Rattle.meaning_first_units.specs.Units.{IsFirstFormUnit}
-use Rattle.meaning_first_units.proofs.Declarators.{declarator-fact, extern_int, object_declared, object-linked, specifiers-fact}
-use Rattle.meaning_first_units.proofs.Declaring.{NamedSo, NotDeclared, declared-by-name, is_quiet, never, nothing-declared}
+use Rattle.meaning_syntax.specs.Trees.{function_declarator, function_tree, plain_node, statement_trees, void_specifiers}
+use Rattle.meaning_typing.specs.Units.{UnitNodes, kind_at, node_at}
+use Rattle.meaning_first_units.proofs.Declaring.{never}
 use Rattle.meaning_first_units.proofs.Objects.{ObjectShape, object-shape}
-use Rattle.meaning_first_units.proofs.Reaching.{AllFine, Fine, IsFine, above, child-before, has_declarator, is_declarator, is_declarator_kind, reach}
-use Rattle.meaning_first_units.proofs.Scalars.{scalar}
-use Rattle.meaning_first_units.proofs.Standing.{FirstPart, IsNode, Make, Makes, children-are, first-part, handles_of, makes-kind, makes-name, no-part, node-of}
+use Rattle.meaning_first_units.proofs.Reaching.{AllFine, has_declarator, is_declarator, is_declarator_kind}
+use Rattle.meaning_first_units.proofs.Standing.{Make, Makes, first-part, makes-kind, makes-name, no-part, node-of}
 
 -- Functions as nodes
 

@@ -1,26 +1,25 @@
 -- Which nodes of the first form declare something: declarators alone, and under their own names.
-use Rattle.std.proofs.Common.{◌≡◌, ℕ, ℤ, Bool, true, false, List, [], ◌∷◌, ◌++◌, Option, Some, None, if◌then◌else◌, refl, sym, ap, subst, ◌∙◌}
+use Rattle.std.proofs.Common.{◌≡◌, ℕ, ℤ, Bool, true, false, List, [], ◌∷◌, Option, Some, None, if◌then◌else◌, refl, sym, subst}
 use Rattle.vocabulary.specs.declared.node_kind.NodeKind.{NodeKind}
 use Rattle.vocabulary.specs.declared.node_kind.NodeKind.TheVariants as kinds
 use Rattle.meaning_types.specs.Types.{TypeTree, Typed, PointerTree}
 use Rattle.meaning_layout.specs.Sizes.{Told}
 use Rattle.meaning_operands.specs.Failures.{Broken}
-use Rattle.meaning_typing.specs.Aggregates.{KnownAggregates, is_const_within}
-use Rattle.meaning_typing.specs.DeclarationRows.{declarator_parts_broken}
+use Rattle.meaning_typing.specs.Aggregates.{KnownAggregates}
 use Rattle.meaning_typing.specs.Declarators.{declared_if, declared_type, declarator_fact, named_if, parameter_fact, parameter_type, specifiers_of}
 use Rattle.meaning_typing.specs.EnumRows.{enumerator_name_fact, is_enumerator}
 use Rattle.meaning_typing.specs.Expressions.{address_row, assigned, assignment_row, has_address, indirection_of, indirection_row, store_broken}
-use Rattle.meaning_typing.specs.Facts.{Fact, Unknown, Expression, Specified, Declared, NamedType, ExpressionFact, DeclaredFact, SpecifiedFact, StorageFact, fact_at, type_of_value}
+use Rattle.meaning_typing.specs.Facts.{Fact, Unknown, Expression, Specified, Declared, NamedType, ExpressionFact, SpecifiedFact, fact_at, type_of_value}
 use Rattle.meaning_typing.specs.MemberRows.{aggregates_before, is_member_declaration, member_declarator_row}
 use Rattle.meaning_typing.specs.Names.{name_row}
-use Rattle.meaning_typing.specs.Rows.{Row, gives, known, nothing, unless_broken}
+use Rattle.meaning_typing.specs.Rows.{Row, known, nothing, unless_broken}
 use Rattle.meaning_typing.specs.Specifiers.{Words, words_of}
 use Rattle.meaning_typing.specs.Surroundings.{Surrounding, Want, surrounding_at}
 use Rattle.meaning_typing.specs.Tags.{any_type_said, attributes_of_specifiers, specifiers_by}
 use Rattle.meaning_typing.specs.Typing.{part_fact, part_token, row_with_constant, token_at, with_constant}
-use Rattle.meaning_typing.specs.Units.{UnitNodes, child_at, children_at, kind_at, node_at}
-use Rattle.meaning_typing.specs.Wholes.{as_stored, loaded_broken, row_loaded}
-use Rattle.meaning_typing.specs.WholeTyping.{declaration_broken, declaration_row_by, declared_row, whole_constant_at, whole_declarator_row, whole_row_at, whole_row_by, whole_row_of}
+use Rattle.meaning_typing.specs.Units.{UnitNodes, children_at, kind_at, node_at}
+use Rattle.meaning_typing.specs.Wholes.{as_stored, row_loaded}
+use Rattle.meaning_typing.specs.WholeTyping.{declaration_row_by, declared_row, whole_constant_at, whole_declarator_row, whole_row_at, whole_row_by, whole_row_of}
 
 -- nothing is declared
 abbrev pub NotDeclared : Fact → Type 0

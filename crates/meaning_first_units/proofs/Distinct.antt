@@ -1,12 +1,12 @@
 -- Of items whose names are bound no two have one name.
-use Rattle.std.proofs.Common.{◌≡◌, Bool, true, false, ◌||◌, ◌&&◌, not, List, [], ◌∷◌, ◌++◌, Contains, Option, Some, None, if◌then◌else◌, ◌⊎◌, inl, inr, refl, sym, ap, subst, ◌∙◌, ℕ}
+use Rattle.std.proofs.Common.{◌≡◌, Bool, true, false, ◌||◌, ◌&&◌, not, List, [], ◌∷◌, ◌++◌, Contains, Some, if◌then◌else◌, inl, inr, refl, sym, ap, subst, ◌∙◌, ℕ}
 use Rattle.std.specs.List.{list_any, list_all}
 use Rattle.std.specs.Str.{bytes_eq}
 use Rattle.std.proofs.lemmas.Bool.{and_parts, both_ways, not-true}
 use Rattle.std.proofs.lemmas.List.Folds.{list_any-append}
 use Rattle.std.proofs.lemmas.Slice.Eq.{bytes_eq-Decides}
 use Rattle.std.proofs.lemmas.Option.{none-some, same_Some}
-use Rattle.meaning_syntax.specs.Items.{Item, Object, Function, Word}
+use Rattle.meaning_syntax.specs.Items.{Item, Object, Function}
 use Rattle.meaning_syntax.specs.Binding.{Declared, are_bound, is_declared, item_name, item_declared, item_statements, object_of, statement_binds}
 use Rattle.meaning_first_rules.proofs.Elements.{Contains-nil, Contains-cons_cases, Contains-cons_head, Contains-cons_tail}
 
@@ -54,13 +54,13 @@ same-item before (first ∷ items) one other bound among also same =
     let behind = (bound-parts before first items bound).1 in
     elim (Contains-cons_cases first items one among) [
       | inl is_first ↦ elim (Contains-cons_cases first items other also) [
-          | inl first_too ↦ sym is_first ∙ first_too
-          | inr later ↦ absurd (later-differs before items first other behind later (ap item_name is_first ∙ same))
-        ]
+        | inl first_too ↦ sym is_first ∙ first_too
+        | inr later ↦ absurd (later-differs before items first other behind later (ap item_name is_first ∙ same))
+      ]
       | inr later ↦ elim (Contains-cons_cases first items other also) [
-          | inl is_first ↦ absurd (later-differs before items first one behind later (ap item_name is_first ∙ sym same))
-          | inr later_too ↦ same-item (before ++ first ∷ []) items one other behind later later_too same
-        ]
+        | inl is_first ↦ absurd (later-differs before items first one behind later (ap item_name is_first ∙ sym same))
+        | inr later_too ↦ same-item (before ++ first ∷ []) items one other behind later later_too same
+      ]
     ]
 
 -- an object that is found by its name

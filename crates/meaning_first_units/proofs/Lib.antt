@@ -11,3 +11,4 @@ pub mod Types
 pub mod Named
 pub mod Statements
 pub mod Whole
+pub mod Worked

@@ -1,26 +1,25 @@
 -- What is known of names in statements of the first form.
-use Rattle.std.proofs.Common.{◌≡◌, ℕ, zero, suc, ◌+◌, ◌-◌, ◌<◌, ◌≤◌, ◌⊎◌, inl, inr, Bool, true, false, ◌||◌, ◌&&◌, List, [], ◌∷◌, ◌++◌, map, length, take, get_or, Contains, Option, Some, None, slice_get, if◌then◌else◌, refl, sym, ap, ap₂, subst, ◌∙◌, arith, length-take, min}
+use Rattle.std.proofs.Common.{◌≡◌, ℕ, ◌-◌, ◌<◌, ◌⊎◌, inl, inr, Bool, true, false, ◌||◌, List, [], ◌∷◌, length, take, get_or, Contains, Some, slice_get, if◌then◌else◌, refl, sym, ap, subst, ◌∙◌, arith, length-take}
 use Rattle.std.specs.Str.{bytes_eq}
 use Rattle.std.proofs.lemmas.Bool.{and_parts}
-use Rattle.std.proofs.lemmas.Option.{none-some, same_Some, get_or_from_slice_get, slice_get_within}
+use Rattle.std.proofs.lemmas.Option.{get_or_from_slice_get, slice_get_within}
 use Rattle.std.proofs.lemmas.List.{get_or-take, length-map}
 use Rattle.std.proofs.lemmas.Slice.Eq.{bytes_eq-Decides}
 use Rattle.vocabulary.specs.declared.node_kind.NodeKind.{NodeKind}
 use Rattle.vocabulary.specs.declared.node_kind.NodeKind.TheVariants as kinds
 use Rattle.vocabulary.specs.Roles.{role_of}
-use Rattle.meaning_types.specs.Types.{Flags, TypeTree, no_flags}
+use Rattle.meaning_types.specs.Types.{TypeTree, no_flags}
 use Rattle.meaning_tree.specs.Forms.{kind_of}
 use Rattle.meaning_tree.specs.Nodes.{end_of}
-use Rattle.meaning_tree.specs.Trees.{SyntaxTree, Node, Parts, NoParts, Part}
-use Rattle.meaning_syntax.specs.Items.{Word, Statement, Item, Object, Function}
-use Rattle.meaning_syntax.specs.Binding.{item_name}
+use Rattle.meaning_tree.specs.Trees.{SyntaxTree, Node}
+use Rattle.meaning_syntax.specs.Items.{Word, Item, Object, Function}
 use Rattle.meaning_syntax.specs.Trees.{unit_tree}
 use Rattle.meaning_first_rules.specs.Typing.{flagged}
 use Rattle.meaning_typing.specs.Facts.{Fact, Unknown, Expression, Declared, DeclaredFact, Addressed, Specified, fact_at}
 use Rattle.meaning_typing.specs.MemberRows.{is_member_declaration}
 use Rattle.meaning_typing.specs.Names.{address_of_name, common_type, linked_types, links_name, type_of_name}
 use Rattle.meaning_typing.specs.Surroundings.{Surrounding, AreSurroundings, asked, of_unit, surrounding_at}
-use Rattle.meaning_typing.specs.Units.{UnitNodes, child_at, children_at, kind_at, node_at}
+use Rattle.meaning_typing.specs.Units.{UnitNodes, children_at, kind_at, node_at}
 use Rattle.meaning_typing.specs.WholeTyping.{whole_row_at}
 use Rattle.meaning_typing.specs.laws.Surroundings.{IsLaidUnit}
 use Rattle.meaning_judgements.specs.WholeFacts.{AreWholeFacts}
@@ -30,7 +29,7 @@ use Rattle.meaning_first_units.proofs.Declared.{OfFunction, OfObject, by-parent}
 use Rattle.meaning_first_units.proofs.Declaring.{NamedSo, NotDeclared, declared-by-name, is_quiet, never, nothing-declared}
 use Rattle.meaning_first_units.proofs.Distinct.{same-item}
 use Rattle.meaning_first_units.proofs.Objects.{ObjectShape}
-use Rattle.meaning_first_units.proofs.Reaching.{AllFine, Above, Fine, above, is_declarator_kind, last-or-part, reach}
+use Rattle.meaning_first_units.proofs.Reaching.{AllFine, above, is_declarator_kind, last-or-part, reach}
 use Rattle.meaning_first_units.proofs.Rows.{located, name-fact}
 use Rattle.meaning_first_units.proofs.Scalars.{scalar}
 use Rattle.meaning_first_units.proofs.Standing.{Makes, handles_of, makes-kind, plain}
@@ -131,9 +130,9 @@ module _ (nodes : UnitNodes) (items : List Item) (surroundings : List Surroundin
       let fine = reach nodes items unit root handle within in
       elim (quiet-or-declarator (kind_at nodes handle) (fine-kind items fine.tree fine.all (kind_at nodes handle) (makes-kind nodes handle fine.tree fine.makes))) [
         | inl declarator ↦ elim (declarator-item handle within declarator) [
-            | inl object ↦ of-object object own
-            | inr function ↦ absurd (of-function function declarator own)
-          ]
+          | inl object ↦ of-object object own
+          | inr function ↦ absurd (of-function function declarator own)
+        ]
         | inr quiet ↦
             absurd (subst NotDeclared (sym (fact-is handle within) ∙ is)
             (nothing-declared nodes surroundings (take handle facts) handle quiet (λ is_name. (form.linked handle is_name).is_declarator)))
@@ -203,6 +202,6 @@ module _ (nodes : UnitNodes) (items : List Item) (surroundings : List Surroundin
           ∙ common-one type_ declaration.type_ (linked_types object.name (take handle facts)) (ap item_type same) all in (
             address_of_name declaration,
             fact-is handle within
-            ∙ name-fact nodes surroundings (take handle facts) handle declaration stars (flagged no_flags words) is_name link.is_declarator
+                ∙ name-fact nodes surroundings (take handle facts) handle declaration stars (flagged no_flags words) is_name link.is_declarator
                 (earlier-is handle declarator link.before ∙ is_fact) refl refl of_type,
           )

@@ -1,10 +1,9 @@
 -- Declarations of objects as nodes.
-use Rattle.std.proofs.Common.{◌≡◌, ℕ, zero, suc, ◌+◌, ◌<◌, Bool, true, false, ◌&&◌, List, [], ◌∷◌, ◌++◌, map, length, Some, if◌then◌else◌, refl, sym, ap, ap₂, subst, ◌∙◌, append-nil, arith}
+use Rattle.std.proofs.Common.{◌≡◌, ℕ, zero, suc, ◌+◌, ◌<◌, Bool, true, false, List, [], ◌∷◌, ◌++◌, length, Some, if◌then◌else◌, refl, sym, ap, ap₂, subst, ◌∙◌, append-nil}
 use Rattle.vocabulary.specs.declared.node_kind.NodeKind.TheVariants as kinds
 use Rattle.vocabulary.specs.declared.role.Role.TheVariants.{Evaluated, TypePart}
-use Rattle.vocabulary.specs.Roles.{role_of}
 use Rattle.meaning_types.specs.Types.{Flags, no_flags}
-use Rattle.meaning_tree.specs.Trees.{SyntaxTree, Node, Parts, NoParts, Part, parts_of}
+use Rattle.meaning_tree.specs.Trees.{Node, NoParts, Part, parts_of}
 use Rattle.meaning_syntax.specs.Items.{Word, Noderef, AddressSpace, attribute_spelled, word_spelled}
 use Rattle.meaning_syntax.specs.Trees.{attribute_trees, declarator_tree, object_specifiers, object_tree, star_trees, word_trees, word_tree, leaf}
 use Rattle.meaning_syntax.specs.Words.{is_plain_identifier, number_of}
@@ -12,9 +11,9 @@ use Rattle.meaning_first_rules.specs.Typing.{flagged, space_of}
 use Rattle.meaning_typing.specs.Facts.{Fact, fact_at}
 use Rattle.meaning_typing.specs.Specifiers.{Marks, Words, marked_by, marks_behind, no_marks, no_words, space_named, type_named, type_of_words, with_word, words_of}
 use Rattle.meaning_typing.specs.Tags.{any_type_said, attributes_of_specifiers, names_any_type, tag_attributes}
-use Rattle.meaning_typing.specs.Units.{UnitNodes, child_at, children_at, kind_at, node_at}
-use Rattle.meaning_first_units.proofs.Declarators.{Specify, Stars, extern_words, no-stars, of_words, one-star}
-use Rattle.meaning_first_units.proofs.Standing.{FirstPart, IsNode, Make, Makes, children-are, first-part, handles_of, leaf-of, no-part, node-of}
+use Rattle.meaning_typing.specs.Units.{UnitNodes, children_at, kind_at, node_at}
+use Rattle.meaning_first_units.proofs.Declarators.{Specify, Stars, no-stars, of_words, one-star}
+use Rattle.meaning_first_units.proofs.Standing.{Make, Makes, children-are, first-part, handles_of, leaf-of, no-part, node-of}
 
 -- Stars
 
@@ -111,7 +110,7 @@ lists-of nodes token (word ∷ words) children make =
         said = λ facts said. ap (λ kind. if names_any_type kind then type_named (fact_at facts list) else Some (type_of_words said)) is.1.is_kind;
       }),
       ap (marks_behind nodes no_marks) (children-are nodes list kinds.AttributeList token [] 0 is.0 is.1)
-      ∙ words-marks nodes (token + 3) (word ∷ words) is.0 no_flags is.2,
+          ∙ words-marks nodes (token + 3) (word ∷ words) is.0 no_flags is.2,
     )
 
 -- `extern int` and its attribute

@@ -1,25 +1,24 @@
 -- Each node of a unit of the first form is one of those that its items have.
-use Rattle.std.proofs.Common.{◌≡◌, ℕ, zero, suc, ◌+◌, ◌-◌, ◌<◌, ◌≤◌, ◌⊎◌, inl, inr, Bool, true, false, ◌||◌, List, [], ◌∷◌, ◌++◌, length, Contains, Option, Some, None, slice_get, if◌then◌else◌, refl, sym, ap, subst, ◌∙◌, arith}
+use Rattle.std.proofs.Common.{◌≡◌, ℕ, zero, suc, ◌+◌, ◌-◌, ◌<◌, ◌≤◌, ◌⊎◌, inl, inr, Bool, true, false, ◌||◌, List, [], ◌∷◌, length, Contains, Some, slice_get, if◌then◌else◌, refl, sym, ap, subst, ◌∙◌, arith}
 use Rattle.std.proofs.lemmas.Option.{none-some, same_Some, option_and_then_some, get_or_from_slice_get, slice_get-get_or, slice_get_within}
 use Rattle.std.proofs.lemmas.List.Elements.{All-get_or}
-use Rattle.std.specs.Option.{option_and_then}
 use Rattle.vocabulary.specs.declared.node_kind.NodeKind.{NodeKind}
 use Rattle.vocabulary.specs.declared.node_kind.NodeKind.TheVariants as kinds
 use Rattle.vocabulary.specs.declared.role.Role.{Role}
 use Rattle.vocabulary.specs.declared.role.Role.TheVariants.{Evaluated, TypePart}
 use Rattle.meaning_tree.specs.Trees.{SyntaxTree, Node, Parts, NoParts, Part, parts_of}
-use Rattle.meaning_tree.specs.Nodes.{TreeNode, NodeList, HasNode, end_of}
-use Rattle.meaning_tree.specs.LookUps.{child_at as found_child, node_at as found_at}
-use Rattle.meaning_tree.specs.Laid.{HasOneParent, IsChildAt}
+use Rattle.meaning_tree.specs.Nodes.{TreeNode}
+use Rattle.meaning_tree.specs.LookUps.{node_at as found_at}
+use Rattle.meaning_tree.specs.Laid.{IsChildAt}
 use Rattle.meaning_tree.proofs.LookingUp.{node_at-exact}
 use Rattle.meaning_syntax.specs.Items.{Word, Noderef, AddressSpace, Statement, Assign, AssignThrough, AssignAddress, Item, Object, Function, attribute_spelled, item_spelled, statement_spelled, word_spelled}
-use Rattle.meaning_syntax.specs.Trees.{attribute_trees, declarator_tree, expression_tree, function_tree, item_tree, item_trees, leaf, object_specifiers, object_tree, star_trees, statement_tree, statement_trees, unit_tree, word_tree, word_trees}
+use Rattle.meaning_syntax.specs.Trees.{attribute_trees, function_tree, item_tree, item_trees, object_tree, star_trees, statement_tree, statement_trees, unit_tree, word_tree, word_trees}
 use Rattle.meaning_syntax.specs.Words.{is_plain_identifier, number_of}
-use Rattle.meaning_typing.specs.Units.{UnitNodes, no_node, kind_at, node_at, unit_list}
+use Rattle.meaning_typing.specs.Units.{UnitNodes, no_node, node_at, unit_list}
 use Rattle.meaning_typing.specs.laws.Surroundings.{IsLaidUnit}
 use Rattle.meaning_first_rules.proofs.Elements.{Contains-cons_head, Contains-cons_tail}
 use Rattle.meaning_first_units.proofs.Declaring.{is_quiet}
-use Rattle.meaning_first_units.proofs.Standing.{FirstPart, IsNode, Make, Makes, first-part, node-of}
+use Rattle.meaning_first_units.proofs.Standing.{Make, Makes, node-of}
 
 -- Trees
 
@@ -104,16 +103,30 @@ statements-fine items first (statement ∷ statements) =
 item-fine : (items : List Item) (first : ℕ) (item : Item) → Contains items item → AllFine items (item_tree first item) × (is_declarator (item_tree first item) ≡ false)
 item-fine items first (Object words stars name) among =
     let attributes = attributes-fine items (first + 2) words in
-    let star = stars-fine items (first + 2 + length (attribute_spelled words)) stars in
-    (((first, words, stars, name, among, refl),
-    (((refl, attributes.1), (((refl, refl), tt), (((refl, refl), tt), attributes.0))),
-    (((refl, star.1), star.0), tt))), refl)
+    let star = stars-fine items (first + 2 + length (attribute_spelled words)) stars in (
+      (
+        (first, words, stars, name, among, refl),
+        (
+          ((refl, attributes.1), (((refl, refl), tt), (((refl, refl), tt), attributes.0))),
+          (((refl, star.1), star.0), tt),
+        ),
+      ),
+      refl,
+    )
 item-fine items first (Function name statements) among =
-    let body = statements-fine items (first + 6) statements in
-    (((first, name, statements, among, refl),
-    (((refl, refl), (((refl, refl), tt), tt)),
-    (((refl, refl), (((refl, refl), (((refl, refl), (((refl, refl), (((refl, refl), tt), tt)), tt)), tt)), tt)),
-    (((refl, body.1), body.0), tt)))), refl)
+    let body = statements-fine items (first + 6) statements in (
+      (
+        (first, name, statements, among, refl),
+        (
+          ((refl, refl), (((refl, refl), tt), tt)),
+          (
+            ((refl, refl), (((refl, refl), (((refl, refl), (((refl, refl), (((refl, refl), tt), tt)), tt)), tt)), tt)),
+            (((refl, body.1), body.0), tt),
+          ),
+        ),
+      ),
+      refl,
+    )
 
 items-fine : (all : List Item) (first : ℕ) (items : List Item) → ((item : Item) → Contains items item → Contains all item) → ListFine all Evaluated (item_trees first items)
 items-fine all first [] among = (tt, refl)

@@ -1,15 +1,15 @@
 -- The rows of expressions of the first form.
-use Rattle.std.proofs.Common.{◌≡◌, ℕ, ℤ, zero, suc, Bool, true, false, List, [], ◌∷◌, ◌++◌, Option, Some, None, option_map, if◌then◌else◌, refl, sym, ap, ◌∙◌, append-nil}
+use Rattle.std.proofs.Common.{◌≡◌, ℕ, ℤ, zero, suc, Bool, true, false, List, [], ◌∷◌, Option, Some, None, option_map, if◌then◌else◌, refl, sym, ap, ◌∙◌, append-nil}
 use Rattle.vocabulary.specs.declared.node_kind.NodeKind.{NodeKind}
 use Rattle.vocabulary.specs.declared.node_kind.NodeKind.TheVariants as kinds
 use Rattle.vocabulary.specs.declared.rule.RuleCode.TheVariants.{A1, A2, A4}
-use Rattle.meaning_types.specs.Types.{Flags, TypeTree, Typed, IntegerTree, PointerTree, flags_of, has_flag, no_flags, value_type}
+use Rattle.meaning_types.specs.Types.{Flags, TypeTree, Typed, PointerTree, flags_of, has_flag, no_flags}
 use Rattle.meaning_types.specs.Marks.{marked}
 use Rattle.meaning_types.proofs.Spaces.{mix_spaces-Decides}
-use Rattle.meaning_types.specs.Spaces.{MixSpaces, mix_spaces, have_other_targets}
+use Rattle.meaning_types.specs.Spaces.{MixSpaces, have_other_targets}
 use Rattle.meaning_layout.specs.Sizes.{Told}
-use Rattle.meaning_operands.specs.Conversions.{ConversionAnswer, Fine, Fails, answer_of_bases, base_in, conversion_answer, pointers_answer}
-use Rattle.meaning_operands.specs.Failures.{Broken, Failure}
+use Rattle.meaning_operands.specs.Conversions.{Fine, Fails, answer_of_bases, base_in, conversion_answer, pointers_answer}
+use Rattle.meaning_operands.specs.Failures.{Broken}
 use Rattle.meaning_operands.specs.Operands.{Operand}
 use Rattle.meaning_constants.specs.Constants.{Constant, own_constant}
 use Rattle.meaning_constants.specs.Nodes.{NodeFacts, NoFold, folded, fold_of, of_one}
@@ -20,15 +20,15 @@ use Rattle.meaning_typing.specs.Expressions.{address_row, address_taken, assigne
 use Rattle.meaning_typing.specs.Facts.{Fact, Expression, Declared, ExpressionFact, DeclaredFact, Addressed, NotAddress, fact_at, operand_of, place, type_of_value, value}
 use Rattle.meaning_typing.specs.MemberRows.{aggregates_before}
 use Rattle.meaning_typing.specs.Names.{address_of_name, name_row, named_place, type_of_name}
-use Rattle.meaning_typing.specs.Rows.{Row, converted, converted_by, fails_with, gives, known, nothing, unless_broken}
+use Rattle.meaning_typing.specs.Rows.{Row, converted_by, fails_with, gives, known, nothing, unless_broken}
 use Rattle.meaning_typing.specs.Surroundings.{Surrounding, Want, ForValue, surrounding_at}
-use Rattle.meaning_typing.specs.Typing.{access_failures, accesses, part_fact, part_seen, part_token, row_of, row_with_constant, token_at, with_constant}
-use Rattle.meaning_typing.specs.Units.{UnitNodes, child_at, kind_at, node_at}
-use Rattle.meaning_typing.specs.Wholes.{as_stored, only_const, loaded_broken, row_loaded, whole_assignment_row}
-use Rattle.meaning_typing.specs.WholeTyping.{enumerator_part, keeps_constant, whole_constant_at, whole_facts_for_constant, whole_row_at, whole_row_by, whole_row_of}
+use Rattle.meaning_typing.specs.Typing.{access_failures, accesses, part_fact, part_seen, part_token, row_with_constant, token_at, with_constant}
+use Rattle.meaning_typing.specs.Units.{UnitNodes, kind_at, node_at}
+use Rattle.meaning_typing.specs.Wholes.{only_const, loaded_broken, row_loaded, whole_assignment_row}
+use Rattle.meaning_typing.specs.WholeTyping.{keeps_constant, whole_constant_at, whole_facts_for_constant, whole_row_at, whole_row_by, whole_row_of}
 use Rattle.meaning_statements.specs.StatementRows.{statement_row_of}
 use Rattle.meaning_judgements.specs.UnitRows.{row_by_statement, unit_row_at}
-use Rattle.meaning_first_units.proofs.Scalars.{scalar, scalar-const, scalar-decays, scalar-size, scalar-void, mixed-turned}
+use Rattle.meaning_first_units.proofs.Scalars.{scalar, scalar-const, mixed-turned}
 
 -- a place of an object's type
 abbrev pub located : TypeTree → Addressed → ExpressionFact

@@ -1,11 +1,9 @@
 -- Types of objects of the first form: int with flags, and pointers to it.
-use Rattle.std.proofs.Common.{◌≡◌, ℕ, zero, suc, Bool, true, false, refl, sym, ap, ◌∙◌, inl, inr}
-use Rattle.meaning_types.specs.Types.{Flags, TypeTree, Typed, PointerTree, no_flags, value_type, pointer_to, bare, without_flags, flags_of}
-use Rattle.meaning_types.specs.Spaces.{MixSpaces, TargetsMixSpaces, is_void, mix_spaces}
-use Rattle.meaning_types.proofs.Spaces.{mix_spaces-Decides}
+use Rattle.std.proofs.Common.{◌≡◌, ℕ, zero, suc, Bool, false, refl, sym, inl, inr}
+use Rattle.meaning_types.specs.Types.{Flags, TypeTree, Typed, PointerTree}
+use Rattle.meaning_types.specs.Spaces.{MixSpaces, TargetsMixSpaces, is_void}
 use Rattle.meaning_layout.specs.Sizes.{Told}
 use Rattle.meaning_typing.specs.Aggregates.{is_const_within}
-use Rattle.meaning_typing.specs.Expressions.{is_const}
 use Rattle.meaning_typing.specs.Facts.{decays}
 use Rattle.meaning_typing.specs.Operators.{has_no_size}
 use Rattle.meaning_first_rules.specs.Typing.{behind_stars, int_with}

@@ -1,5 +1,5 @@
 -- Nodes that stand for trees without their links.
-use Rattle.std.proofs.Common.{◌≡◌, ℕ, zero, suc, ◌+◌, ◌-◌, ◌<◌, List, [], ◌∷◌, map, length, Option, Some, None, option_map, slice_get, refl, sym, ap, subst, ◌∙◌, arith}
+use Rattle.std.proofs.Common.{◌≡◌, ℕ, ◌-◌, ◌<◌, List, [], ◌∷◌, map, length, Option, Some, None, option_map, slice_get, refl, sym, ap, subst, ◌∙◌, arith}
 use Rattle.std.proofs.lemmas.Option.{none-some, same_Some, slice_get-map, slice_get_within, get_or_from_slice_get}
 use Rattle.vocabulary.specs.declared.node_kind.NodeKind.{NodeKind}
 use Rattle.vocabulary.specs.declared.role.Role.{Role}
@@ -7,7 +7,7 @@ use Rattle.vocabulary.specs.Roles.{role_of}
 use Rattle.meaning_tree.specs.Nodes.{TreeNode, NodeList, HasNode, StandsFor, StandFor}
 use Rattle.meaning_tree.specs.Forms.{kind_of}
 use Rattle.meaning_tree.specs.Trees.{SyntaxTree, Node, Parts, NoParts, Part}
-use Rattle.meaning_typing.specs.Units.{UnitNodes, no_node, child_at, children_at, kind_at, node_at, unit_list}
+use Rattle.meaning_typing.specs.Units.{UnitNodes, no_node, children_at, kind_at, node_at, unit_list}
 use Rattle.meaning_first_units.specs.Units.{own_number, without_link}
 
 -- the nodes without links, by their handles

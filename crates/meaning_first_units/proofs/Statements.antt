@@ -1,5 +1,5 @@
 -- Statements of the first form: where no rule fails by the rules of all units, none does by those of the form.
-use Rattle.std.proofs.Common.{◌≡◌, ◌≢◌, ℕ, zero, suc, ◌+◌, ◌-◌, ◌<◌, Bool, true, false, ◌&&◌, List, [], ◌∷◌, ◌++◌, map, length, take, get_or, All, Contains, Option, Some, None, option_map, option_and_then, slice_get, refl, sym, ap, ap₂, subst, ◌∙◌, arith}
+use Rattle.std.proofs.Common.{◌≡◌, ◌≢◌, ℕ, zero, suc, ◌+◌, ◌<◌, true, false, ◌&&◌, List, [], ◌∷◌, ◌++◌, length, take, All, Contains, Option, Some, None, option_map, option_and_then, slice_get, refl, sym, ap, ap₂, subst, ◌∙◌}
 use Rattle.std.proofs.lemmas.Bool.{false_from_ne_true}
 use Rattle.std.proofs.lemmas.Option.{none-some, same_Some, get_or_from_slice_get, slice_get-map}
 use Rattle.std.proofs.lemmas.List.Elements.{All-nil, All-cons, All-append, Contains-append_left, Contains-append_right}
@@ -8,16 +8,15 @@ use Rattle.vocabulary.specs.declared.rule.RuleCode.TheVariants.{A1, A4}
 use Rattle.vocabulary.specs.declared.class.Class.TheVariants.{AddressSpace}
 use Rattle.vocabulary.specs.declared.node_kind.NodeKind.{NodeKind}
 use Rattle.vocabulary.specs.declared.node_kind.NodeKind.TheVariants as kinds
-use Rattle.vocabulary.specs.declared.role.Role.{Role}
 use Rattle.vocabulary.specs.declared.role.Role.TheVariants.{Evaluated}
 use Rattle.vocabulary.specs.Roles.{role_of}
 use Rattle.meaning_types.specs.Types.{Flags, TypeTree, flags_of, has_flag, no_flags, pointer_to, value_type}
 use Rattle.meaning_types.specs.Spaces.{MixSpaces}
 use Rattle.meaning_operands.specs.Failures.{Failure}
-use Rattle.meaning_tree.specs.Trees.{SyntaxTree, Node, Parts, NoParts, Part}
-use Rattle.meaning_syntax.specs.Items.{Word, Statement, Assign, AssignThrough, AssignAddress, Item, Object, Function}
-use Rattle.meaning_syntax.specs.Binding.{Declared, object_of}
-use Rattle.meaning_syntax.specs.Trees.{address_tree, assignment_tree, expression_tree, indirection_tree, name_tree, one_part, statement_tree, two_parts}
+use Rattle.meaning_tree.specs.Trees.{SyntaxTree, Node, NoParts}
+use Rattle.meaning_syntax.specs.Items.{Statement, Assign, AssignThrough, AssignAddress, Item, Object}
+use Rattle.meaning_syntax.specs.Binding.{object_of}
+use Rattle.meaning_syntax.specs.Trees.{address_tree, assignment_tree, indirection_tree, name_tree, one_part, statement_tree, two_parts}
 use Rattle.meaning_first_rules.specs.Evaluation.{Access, Conversion, access_at, assignment_at}
 use Rattle.meaning_first_rules.specs.Expressions.{target_of}
 use Rattle.meaning_first_rules.specs.Placed.{statement_accesses, statement_conversions}
@@ -25,10 +24,9 @@ use Rattle.meaning_first_rules.specs.Typing.{address_type_of, declared_type, fla
 use Rattle.meaning_first_rules.proofs.Elements.{Contains-cons_head}
 use Rattle.meaning_typing.specs.Facts.{Fact, Expression, ExpressionFact, Addressed, NotAddress, fact_at, type_of_value}
 use Rattle.meaning_typing.specs.Rows.{fails_with}
-use Rattle.meaning_typing.specs.Surroundings.{Surrounding, Want, ForValue, ForStore, AreSurroundings, asked, evaluates, surrounding_at, wanted}
+use Rattle.meaning_typing.specs.Surroundings.{Surrounding, AreSurroundings, asked, surrounding_at, wanted}
 use Rattle.meaning_typing.specs.Typing.{access_failures, accesses, part_fact, token_at}
 use Rattle.meaning_typing.specs.Units.{UnitNodes, child_at, children_at, kind_at, node_at}
-use Rattle.meaning_typing.specs.WholeTyping.{whole_row_at}
 use Rattle.meaning_typing.specs.laws.Surroundings.{IsLaidUnit}
 use Rattle.meaning_judgements.specs.UnitRows.{unit_row_at}
 use Rattle.meaning_judgements.specs.WholeFacts.{AreWholeFacts, whole_failures_at}
@@ -39,7 +37,7 @@ use Rattle.meaning_first_units.proofs.Named.{around-is, earlier-is, fact-is, obj
 use Rattle.meaning_first_units.proofs.Reaching.{child-before}
 use Rattle.meaning_first_units.proofs.Rows.{access-fails, address-fact, addressed, assignment-fails, indirection-fact, located}
 use Rattle.meaning_first_units.proofs.Scalars.{scalar}
-use Rattle.meaning_first_units.proofs.Standing.{IsNode, Make, Makes, first-part, handles_of, leaf-of, no-part, node-of}
+use Rattle.meaning_first_units.proofs.Standing.{Makes, first-part, leaf-of, node-of}
 
 -- Accesses and conversions at which no rule of the form fails
 

@@ -1,11 +1,10 @@
 -- The type that a name has where all its declarations have one type.
-use Rattle.std.proofs.Common.{◌≡◌, ℕ, zero, suc, Bool, true, false, ◌&&◌, List, [], ◌∷◌, Option, Some, None, slice_get, if◌then◌else◌, refl, sym, ap, ap₂, ◌∙◌}
+use Rattle.std.proofs.Common.{◌≡◌, ℕ, suc, Bool, true, false, List, [], ◌∷◌, Some, slice_get, if◌then◌else◌, refl, ap, ◌∙◌}
 use Rattle.meaning_types.specs.Types.{TypeTree}
 use Rattle.meaning_types.specs.Composite.{completed, composite}
-use Rattle.meaning_types.specs.Equality.{are_same}
 use Rattle.meaning_types.proofs.Equality.{are_same-Decides}
 use Rattle.meaning_typing.specs.Facts.{Fact, Unknown, Expression, Specified, Declared, NamedType, DeclaredFact}
-use Rattle.meaning_typing.specs.Names.{before_types, common_type, linked_types, links_name, type_of_name, type_or, with_lengths}
+use Rattle.meaning_typing.specs.Names.{before_types, common_type, linked_types, links_name, type_or, with_lengths}
 
 -- each of them is this one
 abbrev pub AreOne : TypeTree → List TypeTree → Type 0

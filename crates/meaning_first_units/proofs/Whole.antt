@@ -1,28 +1,24 @@
 -- Units of the first form: where no rule fails by the rules of all units, none does by those of the form.
-use Rattle.std.proofs.Common.{◌≡◌, ◌≢◌, ℕ, zero, suc, ◌+◌, ◌-◌, ◌<◌, ◌⊎◌, inl, inr, Bool, true, false, ◌&&◌, List, [], ◌∷◌, ◌++◌, length, All, Contains, flat_map, Some, slice_get, refl, sym, ap, ap₂, subst, ◌∙◌, arith, append-nil, append_assoc}
+use Rattle.std.proofs.Common.{◌≡◌, ℕ, suc, ◌+◌, ◌-◌, inl, inr, true, ◌&&◌, List, [], ◌∷◌, ◌++◌, length, All, Contains, flat_map, Some, slice_get, refl, sym, ap, subst, ◌∙◌, append_assoc}
 use Rattle.std.proofs.lemmas.Bool.{both_ways}
-use Rattle.std.proofs.lemmas.List.Concat.{flat_map-append}
 use Rattle.std.proofs.lemmas.List.Elements.{All-nil, All-cons, All-append, All-contains, All-head, All-tail, All-weaker, Contains-append_left}
 use Rattle.std.proofs.lemmas.Option.{get_or_from_slice_get}
-use Rattle.vocabulary.specs.declared.node_kind.NodeKind.{NodeKind}
 use Rattle.vocabulary.specs.declared.node_kind.NodeKind.TheVariants as kinds
 use Rattle.vocabulary.specs.declared.role.Role.TheVariants.{Evaluated}
 use Rattle.vocabulary.specs.Roles.{role_of}
 use Rattle.meaning_types.specs.Types.{flags_of, has_flag}
-use Rattle.meaning_types.specs.Spaces.{MixSpaces}
-use Rattle.meaning_tree.specs.Trees.{SyntaxTree, Node, Parts, NoParts, Part, parts_of}
-use Rattle.meaning_syntax.specs.Items.{Word, Statement, Item, Object, Function, item_spelled, statement_spelled}
+use Rattle.meaning_tree.specs.Trees.{parts_of}
+use Rattle.meaning_syntax.specs.Items.{Statement, Item, Object, Function, item_spelled, statement_spelled}
 use Rattle.meaning_syntax.specs.Binding.{item_statements}
-use Rattle.meaning_syntax.specs.Trees.{function_tree, item_tree, item_trees, statement_tree, statement_trees, unit_tree}
-use Rattle.meaning_first_rules.specs.Evaluation.{Access, Conversion, accesses_in, conversions_in}
-use Rattle.meaning_first_rules.specs.Failures.{Failure, Fails, IsListing}
+use Rattle.meaning_syntax.specs.Trees.{item_tree, item_trees, statement_trees, unit_tree}
+use Rattle.meaning_first_rules.specs.Evaluation.{accesses_in, conversions_in}
+use Rattle.meaning_first_rules.specs.Failures.{Failure, Fails}
 use Rattle.meaning_first_rules.specs.Placed.{Placed, placed_accesses, placed_behind, placed_body, placed_conversions, placed_in, tokens_before_body}
-use Rattle.meaning_first_rules.proofs.Elements.{Contains-nil, Contains-cons_head, Contains-cons_tail}
 use Rattle.meaning_first_rules.proofs.Trees.{accesses_in-unit_tree, conversions_in-unit_tree}
 use Rattle.meaning_typing.specs.Building.{surroundings_of}
 use Rattle.meaning_typing.specs.Facts.{Fact}
-use Rattle.meaning_typing.specs.Surroundings.{Surrounding, AreSurroundings, asked, evaluates, of_unit, surrounding_at}
-use Rattle.meaning_typing.specs.Units.{UnitNodes, kind_at, node_at}
+use Rattle.meaning_typing.specs.Surroundings.{Surrounding, AreSurroundings, evaluates, of_unit, surrounding_at}
+use Rattle.meaning_typing.specs.Units.{UnitNodes, node_at}
 use Rattle.meaning_typing.specs.WholeTyping.{whole_facts_of}
 use Rattle.meaning_typing.specs.laws.Surroundings.{IsLaidUnit}
 use Rattle.meaning_typing.proofs.Surroundings.{surroundings_are_found}
@@ -30,9 +26,9 @@ use Rattle.meaning_judgements.specs.WholeFacts.{AreWholeFacts}
 use Rattle.meaning_judgements.proofs.FactLemmas.{whole_facts_are_found}
 use Rattle.meaning_first_units.specs.Laws.{IsSilent, SilenceIsHandedOver}
 use Rattle.meaning_first_units.specs.Units.{IsFirstFormUnit}
-use Rattle.meaning_first_units.proofs.Declared.{FunctionShape, function-shape}
+use Rattle.meaning_first_units.proofs.Declared.{function-shape}
 use Rattle.meaning_first_units.proofs.Named.{around-is, root, some-nodes}
-use Rattle.meaning_first_units.proofs.Standing.{FirstPart, Make, Makes, first-part, node-of}
+use Rattle.meaning_first_units.proofs.Standing.{Make, Makes, node-of}
 use Rattle.meaning_first_units.proofs.Statements.{QuietAccess, QuietConversion, statement-quiet}
 
 module _ (nodes : UnitNodes) (items : List Item) (surroundings : List Surrounding) (facts : List Fact) (unit : IsLaidUnit nodes) (form : IsFirstFormUnit nodes items)

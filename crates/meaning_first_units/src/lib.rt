@@ -6,4 +6,4 @@
 
 mod silence;
 
-pub use silence::silence_is_handed_over;
+pub use silence::{silence_is_handed_over, worked_examples};

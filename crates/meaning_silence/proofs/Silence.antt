@@ -1,14 +1,12 @@
 -- The promise, from the judge of all units to the machine.
-use Rattle.std.proofs.Common.{◌≡◌, ℕ, Bool, nat_le, true, false, ◌&&◌, List, [], ◌∷◌, Contains, Option, Some, None, if◌then◌else◌, refl, sym, ap, subst, ◌∙◌}
+use Rattle.std.proofs.Common.{◌≡◌, ℕ, Bool, nat_le, true, false, List, Option, Some, None, if◌then◌else◌, refl, sym, ap, subst, ◌∙◌}
 use Rattle.std.proofs.lemmas.Bool.{both_ways}
 use Rattle.std.proofs.lemmas.Option.{none-some, same_Some}
-use Rattle.vocabulary.specs.Rules.{rule_class}
 use Rattle.vocabulary.specs.declared.class.Class.{Class}
 use Rattle.vocabulary.specs.declared.class.Class.TheVariants.{AddressSpace}
 use Rattle.meaning_operands.specs.Failures.{Failure, Broken}
 use Rattle.meaning_warnings.specs.Listing.{IsListing, is_on}
 use Rattle.meaning_rules.specs.Rules.{Judgement, Holds, BreaksConstraint, PassesObjectSize, first_refusal, least_broken, least_token}
-use Rattle.meaning_syntax.specs.Items.{Item}
 use Rattle.meaning_syntax.specs.Trees.{IsInFirstForm as IsTreeInForm, unit_tree}
 use Rattle.meaning_typing.specs.Facts.{Fact}
 use Rattle.meaning_typing.specs.Surroundings.{Surrounding, AreSurroundings}

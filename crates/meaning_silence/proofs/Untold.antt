@@ -1,5 +1,5 @@
 -- Where nothing is written of a listing, all its failures are of classes that are off.
-use Rattle.std.proofs.Common.{◌≡◌, ℕ, Bool, true, false, List, [], ◌∷◌, ◌++◌, Contains, codes, Option, slice_get, flat_map, if◌then◌else◌, inl, inr, refl, sym, ap, subst, ◌∙◌}
+use Rattle.std.proofs.Common.{◌≡◌, ℕ, Bool, true, false, List, [], ◌∷◌, ◌++◌, codes, Option, slice_get, if◌then◌else◌, inl, inr, refl, subst}
 use Rattle.vocabulary.specs.Rules.{rule_class}
 use Rattle.vocabulary.specs.declared.class.Class.{Class}
 use Rattle.meaning_text.specs.Places.{At}

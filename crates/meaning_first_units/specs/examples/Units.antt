@@ -1,4 +1,4 @@
--- Worked examples: a small file as the parser lays its nodes, and the nearest lists that aren't of its items.
+-- Worked examples: the nodes of a small file, each behind its parts, and the nearest lists that are not of its items.
 use Rattle.std.specs.Prelude.{ℕ, List, [], ◌∷◌, ◌++◌, codes}
 use Rattle.vocabulary.specs.declared.node_kind.NodeKind.{NodeKind}
 use Rattle.vocabulary.specs.declared.node_kind.NodeKind.TheVariants.{TranslationUnit, Declaration, FunctionDefinition, Specifiers, ExternSpecifier, IntSpecifier, VoidSpecifier, Declarator, FunctionDeclarator, Parameter, CompoundStatement, ExpressionStatement, Assignment, Name}

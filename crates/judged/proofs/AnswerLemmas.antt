@@ -1,16 +1,17 @@
 -- What is answered of nodes, over a table of types that grows, and of one node more.
-use Rattle.std.proofs.Common.{◌≡◌, ℕ, zero, suc, ◌<◌, Bool, true, false, List, [], ◌∷◌, ◌++◌, get_or, length, sym, ap, subst, ◌∙◌, arith, append-nil, length-append}
+use Rattle.std.proofs.Common.{◌≡◌, ℕ, zero, suc, ◌+◌, ◌<◌, Bool, true, false, List, [], ◌∷◌, ◌++◌, get_or, length, sym, ap, ap₂, subst, ◌∙◌, arith, append-nil, length-append}
 use Rattle.sparse_model.specs.declared.ids.NameId.{NameId}
+use Rattle.meaning_typing.specs.Facts.{Fact}
 use Rattle.meaning_typing.specs.Rows.{Row}
 use Rattle.meaning_typing.specs.Surroundings.{Surrounding}
 use Rattle.meaning_typing.specs.Units.{UnitNodes, kind_at}
+use Rattle.meaning_typing.specs.WholeTyping.{first_whole_facts, whole_row_at}
 use Rattle.c_types.specs.declared.bodies.Named.{Named}
 use Rattle.c_types.specs.Table.{TypeTable, Extends, types_in}
 use Rattle.node_judge.specs.declared.known.Known.{Known}
-use Rattle.node_judge.specs.Judging.{StaysKnown}
-use Rattle.node_judge.specs.Known.{IsKnownOf, table_of}
+use Rattle.node_judge.specs.Known.{IsKnownOf, facts_seen, table_of}
 use Rattle.node_judge.specs.NamedTypes.{renamed}
-use Rattle.node_judge.specs.Rows.{next_row}
+use Rattle.judged.specs.Known.{IsFirstKnown, StaysFirst, next_row}
 use Rattle.node_judge.proofs.KnownLemmas.{id_told, node_told}
 use Rattle.judged.specs.declared.answers.Answer.{Answer}
 use Rattle.judged.specs.declared.answers.Answer.TheVariants as answers
@@ -90,11 +91,11 @@ module _ (table : TypeTable) where
 
 -- this is answered of the first so many nodes, which are known then
 pub record AreAnswered (nodes : UnitNodes) (surroundings : List Surrounding) (count : ℕ) (known : Known) (list : List Answer) : Type 0 where
-  pub is : IsKnownOf nodes surroundings count known
+  pub is : IsFirstKnown nodes surroundings count known
   pub all : length list ≡ count
   pub each : AreAnswers nodes surroundings (table_of known) list
 
-pub answered_none : (nodes : UnitNodes) (surroundings : List Surrounding) (known : Known) (list : List Answer) → IsKnownOf nodes surroundings 0 known → list ≡ []
+pub answered_none : (nodes : UnitNodes) (surroundings : List Surrounding) (known : Known) (list : List Answer) → IsFirstKnown nodes surroundings 0 known → list ≡ []
     → AreAnswered nodes surroundings 0 known list
 answered_none nodes surroundings known list is none =
     record {
@@ -106,9 +107,9 @@ answered_none nodes surroundings known list is none =
 module _ (nodes : UnitNodes) (surroundings : List Surrounding) (count : ℕ) (known : Known) (list : List Answer)
     (are : AreAnswered nodes surroundings count known list) where
   pub answered_more :
-      (between new : Known) (answer : Answer) (longer : List Answer) → StaysKnown nodes surroundings count known between
+      (between new : Known) (answer : Answer) (longer : List Answer) → StaysFirst nodes surroundings count known between
       → IsAnswer nodes surroundings (table_of between) count answer → longer ≡ list ++ answer ∷ []
-      → IsKnownOf nodes surroundings (suc count) new → Extends (table_of between) (table_of new) → AreAnswered nodes surroundings (suc count) new longer
+      → IsFirstKnown nodes surroundings (suc count) new → Extends (table_of between) (table_of new) → AreAnswered nodes surroundings (suc count) new longer
   answered_more between new answer longer stays is pushed known_more extends =
       let table = table_of between in
       record {
@@ -121,3 +122,25 @@ module _ (nodes : UnitNodes) (surroundings : List Surrounding) (count : ℕ) (kn
             (answers_later (table_of known) table stays.types.extends nodes surroundings list are.each)
             (subst (λ at. IsAnswer nodes surroundings table at answer) (sym are.all) is)));
       }
+
+-- What is known of the first nodes, over its own facts
+
+module _ (nodes : UnitNodes) (surroundings : List Surrounding) (count : ℕ) (known : Known) (is : IsFirstKnown nodes surroundings count known) where
+  pub over_itself : IsKnownOf nodes surroundings count (facts_seen known) known
+  over_itself = subst (λ (facts : List Fact). IsKnownOf nodes surroundings count facts known) (sym is.facts) is
+
+  pub row_over_itself : whole_row_at nodes surroundings (facts_seen known) count ≡ next_row nodes surroundings count
+  row_over_itself = ap (λ (facts : List Fact). whole_row_at nodes surroundings facts count) is.facts
+
+  pub stays_first : (new : Known) → IsKnownOf nodes surroundings count (facts_seen known) new → IsFirstKnown nodes surroundings count new
+  stays_first new stays = subst (λ (facts : List Fact). IsKnownOf nodes surroundings count facts new) is.facts stays
+
+  -- with the fact of the next row
+  pub first_next : (between new : Known) (fact : Fact) → IsKnownOf nodes surroundings count (facts_seen known) between
+      → fact ≡ (whole_row_at nodes surroundings (facts_seen known) count).fact
+      → IsKnownOf nodes surroundings (count + 1) (facts_seen between ++ fact ∷ []) new → IsFirstKnown nodes surroundings (count + 1) new
+  first_next between new fact stays told more =
+      let next : suc count ≡ count + 1 = omega arith in
+      let facts : facts_seen between ++ fact ∷ [] ≡ first_whole_facts nodes surroundings (suc count) =
+      ap₂ (λ front last. front ++ last ∷ []) (stays.facts ∙ is.facts) (told ∙ ap (λ (row : Row). row.fact) row_over_itself) in
+      subst (λ (f : List Fact). IsKnownOf nodes surroundings (count + 1) f new) (facts ∙ ap (first_whole_facts nodes surroundings) next) more

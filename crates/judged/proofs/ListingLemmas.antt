@@ -3,10 +3,10 @@ use Rattle.std.proofs.Common.{◌≡◌, ℕ, List, Option, Some, None, Bool, tr
 use Rattle.std.proofs.lemmas.Option.{none-some, same_Some}
 use Rattle.meaning_operands.specs.Failures.{Broken, Failure}
 use Rattle.meaning_warnings.specs.Listing.{AreOrdered, IsListing}
-use Rattle.meaning_typing.specs.Facts.{Fact}
+use Rattle.meaning_typing.specs.Rows.{Row}
 use Rattle.meaning_typing.specs.Surroundings.{Surrounding}
 use Rattle.meaning_typing.specs.Units.{UnitNodes}
-use Rattle.meaning_judgements.specs.WholeRules.{IsWholeJudged, holds, refused, whole_broken_in, whole_failures_in, whole_passed_in}
+use Rattle.meaning_units.specs.WholeRules.{IsJudged, broken_in, failures_in, holds, passed_in, refused}
 use Rattle.meaning_rules.specs.Rules.{BreaksConstraint, Holds, Judgement, PassesObjectSize, first_refusal, least_broken, least_token}
 use Rattle.failure_listing.proofs.Listings.{ordered-otherwise}
 use Rattle.type_judge.specs.declared.judging.Judged.{Judged}
@@ -35,14 +35,14 @@ module _ (found : List Failure) where
       first-of false is = subst (Lists found) (same_Some _ _ is) tt
 
 judged-lists :
-    (nodes : UnitNodes) (surroundings : List Surrounding) (facts : List Fact) (judgement : Judgement)
-    → IsWholeJudged nodes surroundings facts judgement → Lists (whole_failures_in nodes surroundings facts) judgement
-judged-lists nodes surroundings facts _ (holds listing none lists) = lists
-judged-lists nodes surroundings facts _ (refused judgement some) = refusal-lists (whole_failures_in nodes surroundings facts) (least_broken (whole_broken_in nodes surroundings facts)) (least_token (whole_passed_in nodes surroundings facts)) judgement some
+    (nodes : UnitNodes) (surroundings : List Surrounding) (rows : List Row) (judgement : Judgement)
+    → IsJudged nodes surroundings rows judgement → Lists (failures_in nodes surroundings rows) judgement
+judged-lists nodes surroundings rows _ (holds listing none lists) = lists
+judged-lists nodes surroundings rows _ (refused judgement some) = refusal-lists (failures_in nodes surroundings rows) (least_broken (broken_in nodes rows)) (least_token (passed_in nodes rows)) judgement some
 
 -- its failures are in order as they are shown, too
 pub shown-ordered : (names : List (List ℕ)) (nodes : UnitNodes) (judged : Judged) → IsJudgedSo nodes judged
     → AreOrdered (listing_shown names judged)
 shown-ordered names nodes judged is =
     ordered-otherwise (judge.failure_seen judged.types) (warn.failure_seen names judged.types) (found-rank judged.types) (shown-rank names judged.types)
-    judged.failures (judged-lists nodes is.surroundings is.facts _ is.judgement).ordered
+    judged.failures (judged-lists nodes is.surroundings is.rows _ is.judgement).ordered

@@ -4,7 +4,7 @@ use Rattle.meaning_typing.specs.Rows.{Row}
 use Rattle.meaning_typing.specs.Surroundings.{Surrounding}
 use Rattle.meaning_typing.specs.Typing.{token_at}
 use Rattle.meaning_typing.specs.Units.{UnitNodes, kind_at}
-use Rattle.node_judge.specs.Rows.{next_row}
+use Rattle.judged.specs.Known.{next_row}
 use Rattle.warn_print.specs.declared.show.Show.{Show}
 use Rattle.judged.specs.declared.answers.Answer.{Answer}
 use Rattle.judged.specs.declared.answers.Answer.TheVariants as answers

@@ -9,7 +9,7 @@ use Rattle.expression_rows.specs.Rows.{broken_seen}
 use Rattle.node_facts.specs.declared.fact.NodeFact.{NodeFact}
 use Rattle.node_facts.specs.declared.fact.NodeFact.TheVariants as facts
 use Rattle.node_facts.specs.Facts.{IsKnownNodeFact, node_seen}
-use Rattle.node_judge.specs.Rows.{next_row}
+use Rattle.judged.specs.Known.{next_row}
 use Rattle.judged.specs.declared.answers.Answer.{Answer}
 use Rattle.judged.specs.declared.answers.Answer.TheVariants as answers
 use Rattle.judged.specs.Asked.{is_asked}

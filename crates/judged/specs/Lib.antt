@@ -1,4 +1,5 @@
 pub mod Replies
+pub mod Known
 pub mod Asked
 pub mod Answers
 pub mod Types

@@ -28,7 +28,7 @@ use Rattle.node_facts.specs.Facts.{node_seen}
 use Rattle.expression_rows.specs.declared.row.Broken.{Broken}
 use Rattle.expression_rows.specs.Rows.{broken_seen}
 use Rattle.node_judge.specs.NamedTypes.{names_told}
-use Rattle.node_judge.specs.Rows.{next_row}
+use Rattle.judged.specs.Known.{next_row}
 use Rattle.warn_print.specs.declared.show.Show.{Show}
 use Rattle.warn_print.specs.Seen.{named_type}
 use Rattle.ksparse.specs.Written.{paths_of}
@@ -120,11 +120,14 @@ AreLines nodes surroundings shown (suc count) text =
 -- Of a unit
 
 -- the lines of all its nodes, each by what is known of those before it, under the names that all nodes tell
+abbrev pub AreUnitLines : List (List ℕ) → UnitTokens → UnitNodes → List Surrounding → List ℕ → Type 0
+AreUnitLines names toks nodes surroundings text =
+    AreLines nodes surroundings (record { names = names; toks = toks; told = names_told nodes surroundings (length nodes) }) (length nodes) text
+
 pub record ShowsTypes (names : List (List ℕ)) (toks : UnitTokens) (nodes : UnitNodes) (text : List ℕ) : Type 0 where
   pub surroundings : List Surrounding
   pub are : AreSurroundings nodes surroundings
-  pub lines :
-      AreLines nodes surroundings (record { names = names; toks = toks; told = names_told nodes surroundings (length nodes) }) (length nodes) text
+  pub lines : AreUnitLines names toks nodes surroundings text
 
 abbrev pub types_reply : List ℕ → Reply
 types_reply text = record { out = text; err = []; ending = Clean }

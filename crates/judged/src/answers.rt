@@ -7,11 +7,10 @@ ghost use Rattle.meaning_typing.specs.Units.{kind_at};
 ghost use Rattle.c_types.specs.Table.{Extends};
 ghost use Rattle.decl_judge.specs.Units.{nodes_of};
 ghost use Rattle.node_surroundings.specs.Seen.{AreSurroundingsOf, surroundings_seen};
-ghost use Rattle.node_judge.specs.Judging.{StaysKnown};
-ghost use Rattle.node_judge.specs.Known.{IsKnownOf, table_of};
-ghost use Rattle.node_judge.specs.Rows.{next_row};
+ghost use Rattle.node_judge.specs.Known.{table_of};
 ghost use Rattle.judged.specs.Answers.{AreAnswers, IsAnswer, IsAnswerBy, nothing};
 ghost use Rattle.judged.specs.Asked.{is_asked};
+ghost use Rattle.judged.specs.Known.{IsFirstKnown, StaysFirst, next_row};
 
 use c_tree::{Handle, Unit};
 use expression_rows::Broken;
@@ -117,9 +116,9 @@ fn answer_expr(
     requires node { handle < end_of unit.now }
     requires surroundings { AreSurroundingsOf unit.now surroundings.now }
     requires all { length surroundings.now ≡ length unit.now.nodes }
-    requires known { IsKnownOf (nodes_of unit.now) (surroundings_seen surroundings.now) handle known.old }
+    requires known { IsFirstKnown (nodes_of unit.now) (surroundings_seen surroundings.now) handle known.old }
     ensures answer { IfOk result (IsAnswerBy (table_of known.new) (next_row (nodes_of unit.now) (surroundings_seen surroundings.now) handle)) }
-    ensures keeps { OnOk result (StaysKnown (nodes_of unit.now) (surroundings_seen surroundings.now) handle known.old known.new) }
+    ensures keeps { OnOk result (StaysFirst (nodes_of unit.now) (surroundings_seen surroundings.now) handle known.old known.new) }
 {
     let mut found = FailureList::new(alloc);
     match judge_expr(alloc, unit, surroundings, known, handle, &mut found) {
@@ -142,9 +141,9 @@ fn answer_node(
     requires node { handle < end_of unit.now }
     requires surroundings { AreSurroundingsOf unit.now surroundings.now }
     requires all { length surroundings.now ≡ length unit.now.nodes }
-    requires known { IsKnownOf (nodes_of unit.now) (surroundings_seen surroundings.now) handle known.old }
+    requires known { IsFirstKnown (nodes_of unit.now) (surroundings_seen surroundings.now) handle known.old }
     ensures answer { IfOk result (IsAnswer (nodes_of unit.now) (surroundings_seen surroundings.now) (table_of known.new) handle) }
-    ensures keeps { OnOk result (StaysKnown (nodes_of unit.now) (surroundings_seen surroundings.now) handle known.old known.new) }
+    ensures keeps { OnOk result (StaysFirst (nodes_of unit.now) (surroundings_seen surroundings.now) handle known.old known.new) }
 {
     if is_asked(unit.kind(handle)) {
         answer_expr(alloc, unit, surroundings, known, handle)
@@ -166,8 +165,8 @@ fn know_node(
     requires node { handle < end_of unit.now }
     requires surroundings { AreSurroundingsOf unit.now surroundings.now }
     requires all { length surroundings.now ≡ length unit.now.nodes }
-    requires known { IsKnownOf (nodes_of unit.now) (surroundings_seen surroundings.now) handle known.old }
-    ensures known { OnOk result (IsKnownOf (nodes_of unit.now) (surroundings_seen surroundings.now) (handle + 1) known.new) }
+    requires known { IsFirstKnown (nodes_of unit.now) (surroundings_seen surroundings.now) handle known.old }
+    ensures known { OnOk result (IsFirstKnown (nodes_of unit.now) (surroundings_seen surroundings.now) (handle + 1) known.new) }
     ensures types { OnOk result (Extends (table_of known.old) (table_of known.new)) }
 {
     let mut thrown = FailureList::new(alloc);
@@ -187,7 +186,7 @@ pub fn answer_nodes(
     requires laid { IsLaid unit.now }
     requires surroundings { AreSurroundingsOf unit.now surroundings.now }
     requires all { length surroundings.now ≡ length unit.now.nodes }
-    requires known { IsKnownOf (nodes_of unit.now) (surroundings_seen surroundings.now) 0 known.old }
+    requires known { IsFirstKnown (nodes_of unit.now) (surroundings_seen surroundings.now) 0 known.old }
     ensures all { IfOk result (λ answers. length answers ≡ length (nodes_of unit.now)) }
     ensures each { IfOk result (AreAnswers (nodes_of unit.now) (surroundings_seen surroundings.now) (table_of known.new)) }
     ensures unnamed { OnOk result ((table_of known.new).names ≡ []) }

@@ -4,9 +4,11 @@ ghost use Rattle.c_preproc.specs.Units.{IsKnownUnit};
 ghost use Rattle.meaning_tree.specs.Laid.{IsLaid};
 ghost use Rattle.meaning_typing.specs.Surroundings.{Surrounding};
 ghost use Rattle.decl_judge.specs.Units.{nodes_of};
+ghost use Rattle.node_surroundings.specs.Seen.{AreSurroundingsOf, surroundings_seen};
 ghost use Rattle.ksparse.specs.Written.{reply_seen};
 ghost use Rattle.judged.specs.Answers.{AreAnswers, AreKnownAnswers, IsKnownAnswer};
-ghost use Rattle.judged.specs.Types.{AreLines, IsTypesReply, ShowsTypes, TellsTypes, answer_line, shown_of};
+ghost use Rattle.judged.specs.Known.{IsFirstKnown};
+ghost use Rattle.judged.specs.Types.{AreLines, AreUnitLines, IsTypesReply, ShowsTypes, TellsTypes, answer_line, shown_of};
 
 use crate::answers::{Answer, Answers, answer_nodes};
 use crate::lines::write_fact;
@@ -17,7 +19,7 @@ use c_tokens::Names;
 use c_tree::Unit;
 use ksparse::{Exit, Written, tell_fault};
 use node_judge::{Known, name_types};
-use node_surroundings::surroundings_of;
+use node_surroundings::{Surroundings, surroundings_of};
 use std::alloc::{AllocError, Global};
 use warn_print::Show;
 
@@ -67,6 +69,29 @@ fn node_lines(
     Ok(text)
 }
 
+// The lines of a unit's expressions, where nothing is known of its nodes yet, which stand in this.
+fn known_lines<'u>(
+    alloc: Global,
+    names: &'u Names,
+    toks: &'u UnitTokens,
+    unit: &Unit,
+    surroundings: &Surroundings,
+    known: &mut Known,
+) -> Result<Vec<u8>, AllocError>
+    requires whole { unit.now.first ≡ 0 }
+    requires laid { IsLaid unit.now }
+    requires surroundings { AreSurroundingsOf unit.now surroundings.now }
+    requires all { length surroundings.now ≡ length unit.now.nodes }
+    requires known { IsFirstKnown (nodes_of unit.now) (surroundings_seen surroundings.now) 0 known.old }
+    ensures { IfOk result (λ text. AreUnitLines names.now toks.now (nodes_of unit.now) (surroundings_seen surroundings.now) text.items) }
+{
+    let answers = answer_nodes(alloc, unit, surroundings, known)?;
+    let types = &mut known.declarations.types;
+    name_types(unit, surroundings, types)?;
+    let show = Show { names, toks, types };
+    node_lines(alloc, unit, &answers, &show)
+}
+
 // The lines of a unit's expressions.
 fn unit_lines<'u>(
     alloc: Global,
@@ -80,11 +105,9 @@ fn unit_lines<'u>(
 {
     let surroundings = surroundings_of(alloc, unit)?;
     let mut known = Known::new(alloc, unit, &surroundings)?;
-    let answers = answer_nodes(alloc, unit, &surroundings, &mut known)?;
-    let types = &mut known.declarations.types;
-    name_types(unit, &surroundings, types)?;
-    let show = Show { names, toks, types };
-    node_lines(alloc, unit, &answers, &show)
+    let text = known_lines(alloc, names, toks, unit, &surroundings, &mut known);
+    drop(known);
+    text
 }
 
 // The types of these nodes.
@@ -98,8 +121,9 @@ fn show_unit(
     requires laid { IsLaid unit.now }
     ensures { IfOk result (λ written. TellsTypes names.now toks.now (nodes_of unit.now) (reply_seen written)) }
 {
+    let out = unit_lines(alloc, names, toks, unit)?;
     Ok(Written {
-        out: unit_lines(alloc, names, toks, unit)?,
+        out,
         err: Vec::new(alloc),
         exit: Exit::Clean,
     })

@@ -1,5 +1,5 @@
 // The pass over the nodes of a unit, from the first to the last.
-ghost use Rattle.std.specs.Prelude.{◌≡◌, ◌≤◌, ◌^◌, IfOk, length};
+ghost use Rattle.std.specs.Prelude.{◌≡◌, IfOk, length};
 ghost use Rattle.c_types.specs.Table.{TypeTable};
 ghost use Rattle.decl_judge.specs.Units.{nodes_of};
 ghost use Rattle.node_facts.specs.Facts.{nodes_seen};
@@ -25,13 +25,12 @@ pub fn objects_of(
     facts: &NodeFacts,
 ) -> Result<JudgedObjects, AllocError>
     requires whole { unit.now.first ≡ 0 }
-    requires surroundings { length facts.now ≤ length surroundings.now }
-    requires few { length facts.now ≤ 2 ^ 32 }
+    requires surroundings { length surroundings.now ≡ length unit.now.nodes }
+    requires facts { length facts.now ≡ length unit.now.nodes }
     ensures { IfOk result (λ objects. (table : TypeTable) → AreObjects (nodes_of unit.now) (surroundings_seen surroundings.now) (nodes_seen table facts.now) objects) }
 {
     let mut objects = JudgedObjects::new(alloc);
-    for index in 0..facts.len() {
-        let handle = index as u32;
+    for handle in 0..unit.len() {
         objects.add(unit, handle, surroundings.get(handle), facts.at(handle))?;
     }
     Ok(objects)

@@ -1,1 +1,1 @@
-mod Uniqueness
+pub mod Uniqueness

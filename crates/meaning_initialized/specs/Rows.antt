@@ -57,12 +57,20 @@ abbrev pub passed_unless : Told → (token : ℕ) → (complete : TypeTree) → 
 passed_unless told token complete [] = if is_too_large (extent_of told complete) then token ∷ [] else []
 passed_unless told token complete (refusal ∷ refusals) = []
 
+-- nor are the rules: a unit in which something is refused is told no failures
+abbrev pub failures_unless : List Failure → List Refusal → List Failure
+failures_unless failures [] = failures
+failures_unless failures (refusal ∷ refusals) = []
+
 abbrev pub row_of_outcome : Told → UnitNodes → List Surrounding → List Fact → (handle : ℕ) → (is_static : Bool) → Outcome → Row
 row_of_outcome told nodes surroundings facts handle is_static outcome =
     record {
       fact = unless_broken (refused_so outcome.refusals) (fact_by nodes surroundings facts handle is_static outcome.complete (kind_at nodes handle));
       broken = refused_so outcome.refusals;
-      failures = initializer_failures nodes facts outcome.leaves ++ failures_by nodes surroundings facts handle outcome.complete (kind_at nodes handle);
+      failures =
+          failures_unless
+          (initializer_failures nodes facts outcome.leaves ++ failures_by nodes surroundings facts handle outcome.complete (kind_at nodes handle))
+          outcome.refusals;
       passed = passed_unless told (node_at nodes (initializing_part nodes handle)).token outcome.complete outcome.refusals;
     }
 

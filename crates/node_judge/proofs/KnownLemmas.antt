@@ -1,5 +1,5 @@
 -- What is known, where types join, bodies are told, or one node more is known.
-use Rattle.std.proofs.Common.{◌≡◌, ℕ, zero, suc, ◌<◌, nat_eq, true, false, cond, List, [], ◌∷◌, ◌++◌, All, map, length, take, Some, refl, sym, ap, ap₂, subst, ◌∙◌, arith, length-append, append-nil}
+use Rattle.std.proofs.Common.{◌≡◌, ℕ, suc, ◌<◌, nat_eq, true, false, cond, List, [], ◌∷◌, ◌++◌, All, map, length, take, Some, refl, sym, ap, ap₂, subst, ◌∙◌, arith, length-append, append-nil}
 use Rattle.std.proofs.lemmas.List.{length-map, map-append, take-append-le, take_all}
 use Rattle.std.proofs.lemmas.List.Elements.{All-head, All-nil, All-tail, All-cons}
 use Rattle.std.proofs.lemmas.Bool.Decides.{nat_tests}
@@ -17,7 +17,7 @@ use Rattle.meaning_typing.specs.MemberDeclarations.{bodies_before}
 use Rattle.meaning_typing.specs.MemberRows.{aggregates_before}
 use Rattle.meaning_typing.specs.Surroundings.{Surrounding}
 use Rattle.meaning_typing.specs.Units.{UnitNodes, kind_at}
-use Rattle.meaning_typing.specs.WholeTyping.{first_whole_facts, whole_row_at, whole_row_by}
+use Rattle.meaning_typing.specs.WholeTyping.{whole_row_at, whole_row_by}
 use Rattle.c_types.specs.declared.bodies.AggregateBody.{AggregateBody}
 use Rattle.c_types.specs.Layouts.{body_told, told_in, told_of_bodies}
 use Rattle.c_types.specs.Members.{body_declared}
@@ -29,7 +29,7 @@ use Rattle.declaration_judge.specs.declared.declarations.Declarations.{Declarati
 use Rattle.declaration_judge.specs.Kept.{IsKeptOf, OnlyTypesJoin}
 use Rattle.declaration_judge.specs.Kept as declarations
 use Rattle.declaration_judge.proofs.KeptLemmas.{facts_later, kept_later}
-use Rattle.member_rows.specs.Aggregates.{aggregates_in, body_spelled}
+use Rattle.member_rows.specs.Aggregates.{aggregates_in, bodies_in, body_spelled}
 use Rattle.member_rows.proofs.AggregateLemmas.{aggregates_stay, told_is}
 use Rattle.node_facts.specs.declared.expression.ExpressionFact.{ExpressionFact}
 use Rattle.node_facts.specs.declared.fact.NodeFact.{NodeFact}
@@ -45,29 +45,21 @@ use Rattle.whole_rows.specs.ConstAggregates.{AreConst}
 use Rattle.whole_rows.proofs.ConstLemmas.{const_aggregates_begin, const_aggregates_stay}
 use Rattle.node_judge.specs.declared.known.Known.{Known}
 use Rattle.node_judge.specs.declared.places.FlexiblePlaces.{FlexiblePlaces}
-use Rattle.node_judge.specs.Bodies.{BodiesJoin, PartsStandBefore, aggregates_behind}
+use Rattle.node_judge.specs.Bodies.{AreOneFirst, BodiesJoin, PartsStandBefore, aggregates_behind, bodies_behind}
 use Rattle.node_judge.specs.Known.{IsGathered, IsKnownOf, facts_seen, table_of}
 use Rattle.node_judge.specs.Places.{ArePlaces}
-use Rattle.node_judge.specs.Rows.{next_row, row_over}
+use Rattle.node_judge.specs.Rows.{row_over}
+use Rattle.node_judge.proofs.FirstLemmas.{bodies_stay_in}
 use Rattle.node_judge.proofs.StayLemmas.{bodies_stay}
 
 -- How many nodes are known
 
-whole_count : (nodes : UnitNodes) (surroundings : List Surrounding) (count : ℕ) → length (first_whole_facts nodes surroundings count) ≡ count
-whole_count nodes surroundings zero = refl
-whole_count nodes surroundings (suc count) =
-    omega (
-      arith,
-      whole_count nodes surroundings count,
-      length-append (first_whole_facts nodes surroundings count) ((whole_row_at nodes surroundings (first_whole_facts nodes surroundings count) count).fact ∷ []),
-    )
-
-module _ (nodes : UnitNodes) (surroundings : List Surrounding) (count : ℕ) (known : Known) (is : IsKnownOf nodes surroundings count known) where
+module _ (nodes : UnitNodes) (surroundings : List Surrounding) (count : ℕ) {seen : List Fact} (known : Known) (is : IsKnownOf nodes surroundings count seen known) where
   pub known_count : length known.declarations.facts ≡ count
   known_count =
       sym (length-map known.declarations.facts (node_seen (table_of known)))
       ∙ ap length is.facts
-      ∙ whole_count nodes surroundings count
+      ∙ is.next
 
   -- What is handed in of it
 
@@ -84,25 +76,29 @@ module _ (nodes : UnitNodes) (surroundings : List Surrounding) (count : ℕ) (kn
 
   -- the row of the next node, by its kind
   pub row_is : (kind : NodeKind) → kind_at nodes count ≡ kind
-      → row_over nodes surroundings (table_of known) known.declarations.facts count kind ≡ next_row nodes surroundings count
+      → row_over nodes surroundings (table_of known) known.declarations.facts count kind ≡ whole_row_at nodes surroundings seen count
   row_is kind same =
-      let first = first_whole_facts nodes surroundings count in
       ap (λ (aggregates : KnownAggregates). whole_row_by aggregates nodes surroundings (facts_seen known) count kind) is.bodies.told
       ∙ ap (λ (earlier : List Fact). whole_row_by (aggregates_before nodes surroundings earlier) nodes surroundings earlier count kind) is.facts
-      ∙ ap (whole_row_by (aggregates_before nodes surroundings first) nodes surroundings first count) (sym same)
+      ∙ ap (whole_row_by (aggregates_before nodes surroundings seen) nodes surroundings seen count) (sym same)
 
   -- Types join
-  pub known_later : (kept : Declarations) → OnlyTypesJoin known.declarations kept → IsKnownOf nodes surroundings count (record known { declarations = kept })
+  pub known_later : (kept : Declarations) → OnlyTypesJoin known.declarations kept → IsKnownOf nodes surroundings count seen (record known { declarations = kept })
   known_later kept only =
       let old = table_of known in
       let join = only.types in
       let same = facts_later known.declarations kept only is.kept.whole in
       record {
         facts = same ∙ is.facts;
+        next = is.next;
         kept = kept_later known.declarations kept only nodes surroundings is.kept;
         bodies = record {
           ids = bodies_later old kept.types join is.bodies.ids;
           told = aggregates_stay old kept.types join is.bodies.ids ∙ is.bodies.told ∙ ap (aggregates_before nodes surroundings) (sym same);
+          first = λ number.
+              ap (lookup (nat_eq number)) (bodies_stay_in old kept.types join is.bodies.ids)
+              ∙ is.bodies.first number
+              ∙ ap (λ (facts : List Fact). lookup (nat_eq number) (bodies_before nodes surroundings facts (length facts))) (sym same);
           consts = const_aggregates_stay old kept.types known.consts join is.bodies.ids is.bodies.consts;
         };
         enumerations = subst (λ (facts : List Fact). enumerations.IsKeptOf nodes facts count known.enumerations) (sym same) is.enumerations;
@@ -112,12 +108,13 @@ module _ (nodes : UnitNodes) (surroundings : List Surrounding) (count : ℕ) (kn
       }
 
   -- and more is kept of bodies
-  pub known_places : (places : FlexiblePlaces) → ArePlaces nodes places → IsKnownOf nodes surroundings count (record known { places = places })
+  pub known_places : (places : FlexiblePlaces) → ArePlaces nodes places → IsKnownOf nodes surroundings count seen (record known { places = places })
   known_places places are =
       record {
         facts = is.facts;
+        next = is.next;
         kept = is.kept;
-        bodies = record { ids = is.bodies.ids; told = is.bodies.told; consts = is.bodies.consts };
+        bodies = record { ids = is.bodies.ids; told = is.bodies.told; first = is.bodies.first; consts = is.bodies.consts };
         enumerations = is.enumerations;
         places = are;
         gathered = record { tags = is.gathered.tags; names = is.gathered.names };
@@ -212,13 +209,12 @@ module _ (nodes : UnitNodes) (surroundings : List Surrounding) (kept : Declarati
 
 -- a body that was told with its specifier was told before the next node
 behind_before : (nodes : UnitNodes) (surroundings : List Surrounding) (seen : List Fact) (fact : Fact) → PartsStandBefore nodes → length seen < length nodes
-    → aggregates_behind nodes surroundings seen ≡ aggregates_before nodes surroundings (seen ++ fact ∷ [])
+    → bodies_behind nodes surroundings seen ≡ bodies_before nodes surroundings (seen ++ fact ∷ []) (length (seen ++ fact ∷ []))
 behind_before nodes surroundings seen fact order within =
     let more = fact ∷ [] in
     let count : suc (length seen) ≡ length (seen ++ more) = omega (arith, length-append seen more) in
     let stay = bodies_stay nodes surroundings seen more (length seen) order (omega (arith, within, count)) (omega arith) in
-    (λ i. aggregates_of (sym stay.before i ++ sym stay.bodies i))
-    ∙ ap (λ n. aggregates_of (bodies_before nodes surroundings (seen ++ more) n)) count
+    (λ i. sym stay.before i ++ sym stay.bodies i) ∙ ap (bodies_before nodes surroundings (seen ++ more)) count
 
 pub front_seen : (seen : List Fact) (fact : Fact) (handle : ℕ) → length seen ≡ handle → take handle (seen ++ fact ∷ []) ≡ seen
 front_seen seen fact handle count = take-append-le handle seen (fact ∷ []) (omega (arith, count)) ∙ take_all handle seen (omega (arith, count))
@@ -228,6 +224,7 @@ pub record Joins (nodes : UnitNodes) (surroundings : List Surrounding) (old : Kn
   -- its body is told
   pub bodies : BodiesJoin (table_of old) table
   pub told : aggregates_in table ≡ aggregates_behind nodes surroundings (facts_seen old)
+  pub first : AreOneFirst (bodies_in table) (bodies_behind nodes surroundings (facts_seen old))
   pub consts : AreConst table numbers
   -- and what it declares is kept
   pub facts : now.facts ≡ old.declarations.facts ++ fact ∷ []
@@ -235,7 +232,7 @@ pub record Joins (nodes : UnitNodes) (surroundings : List Surrounding) (old : Kn
   pub kept : IsKeptOf nodes surroundings now
 
 module _ (nodes : UnitNodes) (surroundings : List Surrounding) (handle : ℕ) (old : Known) (types : TypeTable) (consts : List ℕ) (kept : Declarations)
-    (fact : NodeFact) (is : IsKnownOf nodes surroundings handle old) (joins : Joins nodes surroundings old types consts kept fact)
+    (fact : NodeFact) (is : IsKnownOf nodes surroundings handle (facts_seen old) old) (joins : Joins nodes surroundings old types consts kept fact)
     (id : IsKnownNodeFact (table_of old) fact) where
   abbrev table : TypeTable
   table = table_of old
@@ -254,22 +251,28 @@ module _ (nodes : UnitNodes) (surroundings : List Surrounding) (handle : ℕ) (o
       (nodes_later types kept.types joins.types old.declarations.facts ids ∙ nodes_told table types extends old.declarations.facts is.kept.whole.ids)
       (node_later types kept.types joins.types fact (id_told table types extends fact id) ∙ node_told table types extends fact id)
 
-  pub known_more : (others : Enumerations) → PartsStandBefore nodes → handle < length nodes → node_seen table fact ≡ (next_row nodes surroundings handle).fact
+  pub known_more : (others : Enumerations) → PartsStandBefore nodes → handle < length nodes
       → enumerations.IsKeptOf nodes (declarations.facts_seen kept) (suc handle) others
-      → IsKnownOf nodes surroundings (suc handle) (record old { declarations = kept; consts = consts; enumerations = others })
-  known_more others order within row enumerated =
+      → IsKnownOf nodes surroundings (suc handle) (facts_seen old ++ node_seen table fact ∷ []) (record old { declarations = kept; consts = consts; enumerations = others })
+  known_more others order within enumerated =
       let seen = facts_seen old in
       let count : length seen ≡ handle = length-map old.declarations.facts (node_seen table) ∙ known_count nodes surroundings handle old is in
       record {
-        facts = seen-more ∙ ap₂ (λ front last. front ++ last ∷ []) is.facts row;
+        facts = seen-more;
+        next = omega (arith, is.next, length-append seen (node_seen table fact ∷ []));
         kept = joins.kept;
         bodies = record {
           ids = bodies_later types kept.types joins.types joins.bodies.known;
           told =
               aggregates_stay types kept.types joins.types joins.bodies.known
               ∙ joins.told
-              ∙ behind_before nodes surroundings seen (node_seen table fact) order (omega (arith, within, count))
+              ∙ ap aggregates_of (behind_before nodes surroundings seen (node_seen table fact) order (omega (arith, within, count)))
               ∙ ap (aggregates_before nodes surroundings) (sym seen-more);
+          first = λ number.
+              ap (lookup (nat_eq number)) (bodies_stay_in types kept.types joins.types joins.bodies.known)
+              ∙ joins.first number
+              ∙ ap (lookup (nat_eq number)) (behind_before nodes surroundings seen (node_seen table fact) order (omega (arith, within, count)))
+              ∙ ap (λ (facts : List Fact). lookup (nat_eq number) (bodies_before nodes surroundings facts (length facts))) (sym seen-more);
           consts = const_aggregates_stay types kept.types consts joins.types joins.bodies.known joins.consts;
         };
         enumerations = enumerated;
@@ -300,13 +303,14 @@ pub known_none :
     (nodes : UnitNodes) (surroundings : List Surrounding) (known : Known) → known.declarations.facts ≡ [] → told_in (table_of known) ≡ nothing_told
     → (table_of known).names ≡ [] → IsKeptOf nodes surroundings known.declarations → known.consts ≡ []
     → enumerations.IsKeptOf nodes (facts_seen known) 0 known.enumerations → ArePlaces nodes known.places → IsGathered nodes surroundings known
-    → IsKnownOf nodes surroundings 0 known
+    → IsKnownOf nodes surroundings 0 [] known
 known_none nodes surroundings known none layouts unnamed kept consts enumerated places gathered =
     let table = table_of known in
     let untold : table.bodies ≡ [] = no_bodies (types_in table) table.bodies layouts in
     let seen : facts_seen known ≡ [] = ap (nodes_seen table) none in
     record {
       facts = seen;
+      next = refl;
       kept = kept;
       bodies = record {
         ids =
@@ -315,6 +319,9 @@ known_none nodes surroundings known none layouts unnamed kept consts enumerated 
         told =
             ap (λ (bodies : List (ℕ × AggregateBody)). aggregates_of (map body_spelled (map (body_declared (types_in table)) bodies))) untold
             ∙ ap (aggregates_before nodes surroundings) (sym seen);
+        first = λ number.
+            ap (λ (bodies : List (ℕ × AggregateBody)). lookup (nat_eq number) (map body_spelled (map (body_declared (types_in table)) bodies))) untold
+            ∙ ap (λ (facts : List Fact). lookup (nat_eq number) (bodies_before nodes surroundings facts (length facts))) (sym seen);
         consts = subst (AreConst table) (sym consts) (const_aggregates_begin table untold);
       };
       enumerations = enumerated;

@@ -1,5 +1,6 @@
 pub mod StayLemmas
 pub mod BodyLemmas
+pub mod FirstLemmas
 pub mod PlainLemmas
 pub mod KindLemmas
 pub mod KnownLemmas

@@ -76,16 +76,16 @@ module _ (nodes : UnitNodes) (surroundings : List Surrounding) (table : TypeTabl
 -- what is known stays where a row is told over the types alone
 pub keeps_types :
     {E : Type 0} (nodes : UnitNodes) (surroundings : List Surrounding) (count : ℕ) (known : Known) (types : TypeTable) (result : Result NodeRow E)
-    (before after : List Failure) (meant : Row) → IsKnownOf nodes surroundings count known
+    (before after : List Failure) (meant : Row) {seen : List Fact} → IsKnownOf nodes surroundings count seen known
     → IfOk result (λ row. Tells (table_of known) types before after row meant)
-    → OnOk result (IsKnownOf nodes surroundings count (record known { declarations = record known.declarations { types = types } }))
+    → OnOk result (IsKnownOf nodes surroundings count seen (record known { declarations = record known.declarations { types = types } }))
 keeps_types nodes surroundings count known types result before after meant is tells =
     IfOk-weaker result (λ row. Tells (table_of known) types before after row meant) _
     (λ row it. known_later nodes surroundings count known is _ (types_alone known.declarations types it.keeps)) tells
 
 pub keeps_kept :
-    {E : Type 0} (nodes : UnitNodes) (surroundings : List Surrounding) (count : ℕ) (known : Known) (kept : Declarations) (result : Result NodeRow E)
-    → IsKnownOf nodes surroundings count known → OnOk result (OnlyTypesJoin known.declarations kept)
-    → OnOk result (IsKnownOf nodes surroundings count (record known { declarations = kept }))
+    {E : Type 0} (nodes : UnitNodes) (surroundings : List Surrounding) (count : ℕ) (known : Known) (kept : Declarations) (result : Result NodeRow E) {seen : List Fact}
+    → IsKnownOf nodes surroundings count seen known → OnOk result (OnlyTypesJoin known.declarations kept)
+    → OnOk result (IsKnownOf nodes surroundings count seen (record known { declarations = kept }))
 keeps_kept nodes surroundings count known kept result is only =
     IfOk-weaker result (λ row. OnlyTypesJoin known.declarations kept) _ (λ row it. known_later nodes surroundings count known is kept it) only

@@ -3,6 +3,7 @@ use Rattle.std.proofs.Common.{◌≡◌, ℕ, Bool, true, false, true≢false, n
 use Rattle.std.proofs.lemmas.List.{map-append}
 use Rattle.std.proofs.lemmas.List.Elements.{All-append, All-cons, All-nil}
 use Rattle.std.proofs.lemmas.Map.Made.{lookup-map_values}
+use Rattle.std.specs.Map.{lookup}
 use Rattle.vocabulary.specs.declared.node_kind.NodeKind.{NodeKind}
 use Rattle.vocabulary.specs.declared.node_kind.NodeKind.TheVariants as kinds
 use Rattle.meaning_layout.specs.Layouts.{Layout, LayoutFault}
@@ -27,8 +28,9 @@ use Rattle.member_rows.specs.Aggregates.{aggregates_in, bodies_in, body_spelled,
 use Rattle.member_rows.proofs.AggregateLemmas.{told_is}
 use Rattle.whole_judge.specs.Known.{AreKnownBodies}
 use Rattle.whole_rows.specs.ConstAggregates.{with_body}
-use Rattle.node_judge.specs.Bodies.{BodiesJoin, aggregates_behind, aggregates_with}
+use Rattle.node_judge.specs.Bodies.{AreOneFirst, BodiesJoin, aggregates_behind, aggregates_with, bodies_behind}
 use Rattle.node_judge.proofs.BodyLemmas.{aggregates-again, aggregates-push}
+use Rattle.node_judge.proofs.FirstLemmas.{first_both}
 
 -- Lists of members
 
@@ -101,6 +103,24 @@ there_is_none None is = refl
 there_is_none (Some one) is = absurd (true≢false is)
 
 -- The body of a node, behind those that stand before
+
+module _ (nodes : UnitNodes) (surroundings : List Surrounding) (seen : List Fact) (handle : ℕ) (count : length seen ≡ handle) (told : Bodies)
+    (first : AreOneFirst told (bodies_before nodes surroundings seen (length seen))) where
+  with_own : (bodies : Bodies) → bodies ≡ bodies_at nodes surroundings seen handle (kind_at nodes handle)
+      → bodies_before nodes surroundings seen (length seen) ++ bodies ≡ bodies_behind nodes surroundings seen
+  with_own bodies is =
+      ap (λ own. bodies_before nodes surroundings seen (length seen) ++ own) (is ∙ ap (λ h. bodies_at nodes surroundings seen h (kind_at nodes h)) (sym count))
+
+  pub first_none : [] ≡ bodies_at nodes surroundings seen handle (kind_at nodes handle) → AreOneFirst told (bodies_behind nodes surroundings seen)
+  first_none none number =
+      first number ∙ ap (lookup (nat_eq number)) (sym (append-nil (bodies_before nodes surroundings seen (length seen))) ∙ with_own [] none)
+
+  pub first_one : (bodies after : Bodies) → bodies ≡ bodies_at nodes surroundings seen handle (kind_at nodes handle) → AreOneFirst after (told ++ bodies)
+      → AreOneFirst after (bodies_behind nodes surroundings seen)
+  first_one bodies after is now number =
+      now number
+      ∙ first_both told (bodies_before nodes surroundings seen (length seen)) bodies first number
+      ∙ ap (lookup (nat_eq number)) (with_own bodies is)
 
 module _ (nodes : UnitNodes) (surroundings : List Surrounding) (seen : List Fact) (handle : ℕ) (count : length seen ≡ handle) where
   behind_by : (bodies : Bodies) → bodies ≡ bodies_at nodes surroundings seen handle (kind_at nodes handle)

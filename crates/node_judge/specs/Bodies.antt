@@ -1,9 +1,10 @@
 -- What is known of aggregates, with one body more; and that what a specifier declares stays where more is known.
-use Rattle.std.specs.Prelude.{◌≡◌, ◌≤◌, ◌<◌, ℕ, Bool, true, false, List, ◌++◌, All, length}
+use Rattle.std.specs.Prelude.{◌≡◌, ◌≤◌, ◌<◌, ℕ, Bool, nat_eq, true, false, List, ◌++◌, All, length}
 use Rattle.std.specs.List.{flat_map}
+use Rattle.std.specs.Map.{lookup}
 use Rattle.meaning_layout.specs.Members.{DeclaredBody, tell_names}
 use Rattle.meaning_layout.specs.Telling.{tell}
-use Rattle.meaning_typing.specs.Aggregates.{KnownAggregates, aggregates_of, tell_const}
+use Rattle.meaning_typing.specs.Aggregates.{Bodies, KnownAggregates, aggregates_of, tell_const}
 use Rattle.meaning_typing.specs.EnumRows.{enumerators_of}
 use Rattle.meaning_typing.specs.Facts.{Fact}
 use Rattle.meaning_typing.specs.MemberDeclarations.{bodies_at, bodies_before, member_list}
@@ -21,11 +22,18 @@ aggregates_with aggregates entry =
       has_const = tell_const aggregates.told aggregates.has_const entry.0 entry.1.members;
     }
 
+-- of each aggregate the first body among some is that among others, or both have none
+abbrev pub AreOneFirst : Bodies → Bodies → Type 0
+AreOneFirst bodies others = (number : ℕ) → lookup (nat_eq number) bodies ≡ lookup (nat_eq number) others
+
+-- the bodies that are told behind these facts, with the one that the next node declares, if it declares one
+abbrev pub bodies_behind : UnitNodes → List Surrounding → List Fact → Bodies
+bodies_behind nodes surroundings facts =
+    bodies_before nodes surroundings facts (length facts) ++ bodies_at nodes surroundings facts (length facts) (kind_at nodes (length facts))
+
 -- what is known of aggregates behind these facts, and behind the body that the next node declares, if it declares one
 abbrev pub aggregates_behind : UnitNodes → List Surrounding → List Fact → KnownAggregates
-aggregates_behind nodes surroundings facts =
-    aggregates_of
-    (bodies_before nodes surroundings facts (length facts) ++ bodies_at nodes surroundings facts (length facts) (kind_at nodes (length facts)))
+aggregates_behind nodes surroundings facts = aggregates_of (bodies_behind nodes surroundings facts)
 
 -- parts stand before
 abbrev pub PartsStandBefore : UnitNodes → Type 0

@@ -9,7 +9,7 @@ use Rattle.node_facts.specs.Growing.{TypesJoin}
 use Rattle.node_judge.specs.declared.fault.ExprFault.{ExprFault}
 use Rattle.node_judge.specs.declared.fault.ExprFault.TheVariants as faults
 use Rattle.node_judge.specs.declared.known.Known.{Known}
-use Rattle.node_judge.specs.Known.{IsKnownOf, table_of}
+use Rattle.node_judge.specs.Known.{IsKnownOf, facts_seen, table_of}
 
 -- It is refused for the least constraint that its row breaks; want of memory says nothing.
 abbrev pub IsRefusedFor : Row → ExprFault → Type 0
@@ -18,7 +18,7 @@ IsRefusedFor row faults.Memory = Unit {0}
 
 -- what is known stands for the same nodes, and types alone may have joined the table
 pub record StaysKnown (nodes : UnitNodes) (surroundings : List Surrounding) (count : ℕ) (old new : Known) : Type 0 where
-  pub known : IsKnownOf nodes surroundings count new
+  pub known : IsKnownOf nodes surroundings count (facts_seen old) new
   pub types : TypesJoin (table_of old) (table_of new)
 
 -- so it is where a constraint is broken; want of memory says nothing

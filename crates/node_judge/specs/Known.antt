@@ -1,20 +1,21 @@
 -- What is known of the nodes of a unit before one of them is judged.
-use Rattle.std.specs.Prelude.{◌≡◌, ℕ, List, []}
+use Rattle.std.specs.Prelude.{◌≡◌, ℕ, List, [], length}
 use Rattle.meaning_typing.specs.Facts.{Fact}
+use Rattle.meaning_typing.specs.MemberDeclarations.{bodies_before}
 use Rattle.meaning_typing.specs.MemberRows.{aggregates_before}
 use Rattle.meaning_typing.specs.Surroundings.{Surrounding}
 use Rattle.meaning_typing.specs.Units.{UnitNodes}
-use Rattle.meaning_typing.specs.WholeTyping.{first_whole_facts}
 use Rattle.c_types.specs.Table.{TypeTable}
 use Rattle.declaration_judge.specs.Kept.{IsKeptOf}
 use Rattle.declaration_judge.specs.Kept as declarations
 use Rattle.member_names.specs.Kept.{AreTwice}
-use Rattle.member_rows.specs.Aggregates.{aggregates_in}
+use Rattle.member_rows.specs.Aggregates.{aggregates_in, bodies_in}
 use Rattle.specifier_judge.specs.Kept as enumerations
 use Rattle.tag_rows.specs.Kept.{StandsFor}
 use Rattle.whole_judge.specs.Known.{AreKnownBodies}
 use Rattle.whole_rows.specs.ConstAggregates.{AreConst}
 use Rattle.node_judge.specs.declared.known.Known.{Known}
+use Rattle.node_judge.specs.Bodies.{AreOneFirst}
 use Rattle.node_judge.specs.Places.{ArePlaces}
 
 -- what is known of each node
@@ -29,6 +30,7 @@ table_of known = known.declarations.types
 pub record HasBodies (nodes : UnitNodes) (surroundings : List Surrounding) (known : Known) : Type 0 where
   pub ids : AreKnownBodies (table_of known)
   pub told : aggregates_in (table_of known) ≡ aggregates_before nodes surroundings (facts_seen known)
+  pub first : AreOneFirst (bodies_in (table_of known)) (bodies_before nodes surroundings (facts_seen known) (length (facts_seen known)))
   pub consts : AreConst (table_of known) known.consts
 
 -- what was gathered of all nodes before the first one was judged
@@ -37,9 +39,10 @@ pub record IsGathered (nodes : UnitNodes) (surroundings : List Surrounding) (kno
   pub names : AreTwice nodes surroundings known.names
 
 -- this is known of the first so many nodes, where nodes stand in this
-pub record IsKnownOf (nodes : UnitNodes) (surroundings : List Surrounding) (count : ℕ) (known : Known) : Type 0 where
-  -- each is known as its row says
-  pub facts : facts_seen known ≡ first_whole_facts nodes surroundings count
+pub record IsKnownOf (nodes : UnitNodes) (surroundings : List Surrounding) (count : ℕ) (seen : List Fact) (known : Known) : Type 0 where
+  -- these are the facts of the nodes
+  pub facts : facts_seen known ≡ seen
+  pub next : length seen ≡ count
   -- what is kept of them
   pub kept : IsKeptOf nodes surroundings known.declarations
   pub bodies : HasBodies nodes surroundings known

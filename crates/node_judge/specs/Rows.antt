@@ -5,15 +5,11 @@ use Rattle.vocabulary.specs.declared.node_kind.NodeKind.TheVariants as kinds
 use Rattle.meaning_typing.specs.Rows.{Row}
 use Rattle.meaning_typing.specs.Surroundings.{Surrounding}
 use Rattle.meaning_typing.specs.Units.{UnitNodes}
-use Rattle.meaning_typing.specs.WholeTyping.{first_whole_facts, whole_row_at, whole_row_by}
+use Rattle.meaning_typing.specs.WholeTyping.{whole_row_by}
 use Rattle.c_types.specs.Table.{TypeTable}
 use Rattle.member_rows.specs.Aggregates.{aggregates_in}
 use Rattle.node_facts.specs.declared.fact.NodeFact.{NodeFact}
 use Rattle.node_facts.specs.Facts.{nodes_seen}
-
--- the row of a node over what is known of those before it
-abbrev pub next_row : UnitNodes → List Surrounding → (handle : ℕ) → Row
-next_row nodes surroundings handle = whole_row_at nodes surroundings (first_whole_facts nodes surroundings handle) handle
 
 -- the row of a node of this kind by what a table was told of aggregates, and what is kept of the nodes before
 abbrev pub row_over : UnitNodes → List Surrounding → TypeTable → List NodeFact → (handle : ℕ) → NodeKind → Row

@@ -1,19 +1,20 @@
 // Bodies of structures and unions (C11 6.7.2.1): a specifier in; its body, if it declares one, is told to the table of types, and
 // whether it has a const member is kept. What its row says isn't known here.
-ghost use Rattle.std.specs.Prelude.{◌≡◌, ◌<◌, All, IfOk, OnOk, length, nat_le, true};
+ghost use Rattle.std.specs.Prelude.{◌≡◌, ◌<◌, ◌++◌, ◌∷◌, [], All, IfOk, OnOk, length, nat_le, true};
 ghost use Rattle.meaning_tree.specs.Nodes.{end_of};
+ghost use Rattle.meaning_typing.specs.MemberDeclarations.{bodies_before};
 ghost use Rattle.meaning_typing.specs.MemberRows.{aggregates_before};
 ghost use Rattle.meaning_typing.specs.Units.{kind_at as kind_of};
 ghost use Rattle.aggregate_rows.specs.Bodies.{is_aggregate};
 ghost use Rattle.body_members.specs.Seen.{body_seen, is_member_list};
 ghost use Rattle.c_types.specs.Table.{IsBodyOver, types_in};
 ghost use Rattle.decl_judge.specs.Units.{handles_of, nodes_of};
-ghost use Rattle.member_rows.specs.Aggregates.{aggregates_in};
+ghost use Rattle.member_rows.specs.Aggregates.{aggregates_in, bodies_in};
 ghost use Rattle.node_facts.specs.Facts.{IsKnownNodeFact, nodes_seen};
 ghost use Rattle.node_surroundings.specs.Seen.{surroundings_seen};
 ghost use Rattle.whole_judge.specs.Known.{AreKnownBodies};
 ghost use Rattle.whole_rows.specs.ConstAggregates.{AreConst};
-ghost use Rattle.node_judge.specs.Bodies.{BodiesJoin, aggregates_behind, aggregates_with, lists_among};
+ghost use Rattle.node_judge.specs.Bodies.{AreOneFirst, BodiesJoin, aggregates_behind, aggregates_with, bodies_behind, lists_among};
 
 use body_members::specifier_body;
 use c_tree::{Handle, Unit};
@@ -74,6 +75,7 @@ fn tell(
     requires consts { AreConst types.old consts.old }
     requires body { IsBodyOver (types_in types.old) body }
     ensures told { OnOk result (aggregates_in types.new ≡ aggregates_with (aggregates_in types.old) (aggregate, body_seen types.old body)) }
+    ensures first { OnOk result (AreOneFirst (bodies_in types.new) (bodies_in types.old ++ (aggregate, body_seen types.old body) ∷ [])) }
     ensures consts { OnOk result (AreConst types.new consts.new) }
     ensures joins { OnOk result (BodiesJoin types.old types.new) }
 {
@@ -106,6 +108,7 @@ fn tell_numbered(
     requires consts { AreConst types.old consts.old }
     requires body { IsBodyOver (types_in types.old) body }
     ensures told { OnOk result (aggregates_in types.new ≡ aggregates_with (aggregates_in types.old) (number, body_seen types.old body)) }
+    ensures first { OnOk result (AreOneFirst (bodies_in types.new) (bodies_in types.old ++ (number, body_seen types.old body) ∷ [])) }
     ensures consts { OnOk result (AreConst types.new consts.new) }
     ensures joins { OnOk result (BodiesJoin types.old types.new) }
 {
@@ -132,7 +135,9 @@ fn tell_specifier(
     requires bodies { AreKnownBodies types.old }
     requires consts { AreConst types.old consts.old }
     requires told { aggregates_in types.old ≡ aggregates_before (nodes_of unit.now) (surroundings_seen surroundings.now) (nodes_seen types.old facts.now) }
+    requires first { AreOneFirst (bodies_in types.old) (bodies_before (nodes_of unit.now) (surroundings_seen surroundings.now) (nodes_seen types.old facts.now) (length (nodes_seen types.old facts.now))) }
     ensures told { OnOk result (aggregates_in types.new ≡ aggregates_behind (nodes_of unit.now) (surroundings_seen surroundings.now) (nodes_seen types.old facts.now)) }
+    ensures first { OnOk result (AreOneFirst (bodies_in types.new) (bodies_behind (nodes_of unit.now) (surroundings_seen surroundings.now) (nodes_seen types.old facts.now))) }
     ensures consts { OnOk result (AreConst types.new consts.new) }
     ensures joins { OnOk result (BodiesJoin types.old types.new) }
 {
@@ -166,7 +171,9 @@ pub fn tell_body(
     requires bodies { AreKnownBodies types.old }
     requires consts { AreConst types.old consts.old }
     requires told { aggregates_in types.old ≡ aggregates_before (nodes_of unit.now) (surroundings_seen surroundings.now) (nodes_seen types.old facts.now) }
+    requires first { AreOneFirst (bodies_in types.old) (bodies_before (nodes_of unit.now) (surroundings_seen surroundings.now) (nodes_seen types.old facts.now) (length (nodes_seen types.old facts.now))) }
     ensures told { OnOk result (aggregates_in types.new ≡ aggregates_behind (nodes_of unit.now) (surroundings_seen surroundings.now) (nodes_seen types.old facts.now)) }
+    ensures first { OnOk result (AreOneFirst (bodies_in types.new) (bodies_behind (nodes_of unit.now) (surroundings_seen surroundings.now) (nodes_seen types.old facts.now))) }
     ensures consts { OnOk result (AreConst types.new consts.new) }
     ensures joins { OnOk result (BodiesJoin types.old types.new) }
 {

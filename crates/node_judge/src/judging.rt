@@ -3,13 +3,13 @@
 ghost use Rattle.std.specs.Prelude.{◌≡◌, ◌<◌, ◌++◌, [], IfErr, IfOk, OnErr, OnOk, length, take};
 ghost use Rattle.meaning_tree.specs.Laid.{IsLaid};
 ghost use Rattle.meaning_tree.specs.Nodes.{end_of};
+ghost use Rattle.meaning_typing.specs.WholeTyping.{whole_row_at};
 ghost use Rattle.decl_judge.specs.Units.{nodes_of};
 ghost use Rattle.expression_rows.specs.Arguments.{Appends};
 ghost use Rattle.node_facts.specs.Facts.{IsKnownNodeFact, node_seen};
 ghost use Rattle.node_surroundings.specs.Seen.{AreSurroundingsOf, surroundings_seen};
 ghost use Rattle.node_judge.specs.Judging.{IsRefusedFor, KeepsKnown, StaysKnown};
-ghost use Rattle.node_judge.specs.Known.{IsKnownOf, table_of};
-ghost use Rattle.node_judge.specs.Rows.{next_row};
+ghost use Rattle.node_judge.specs.Known.{IsKnownOf, facts_seen, table_of};
 
 use crate::fault::ExprFault;
 use crate::known::Known;
@@ -67,12 +67,12 @@ pub fn judge_expr(
     requires node { e < end_of unit.now }
     requires surroundings { AreSurroundingsOf unit.now surroundings.now }
     requires all { length surroundings.now ≡ length unit.now.nodes }
-    requires known { IsKnownOf (nodes_of unit.now) (surroundings_seen surroundings.now) e known.old }
-    ensures fact { IfOk result (λ fact. node_seen (table_of known.new) fact ≡ (next_row (nodes_of unit.now) (surroundings_seen surroundings.now) e).fact) }
+    requires known { IsKnownOf (nodes_of unit.now) (surroundings_seen surroundings.now) e (facts_seen known.old) known.old }
+    ensures fact { IfOk result (λ fact. node_seen (table_of known.new) fact ≡ (whole_row_at (nodes_of unit.now) (surroundings_seen surroundings.now) (facts_seen known.old) e).fact) }
     ensures ids { IfOk result (IsKnownNodeFact (table_of known.new)) }
-    ensures failures { OnOk result (Appends (table_of known.new) found.old found.new (next_row (nodes_of unit.now) (surroundings_seen surroundings.now) e).failures) }
-    ensures unbroken { OnOk result ((next_row (nodes_of unit.now) (surroundings_seen surroundings.now) e).broken ≡ []) }
-    ensures refused { IfErr result (IsRefusedFor (next_row (nodes_of unit.now) (surroundings_seen surroundings.now) e)) }
+    ensures failures { OnOk result (Appends (table_of known.new) found.old found.new (whole_row_at (nodes_of unit.now) (surroundings_seen surroundings.now) (facts_seen known.old) e).failures) }
+    ensures unbroken { OnOk result ((whole_row_at (nodes_of unit.now) (surroundings_seen surroundings.now) (facts_seen known.old) e).broken ≡ []) }
+    ensures refused { IfErr result (IsRefusedFor (whole_row_at (nodes_of unit.now) (surroundings_seen surroundings.now) (facts_seen known.old) e)) }
     ensures as_before { OnErr result (found.new ≡ found.old) }
     ensures keeps { OnOk result (StaysKnown (nodes_of unit.now) (surroundings_seen surroundings.now) e known.old known.new) }
     ensures kept { IfErr result (KeepsKnown (nodes_of unit.now) (surroundings_seen surroundings.now) e known.old known.new) }

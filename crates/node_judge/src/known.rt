@@ -1,14 +1,13 @@
 // What is known of the nodes of a unit while they come in their order: what is known of each node goes in, and what rows ask of the
 // nodes before theirs comes out. How a row is found isn't known here.
-ghost use Rattle.std.specs.Prelude.{◌≡◌, ◌+◌, ◌<◌, IfOk, OnOk, length};
+ghost use Rattle.std.specs.Prelude.{◌≡◌, ◌+◌, ◌++◌, ◌<◌, ◌∷◌, [], IfOk, OnOk, length};
 ghost use Rattle.meaning_tree.specs.Laid.{IsLaid};
 ghost use Rattle.meaning_tree.specs.Nodes.{end_of};
 ghost use Rattle.c_types.specs.Table.{Extends};
 ghost use Rattle.decl_judge.specs.Units.{nodes_of};
 ghost use Rattle.node_facts.specs.Facts.{IsKnownNodeFact, node_seen};
 ghost use Rattle.node_surroundings.specs.Seen.{AreSurroundingsOf, surroundings_seen};
-ghost use Rattle.node_judge.specs.Known.{IsKnownOf, table_of};
-ghost use Rattle.node_judge.specs.Rows.{next_row};
+ghost use Rattle.node_judge.specs.Known.{IsKnownOf, facts_seen, table_of};
 
 use crate::bodies::tell_body;
 use crate::places::FlexiblePlaces;
@@ -44,7 +43,7 @@ impl Known {
         requires whole { unit.now.first ≡ 0 }
         requires laid { IsLaid unit.now }
         requires surroundings { AreSurroundingsOf unit.now surroundings.now }
-        ensures { IfOk result (IsKnownOf (nodes_of unit.now) (surroundings_seen surroundings.now) 0) }
+        ensures { IfOk result (IsKnownOf (nodes_of unit.now) (surroundings_seen surroundings.now) 0 []) }
     {
         let tags = TagsSeen::of(alloc, unit)?;
         let names = MemberNames::of(alloc, unit, surroundings)?;
@@ -59,8 +58,8 @@ impl Known {
         })
     }
 
-    /// The next node is known, which has this handle, by its row: what it declares is kept, and the table is told the body of a
-    /// structure or a union. It takes a few steps, and one for each part and for each part of its type.
+    /// The next node is known, which has this handle: what it declares is kept, and the table is told the body of a structure or a
+    /// union. It takes a few steps, and one for each part and for each part of its type.
     ///
     /// # Errors
     /// Want of memory. It stands too for a number of more than 32 bits and for a specifier with two bodies, which no unit has that was
@@ -76,10 +75,9 @@ impl Known {
         requires whole { unit.now.first ≡ 0 }
         requires node { handle < end_of unit.now }
         requires surroundings { length surroundings.now ≡ length unit.now.nodes }
-        requires known { IsKnownOf (nodes_of unit.now) (surroundings_seen surroundings.now) handle self.old }
+        requires known { IsKnownOf (nodes_of unit.now) (surroundings_seen surroundings.now) handle (facts_seen self.old) self.old }
         requires ids { IsKnownNodeFact (table_of self.old) fact }
-        requires row { node_seen (table_of self.old) fact ≡ (next_row (nodes_of unit.now) (surroundings_seen surroundings.now) handle).fact }
-        ensures known { OnOk result (IsKnownOf (nodes_of unit.now) (surroundings_seen surroundings.now) (handle + 1) self.new) }
+        ensures known { OnOk result (IsKnownOf (nodes_of unit.now) (surroundings_seen surroundings.now) (handle + 1) (facts_seen self.old ++ node_seen (table_of self.old) fact ∷ []) self.new) }
         ensures types { OnOk result (Extends (table_of self.old) (table_of self.new)) }
     {
         unit.each_node_stands_for_one_tree();

@@ -9,7 +9,7 @@ ghost use Rattle.meaning_typing.specs.Units.{kind_at as kind_of};
 ghost use Rattle.decl_judge.specs.Units.{nodes_of};
 ghost use Rattle.expr_judge.specs.Rows.{Tells};
 ghost use Rattle.node_surroundings.specs.Seen.{AreSurroundingsOf, surroundings_seen};
-ghost use Rattle.node_judge.specs.Known.{IsKnownOf, table_of};
+ghost use Rattle.node_judge.specs.Known.{IsKnownOf, facts_seen, table_of};
 ghost use Rattle.node_judge.specs.Rows.{row_over};
 
 use crate::known::Known;
@@ -50,9 +50,9 @@ fn member_declarator(
     requires all { length surroundings.now ≡ length unit.now.nodes }
     requires kind { kind_of (nodes_of unit.now) handle ≡ kinds.Declarator }
     requires member { is_member_declaration (kind_of (nodes_of unit.now) (surrounding_at (surroundings_seen surroundings.now) handle).parent) ≡ true }
-    requires known { IsKnownOf (nodes_of unit.now) (surroundings_seen surroundings.now) handle known.old }
+    requires known { IsKnownOf (nodes_of unit.now) (surroundings_seen surroundings.now) handle (facts_seen known.old) known.old }
     ensures says { IfOk result (λ row. Tells (table_of known.old) (table_of known.new) found.old found.new row (row_over (nodes_of unit.now) (surroundings_seen surroundings.now) (table_of known.old) known.old.declarations.facts handle kinds.Declarator)) }
-    ensures keeps { OnOk result (IsKnownOf (nodes_of unit.now) (surroundings_seen surroundings.now) handle known.new) }
+    ensures keeps { OnOk result (IsKnownOf (nodes_of unit.now) (surroundings_seen surroundings.now) handle (facts_seen known.old) known.new) }
 {
     let surrounding = surroundings.get(handle);
     if !is_part(unit, handle) || !is_part(unit, surrounding.parent) {
@@ -91,9 +91,9 @@ pub fn declarator(
     requires surroundings { AreSurroundingsOf unit.now surroundings.now }
     requires all { length surroundings.now ≡ length unit.now.nodes }
     requires kind { kind_of (nodes_of unit.now) handle ≡ kinds.Declarator }
-    requires known { IsKnownOf (nodes_of unit.now) (surroundings_seen surroundings.now) handle known.old }
+    requires known { IsKnownOf (nodes_of unit.now) (surroundings_seen surroundings.now) handle (facts_seen known.old) known.old }
     ensures says { IfOk result (λ row. Tells (table_of known.old) (table_of known.new) found.old found.new row (row_over (nodes_of unit.now) (surroundings_seen surroundings.now) (table_of known.old) known.old.declarations.facts handle kinds.Declarator)) }
-    ensures keeps { OnOk result (IsKnownOf (nodes_of unit.now) (surroundings_seen surroundings.now) handle known.new) }
+    ensures keeps { OnOk result (IsKnownOf (nodes_of unit.now) (surroundings_seen surroundings.now) handle (facts_seen known.old) known.new) }
 {
     let parent = surroundings.get(handle).parent;
     if is_member_declaration(kind_at(unit, parent)) {

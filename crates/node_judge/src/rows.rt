@@ -4,14 +4,15 @@ ghost use Rattle.vocabulary.specs.declared.node_kind.NodeKind.TheVariants as kin
 ghost use Rattle.meaning_tree.specs.Laid.{IsLaid};
 ghost use Rattle.meaning_tree.specs.Nodes.{end_of};
 ghost use Rattle.meaning_typing.specs.Units.{kind_at as kind_of};
+ghost use Rattle.meaning_typing.specs.WholeTyping.{whole_row_at};
 ghost use Rattle.decl_judge.specs.Units.{nodes_of};
 ghost use Rattle.expr_judge.specs.Rows.{Tells};
 ghost use Rattle.node_facts.specs.Facts.{IsKnownNodeFact};
 ghost use Rattle.node_surroundings.specs.Seen.{AreSurroundingsOf, surroundings_seen};
 ghost use Rattle.specifier_judge.specs.Kinds.{is_of_specifiers};
 ghost use Rattle.whole_judge.specs.Kinds.{is_of_unit};
-ghost use Rattle.node_judge.specs.Known.{IsKnownOf, table_of};
-ghost use Rattle.node_judge.specs.Rows.{is_of_facts, next_row, row_over};
+ghost use Rattle.node_judge.specs.Known.{IsKnownOf, facts_seen, table_of};
+ghost use Rattle.node_judge.specs.Rows.{is_of_facts, row_over};
 
 use crate::known::Known;
 use crate::loaded::is_for_value;
@@ -100,9 +101,9 @@ fn row_by_facts(
     requires declares { kind ≢ kinds.Declarator }
     requires names { kind ≢ kinds.Name }
     requires ends { kind ≢ kinds.TranslationUnit }
-    requires known { IsKnownOf (nodes_of unit.now) (surroundings_seen surroundings.now) handle known.old }
+    requires known { IsKnownOf (nodes_of unit.now) (surroundings_seen surroundings.now) handle (facts_seen known.old) known.old }
     ensures says { IfOk result (λ row. Tells (table_of known.old) (table_of known.new) found.old found.new row (row_over (nodes_of unit.now) (surroundings_seen surroundings.now) (table_of known.old) known.old.declarations.facts handle kind)) }
-    ensures keeps { OnOk result (IsKnownOf (nodes_of unit.now) (surroundings_seen surroundings.now) handle known.new) }
+    ensures keeps { OnOk result (IsKnownOf (nodes_of unit.now) (surroundings_seen surroundings.now) handle (facts_seen known.old) known.new) }
 {
     let Known {
         declarations,
@@ -130,9 +131,9 @@ fn specifier(
     requires node { handle < end_of unit.now }
     requires all { length surroundings.now ≡ length unit.now.nodes }
     requires specifies { is_of_specifiers (kind_of (nodes_of unit.now) handle) ≡ true }
-    requires known { IsKnownOf (nodes_of unit.now) (surroundings_seen surroundings.now) handle known.old }
+    requires known { IsKnownOf (nodes_of unit.now) (surroundings_seen surroundings.now) handle (facts_seen known.old) known.old }
     ensures says { IfOk result (λ row. Tells (table_of known.old) (table_of known.new) found.old found.new row (row_over (nodes_of unit.now) (surroundings_seen surroundings.now) (table_of known.old) known.old.declarations.facts handle (kind_of (nodes_of unit.now) handle))) }
-    ensures keeps { OnOk result (IsKnownOf (nodes_of unit.now) (surroundings_seen surroundings.now) handle known.new) }
+    ensures keeps { OnOk result (IsKnownOf (nodes_of unit.now) (surroundings_seen surroundings.now) handle (facts_seen known.old) known.new) }
 {
     let Known {
         declarations,
@@ -155,9 +156,9 @@ fn name_used(
     requires node { handle < end_of unit.now }
     requires all { length surroundings.now ≡ length unit.now.nodes }
     requires kind { kind_of (nodes_of unit.now) handle ≡ kinds.Name }
-    requires known { IsKnownOf (nodes_of unit.now) (surroundings_seen surroundings.now) handle known.old }
+    requires known { IsKnownOf (nodes_of unit.now) (surroundings_seen surroundings.now) handle (facts_seen known.old) known.old }
     ensures says { IfOk result (λ row. Tells (table_of known.old) (table_of known.new) found.old found.new row (row_over (nodes_of unit.now) (surroundings_seen surroundings.now) (table_of known.old) known.old.declarations.facts handle kinds.Name)) }
-    ensures keeps { OnOk result (IsKnownOf (nodes_of unit.now) (surroundings_seen surroundings.now) handle known.new) }
+    ensures keeps { OnOk result (IsKnownOf (nodes_of unit.now) (surroundings_seen surroundings.now) handle (facts_seen known.old) known.new) }
 {
     let Known {
         declarations,
@@ -203,9 +204,9 @@ pub fn judge_node(
     requires node { handle < end_of unit.now }
     requires surroundings { AreSurroundingsOf unit.now surroundings.now }
     requires all { length surroundings.now ≡ length unit.now.nodes }
-    requires known { IsKnownOf (nodes_of unit.now) (surroundings_seen surroundings.now) handle known.old }
-    ensures says { IfOk result (λ row. Tells (table_of known.old) (table_of known.new) found.old found.new row (next_row (nodes_of unit.now) (surroundings_seen surroundings.now) handle)) }
-    ensures keeps { OnOk result (IsKnownOf (nodes_of unit.now) (surroundings_seen surroundings.now) handle known.new) }
+    requires known { IsKnownOf (nodes_of unit.now) (surroundings_seen surroundings.now) handle (facts_seen known.old) known.old }
+    ensures says { IfOk result (λ row. Tells (table_of known.old) (table_of known.new) found.old found.new row (whole_row_at (nodes_of unit.now) (surroundings_seen surroundings.now) (facts_seen known.old) handle)) }
+    ensures keeps { OnOk result (IsKnownOf (nodes_of unit.now) (surroundings_seen surroundings.now) handle (facts_seen known.old) known.new) }
 {
     let kind = unit.kind(handle);
     if is_of_specifiers(kind) {

@@ -1,3 +1,3 @@
 pub mod Appended
-pub mod Hidden
+pub mod HiddenNames
 pub mod Steps

@@ -140,7 +140,7 @@ fn write_number(text: &mut Vec<u8>, source: &Source<'_>, node: &Node) -> Result<
 }
 
 // Appends that a declarator or an enumerator hides the one with the handle that is one less, if it hides one.
-#[tactic(auto, using(crate::proofs::Hidden::hidden_none, crate::proofs::Hidden::hidden_some))]
+#[tactic(auto, using(crate::proofs::HiddenNames::hidden_none, crate::proofs::HiddenNames::hidden_some))]
 fn write_hidden(text: &mut Vec<u8>, source: &Source<'_>, number: u64) -> Result<(), AllocError>
     requires { source.now.unit.now.first ≡ 0 }
     ensures { OnOk result (text.new.items ≡ text.old.items ++ hidden_text (source_seen source.now) number) }

@@ -1,65 +1,64 @@
--- What stands at a node over all facts of a unit is what stands there over the facts before it.
-use Rattle.std.proofs.Common.{◌≡◌, ℕ, zero, suc, ◌+◌, ◌<◌, ◌≤◌, ◌++◌, [], ◌∷◌, List, length, take, refl, sym, ap, ap₂, ◌∙◌, arith, length-append}
-use Rattle.std.proofs.lemmas.List.{take_more}
-use Rattle.std.proofs.lemmas.Option.{get_or_from_slice_get}
-use Rattle.meaning_judgements.proofs.FactLemmas.{whole_facts_are_found}
-use Rattle.meaning_judgements.proofs.RowLemmas.{statements_tell_no_facts}
-use Rattle.meaning_judgements.specs.UnitRows.{unit_row_at}
-use Rattle.meaning_judgements.specs.WholeFacts.{AreWholeFacts, whole_broken_at, whole_failures_at, whole_passed_at}
-use Rattle.meaning_typing.specs.Facts.{Fact, Unknown, fact_at}
+-- What stands at the rows of the first nodes stays where one row more joins them.
+use Rattle.std.proofs.Common.{◌≡◌, ℕ, zero, suc, ◌<◌, ◌++◌, [], ◌∷◌, List, length, refl, sym, ap, ap₂, subst, ◌∙◌, arith}
+use Rattle.std.proofs.lemmas.List.{map-append}
+use Rattle.meaning_rules.specs.Rules.{gathered}
+use Rattle.meaning_typing.specs.Facts.{Fact}
+use Rattle.meaning_typing.specs.Rows.{Row}
 use Rattle.meaning_typing.specs.Surroundings.{Surrounding, surrounding_at}
 use Rattle.meaning_typing.specs.Typing.{access_failures, token_at}
 use Rattle.meaning_typing.specs.Units.{UnitNodes}
-use Rattle.meaning_typing.specs.WholeTyping.{first_whole_facts, whole_facts_of, whole_row_at}
-use Rattle.type_judge.specs.Rows.{accessed_row, unit_row}
+use Rattle.meaning_units.specs.WholeRows.{broken_at, facts_of, failures_at, passed_at, row_at}
+use Rattle.node_judge.specs.declared.known.Known.{Known}
+use Rattle.node_judge.specs.Known.{IsKnownOf, facts_seen}
+use Rattle.type_judge.specs.Rows.{accessed}
 
-module _ (nodes : UnitNodes) (surroundings : List Surrounding) where
-  pub length-first : (count : ℕ) → length (first_whole_facts nodes surroundings count) ≡ count
-  length-first zero = refl
-  length-first (suc count) =
-      omega (
-        arith,
-        length-first count,
-        length-append (first_whole_facts nodes surroundings count) ((whole_row_at nodes surroundings (first_whole_facts nodes surroundings count) count).fact ∷ []),
-      )
+-- Lists of what nodes have
 
-  -- facts are those of the first nodes, and others behind them
-  first_of : (facts : List Fact) → AreWholeFacts nodes surroundings facts → (count : ℕ) → count ≤ length nodes
-      → take count facts ≡ first_whole_facts nodes surroundings count
-  first_of facts are zero within = refl
-  first_of facts are (suc count) within =
-      let before = first_of facts are count (omega (arith, within)) in
-      let here = get_or_from_slice_get facts count _ Unknown (are.each count (omega (arith, within))) in
-      let next : suc count ≡ count + 1 = omega arith in
-      ap (λ n. take n facts) next
-      ∙ take_more facts count Unknown (omega (arith, within, are.all))
-      ∙ ap₂ (λ front fact. front ++ fact ∷ []) before (here ∙ ap (λ earlier. (whole_row_at nodes surroundings earlier count).fact) before)
+gathered_same : {A : Type 0} (one other : ℕ → List A) (count : ℕ) → ((handle : ℕ) → handle < count → one handle ≡ other handle)
+    → gathered one count ≡ gathered other count
+gathered_same one other zero same = refl
+gathered_same one other (suc count) same =
+    ap₂ (λ front back. front ++ back) (gathered_same one other count (λ handle within. same handle (omega (arith, within)))) (same count (omega arith))
 
-  module _ (handle : ℕ) where
-    -- what is known of a node is what its own row says
-    pub unit_fact : (unit_row nodes surroundings handle).fact ≡ (whole_row_at nodes surroundings (first_whole_facts nodes surroundings handle) handle).fact
-    unit_fact = statements_tell_no_facts nodes surroundings (first_whole_facts nodes surroundings handle) handle
+-- Rows
 
-    module _ (within : handle < length nodes) where
-      abbrev all : List Fact
-      all = whole_facts_of nodes surroundings
+row_stays : (rows more : List Row) (handle : ℕ) → handle < length rows → row_at (rows ++ more) handle ≡ row_at rows handle
+row_stays [] more handle within = absurd (omega (arith, within))
+row_stays (row ∷ rows) more zero within = refl
+row_stays (row ∷ rows) more (suc handle) within = row_stays rows more handle (omega (arith, within))
 
-      front : take handle all ≡ first_whole_facts nodes surroundings handle
-      front = first_of all (whole_facts_are_found nodes surroundings) handle (omega (arith, within))
+row_last : (rows : List Row) (row : Row) → row_at (rows ++ row ∷ []) (length rows) ≡ row
+row_last [] row = refl
+row_last (first ∷ rows) row = row_last rows row
 
-      first_fact : fact_at all handle ≡ (unit_row nodes surroundings handle).fact
-      first_fact =
-          get_or_from_slice_get all handle _ Unknown ((whole_facts_are_found nodes surroundings).each handle within)
-          ∙ ap (λ earlier. (whole_row_at nodes surroundings earlier handle).fact) front
-          ∙ sym unit_fact
+pub facts_more : (rows : List Row) (row : Row) → facts_of (rows ++ row ∷ []) ≡ facts_of rows ++ row.fact ∷ []
+facts_more rows row = map-append (λ (r : Row). r.fact) rows (row ∷ [])
 
-      pub first_failures : whole_failures_at nodes surroundings all handle ≡ (accessed_row nodes surroundings handle).failures
-      first_failures =
-          ap₂ (λ failures fact. failures ++ access_failures (token_at nodes handle) (surrounding_at surroundings handle) fact)
-          (ap (λ earlier. (unit_row_at nodes surroundings earlier handle).failures) front) first_fact
+-- what is found at one row more, by what is asked of a row
+module _ {A : Type 0} (ask : ℕ → Row → List A) (rows : List Row) (row : Row) where
+  asked_more : (count : ℕ) → length rows ≡ count
+      → gathered (λ handle. ask handle (row_at (rows ++ row ∷ []) handle)) (suc count) ≡ gathered (λ handle. ask handle (row_at rows handle)) count ++ ask count row
+  asked_more count all =
+      ap₂ (λ front back. front ++ back)
+      (gathered_same (λ handle. ask handle (row_at (rows ++ row ∷ []) handle)) (λ handle. ask handle (row_at rows handle)) count
+      (λ handle within. ap (ask handle) (row_stays rows (row ∷ []) handle (omega (arith, within, all)))))
+      (ap (λ n. ask count (row_at (rows ++ row ∷ []) n)) (sym all) ∙ ap (ask count) (row_last rows row))
 
-      pub first_broken : whole_broken_at nodes surroundings all handle ≡ (accessed_row nodes surroundings handle).broken
-      first_broken = ap (λ earlier. (unit_row_at nodes surroundings earlier handle).broken) front
+module _ (nodes : UnitNodes) (surroundings : List Surrounding) (rows : List Row) (row : Row) (count : ℕ) (all : length rows ≡ count) where
+  pub failures_more : gathered (failures_at nodes surroundings (rows ++ row ∷ [])) (suc count)
+      ≡ gathered (failures_at nodes surroundings rows) count ++ (accessed nodes surroundings count row).failures
+  failures_more =
+      asked_more (λ handle r. r.failures ++ access_failures (token_at nodes handle) (surrounding_at surroundings handle) r.fact) rows row count all
 
-      pub first_passed : whole_passed_at nodes surroundings all handle ≡ (accessed_row nodes surroundings handle).passed
-      first_passed = ap (λ earlier. (unit_row_at nodes surroundings earlier handle).passed) front
+  pub broken_more : gathered (broken_at (rows ++ row ∷ [])) (suc count) ≡ gathered (broken_at rows) count ++ row.broken
+  broken_more = asked_more (λ handle r. r.broken) rows row count all
+
+  pub passed_more : gathered (passed_at (rows ++ row ∷ [])) (suc count) ≡ gathered (passed_at rows) count ++ row.passed
+  passed_more = asked_more (λ handle r. r.passed) rows row count all
+
+-- What is known
+
+-- is known of its own facts
+pub known_itself : (nodes : UnitNodes) (surroundings : List Surrounding) (count : ℕ) {seen : List Fact} (known : Known)
+    → IsKnownOf nodes surroundings count seen known → IsKnownOf nodes surroundings count (facts_seen known) known
+known_itself nodes surroundings count known is = subst (λ (facts : List Fact). IsKnownOf nodes surroundings count facts known) (sym is.facts) is

@@ -3,6 +3,7 @@ pub mod FactLemmas
 pub mod GrowthLemmas
 pub mod AccessLemmas
 pub mod RowLemmas
+pub mod AggregateLemmas
 pub mod KeepingLemmas
 pub mod OrderLemmas
 pub mod RenamingLemmas

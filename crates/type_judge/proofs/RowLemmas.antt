@@ -3,15 +3,20 @@ use Rattle.std.proofs.Common.{◌≡◌, ◌≢◌, ℕ, ◌++◌, List, option_
 use Rattle.vocabulary.specs.declared.node_kind.NodeKind.{NodeKind}
 use Rattle.vocabulary.specs.declared.node_kind.NodeKind.TheVariants as kinds
 use Rattle.sparse_model.specs.declared.failure.Failure.{Failure}
-use Rattle.meaning_judgements.specs.UnitRows.{row_by_statement, with_statement}
+use Rattle.meaning_judgements.specs.UnitRows.{row_by_statement, unit_row_at, with_statement}
 use Rattle.meaning_rules.specs.Rules.{lesser}
 use Rattle.meaning_statements.specs.StatementRows.{statement_row_at}
-use Rattle.meaning_typing.specs.Facts.{Fact}
-use Rattle.meaning_typing.specs.Rows.{Row}
+use Rattle.meaning_typing.specs.Facts.{Fact, Unknown}
+use Rattle.meaning_layout.specs.Sizes.{Told}
+use Rattle.meaning_initialized.specs.Initialized.{Initialized, NoObject, initialized_by}
+use Rattle.meaning_initialized.specs.Rows.{IsInitializingRow, IsRowOf}
+use Rattle.meaning_typing.specs.MemberRows.{aggregates_before}
+use Rattle.meaning_typing.specs.Rows.{Row, nothing}
+use Rattle.meaning_units.specs.UnitRows.{IsUnitRow, row_by_initializer}
 use Rattle.meaning_typing.specs.Surroundings.{Surrounding, surrounding_at}
 use Rattle.meaning_typing.specs.Typing.{access_failures, token_at}
 use Rattle.meaning_typing.specs.Units.{UnitNodes, kind_at}
-use Rattle.meaning_typing.specs.WholeTyping.{first_whole_facts, whole_row_at}
+use Rattle.meaning_typing.specs.WholeTyping.{whole_row_at}
 use Rattle.c_types.specs.Table.{TypeTable}
 use Rattle.node_facts.specs.Facts.{IsKnownNodeFact, node_seen}
 use Rattle.node_facts.proofs.GrowthLemmas.{joins_on, node_known, node_later}
@@ -20,7 +25,7 @@ use Rattle.expression_rows.specs.Rows.{broken_seen}
 use Rattle.expr_judge.specs.declared.row.NodeRow.{NodeRow}
 use Rattle.expr_judge.specs.Rows.{KeptRow, Tells}
 use Rattle.expr_judge.proofs.GrowthLemmas.{appended_both, appended_later}
-use Rattle.type_judge.specs.Rows.{accessed_row, row_with_statement, unit_row}
+use Rattle.type_judge.specs.Rows.{accessed, nothing_known, row_with_statement}
 use Rattle.type_judge.proofs.LeastLemmas.{least_both}
 
 -- By kinds
@@ -29,24 +34,78 @@ besides : (kind : NodeKind) (row statement : Row) → kind ≢ kinds.ReturnState
 besides kinds.ReturnStatement row statement other = absurd (other refl)
 besides kind row statement other = refl
 
-module _ (nodes : UnitNodes) (surroundings : List Surrounding) (handle : ℕ) where
-  abbrev earlier : List Fact
-  earlier = first_whole_facts nodes surroundings handle
+no_initializer : (kind : NodeKind) (row : Row) → kind ≢ kinds.CompoundLiteral → kind ≢ kinds.Initializer → row ≡ row_by_initializer kind row nothing
+no_initializer kinds.CompoundLiteral row literal other = absurd (literal refl)
+no_initializer kinds.Initializer row literal other = absurd (other refl)
+no_initializer kind row literal other = refl
+
+no_object : (told : Told) (nodes : UnitNodes) (surroundings : List Surrounding) (facts : List Fact) (handle : ℕ) (kind : NodeKind)
+    → kind ≢ kinds.CompoundLiteral → kind ≢ kinds.Initializer → NoObject ≡ initialized_by told nodes surroundings facts handle kind
+no_object told nodes surroundings facts handle kinds.CompoundLiteral literal other = absurd (literal refl)
+no_object told nodes surroundings facts handle kinds.Initializer literal other = absurd (other refl)
+no_object told nodes surroundings facts handle kind literal other = refl
+
+module _ (nodes : UnitNodes) (surroundings : List Surrounding) (earlier : List Fact) (handle : ℕ) where
+  abbrev told : Told
+  told = (aggregates_before nodes surroundings earlier).told
+
+  abbrev own : Row
+  own = unit_row_at nodes surroundings earlier handle
+
+  -- of a node that initializes nothing
+  unit_only : kind_at nodes handle ≢ kinds.CompoundLiteral → kind_at nodes handle ≢ kinds.Initializer → IsUnitRow nodes surroundings earlier handle own
+  unit_only literal other = (
+    nothing,
+    subst (λ (what : Initialized). IsRowOf told nodes surroundings earlier handle what nothing)
+        (no_object told nodes surroundings earlier handle (kind_at nodes handle) literal other) refl,
+    no_initializer (kind_at nodes handle) own literal other,
+  )
 
   -- of `return` the row of the statement is that of the node
   pub return_alone : (kind : NodeKind) → kind_at nodes handle ≡ kind → kind ≡ kinds.ReturnStatement
-      → statement_row_at nodes surroundings earlier handle ≡ unit_row nodes surroundings handle
+      → IsUnitRow nodes surroundings earlier handle (statement_row_at nodes surroundings earlier handle)
   return_alone kind same is =
-      ap (λ (k : NodeKind). row_by_statement k (whole_row_at nodes surroundings earlier handle) (statement_row_at nodes surroundings earlier handle))
-      (sym (same ∙ is))
+      let this = same ∙ is in
+      subst (IsUnitRow nodes surroundings earlier handle)
+      (ap (λ (k : NodeKind). row_by_statement k (whole_row_at nodes surroundings earlier handle) (statement_row_at nodes surroundings earlier handle)) this)
+      (unit_only (λ that. return_is_none (sym this ∙ that)) (λ that. return_is_no_other (sym this ∙ that)))
+    where
+      return_is_none : kinds.ReturnStatement ≡ kinds.CompoundLiteral → ⊥
+      return_is_none that = absurd (cc that)
+
+      return_is_no_other : kinds.ReturnStatement ≡ kinds.Initializer → ⊥
+      return_is_no_other that = absurd (cc that)
 
   -- of another node both are
-  pub both_rows : (kind : NodeKind) → kind_at nodes handle ≡ kind → kind ≢ kinds.ReturnStatement
-      → row_with_statement nodes surroundings handle ≡ unit_row nodes surroundings handle
-  both_rows kind same other =
-      besides kind (whole_row_at nodes surroundings earlier handle) (statement_row_at nodes surroundings earlier handle) other
+  pub both_rows : (kind : NodeKind) → kind_at nodes handle ≡ kind → kind ≢ kinds.ReturnStatement → kind ≢ kinds.CompoundLiteral → kind ≢ kinds.Initializer
+      → IsUnitRow nodes surroundings earlier handle (row_with_statement nodes surroundings earlier handle)
+  both_rows kind same other literal initializer =
+      subst (IsUnitRow nodes surroundings earlier handle)
+      (sym
+      (besides kind (whole_row_at nodes surroundings earlier handle) (statement_row_at nodes surroundings earlier handle) other
       ∙ ap (λ (k : NodeKind). row_by_statement k (whole_row_at nodes surroundings earlier handle) (statement_row_at nodes surroundings earlier handle))
-      (sym same)
+      (sym same)))
+      (unit_only (λ that. literal (sym same ∙ that)) (λ that. initializer (sym same ∙ that)))
+
+  -- of a node that initializes something it is told by that
+  pub literal_row : (kind : NodeKind) → kind_at nodes handle ≡ kind → kind ≡ kinds.CompoundLiteral → (row : Row)
+      → IsInitializingRow told nodes surroundings earlier handle row → IsUnitRow nodes surroundings earlier handle row
+  literal_row kind same is row initializes = (row, initializes, ap (λ (k : NodeKind). row_by_initializer k own row) (sym (same ∙ is)))
+
+  pub initializer_row : (kind : NodeKind) → kind_at nodes handle ≡ kind → kind ≡ kinds.Initializer → (row : Row)
+      → IsInitializingRow told nodes surroundings earlier handle row → IsUnitRow nodes surroundings earlier handle (record row { fact = Unknown })
+  initializer_row kind same is row initializes = (row, initializes, ap (λ (k : NodeKind). row_by_initializer k own row) (sym (same ∙ is)))
+
+-- A row of which nothing is known
+pub tells_unknown : (old new : TypeTable) (before after : List Failure) (said : NodeRow) (meant : Row) → Tells old new before after said meant
+    → Tells old new before after (nothing_known said) (record meant { fact = Unknown })
+tells_unknown old new before after said meant tells =
+    record {
+      row = ap (λ (r : KeptRow). record r { fact = Unknown }) tells.row;
+      ids = tt;
+      failures = tells.failures;
+      keeps = tells.keeps;
+    }
 
 -- A row, and what a statement breaks and which rules fail there besides
 module _ (first second third : TypeTable) (before between after : List Failure) (row statement both : NodeRow) (meant also : Row)
@@ -71,20 +130,20 @@ module _ (first second third : TypeTable) (before between after : List Failure) 
       }
 
 -- and the failure of its access
-module _ (nodes : UnitNodes) (surroundings : List Surrounding) (handle : ℕ) (old new : TypeTable) (before between after : List Failure) (row : NodeRow)
-    (tells : Tells old new before between row (unit_row nodes surroundings handle)) where
+module _ (nodes : UnitNodes) (surroundings : List Surrounding) (handle : ℕ) (old new : TypeTable) (before between after : List Failure) (row : NodeRow) (meant : Row)
+    (tells : Tells old new before between row meant) where
   pub tells_accessed :
       Appends new between after (access_failures (token_at nodes handle) (surrounding_at surroundings handle) (node_seen new row.fact))
-      → Tells old new before after row (accessed_row nodes surroundings handle)
-  tells_accessed accessed =
-      let own = (unit_row nodes surroundings handle).failures in
-      let fact : node_seen new row.fact ≡ (unit_row nodes surroundings handle).fact = ap (λ (r : KeptRow). r.fact) tells.row in
+      → Tells old new before after row (accessed nodes surroundings handle meant)
+  tells_accessed accesses =
+      let own = meant.failures in
+      let fact : node_seen new row.fact ≡ meant.fact = ap (λ (r : KeptRow). r.fact) tells.row in
       record {
         row = tells.row;
         ids = tells.ids;
         failures =
             subst
             (λ (f : Fact). Appends new before after (own ++ access_failures (token_at nodes handle) (surrounding_at surroundings handle) f)) fact
-            (appended_both new before between after own _ tells.failures accessed);
+            (appended_both new before between after own _ tells.failures accesses);
         keeps = tells.keeps;
       }

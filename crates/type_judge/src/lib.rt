@@ -2,9 +2,9 @@
 //! least constraint that is broken.
 //!
 //! A unit goes in. One pass, from the first node to the last, over what each node stands in (`node_surroundings`): the row of a node is
-//! told by `node_judge`, that of a statement by `statement_judge`, and both are one here, with the access to what the node designates.
-//! What is to be found is said in `meaning_judgements`, and what is answered in `specs/Judging.antt`. How a row is found isn't known
-//! here. Start reading at [`judge`].
+//! told by `node_judge`, that of a statement by `statement_judge` and that of an initializer or a compound literal by `initialized_judge`,
+//! and all are one here, with the access to what the node designates. What is to be found is said in `meaning_units`, and what is
+//! answered in `specs/Judging.antt`. How a row is found isn't known here. Start reading at [`judge`].
 #![tactic(auto)]
 
 mod access;

@@ -6,7 +6,7 @@ ghost use Rattle.decl_judge.specs.Units.{nodes_of};
 ghost use Rattle.node_surroundings.specs.Seen.{AreSurroundingsOf, surroundings_seen};
 ghost use Rattle.statement_judge.specs.Later.{SwitchValuesStandBefore};
 ghost use Rattle.node_judge.specs.Known.{table_of};
-ghost use Rattle.type_judge.specs.Judging.{IsListed, IsPassOver};
+ghost use Rattle.type_judge.specs.Judging.{IsEnded, IsPassOver};
 
 use crate::keeping::keep;
 use crate::least::lowest;
@@ -15,6 +15,7 @@ use crate::rows::judge_row;
 use c_tree::{Handle, Unit};
 use expression_rows::{Broken, lesser};
 use failure_listing::in_order;
+use judged_objects::{JudgedObjects, objects_of};
 use node_judge::{Known, name_types};
 use node_surroundings::Surroundings;
 use sparse_model::FailureList;
@@ -32,6 +33,13 @@ pub struct Pass {
     pub broken: Option<Broken>,
     /// The least token at which the limit of the size of an object is passed.
     pub passed: Option<u32>,
+}
+
+/// What is told of a unit in the end besides what is known of its nodes.
+#[derive(Drop)]
+pub struct Ending {
+    pub failures: FailureList,
+    pub objects: JudgedObjects,
 }
 
 impl Pass {
@@ -113,23 +121,28 @@ impl Pass {
         Ok(())
     }
 
-    /// Tells the names of the types that are known, and lists all failures by token, rule and part, each once.
+    /// Tells the names of the types that are known, lists all failures by token, rule and part, each once, and gathers what the
+    /// declarations of each object come to.
     ///
     /// # Errors
-    /// Want of memory. It stands too for a number of more than 32 bits, which no specifier has that was read.
-    pub fn list(
+    /// Want of memory. It stands too for a number of more than 32 bits, which no specifier has that was read, and for contexts whose
+    /// sum doesn't fit in 63 bits.
+    pub fn end(
         &mut self,
         alloc: Global,
         unit: &Unit,
         surroundings: &Surroundings,
-    ) -> Result<FailureList, AllocError>
+    ) -> Result<Ending, AllocError>
         requires whole { unit.now.first ≡ 0 }
         requires all { length surroundings.now ≡ length unit.now.nodes }
+        requires known { length self.old.known.declarations.facts ≡ length unit.now.nodes }
         requires none { (table_of self.old.known).names ≡ [] }
-        ensures { IfOk result (IsListed (nodes_of unit.now) (surroundings_seen surroundings.now) self.old self.new) }
+        ensures { IfOk result (IsEnded (nodes_of unit.now) (surroundings_seen surroundings.now) self.old self.new) }
     {
         name_types(unit, surroundings, &mut self.known.declarations.types)?;
-        in_order(alloc, &self.found)
+        let objects = objects_of(alloc, unit, surroundings, &self.known.declarations.facts)?;
+        let failures = in_order(alloc, &self.found)?;
+        Ok(Ending { failures, objects })
     }
 }
 

@@ -4,20 +4,22 @@ ghost use Rattle.meaning_rules.specs.Rules.{lesser};
 ghost use Rattle.meaning_statements.specs.StatementRows.{statement_row_at};
 ghost use Rattle.meaning_tree.specs.Laid.{IsLaid};
 ghost use Rattle.meaning_tree.specs.Nodes.{end_of};
-ghost use Rattle.meaning_typing.specs.WholeTyping.{first_whole_facts};
 ghost use Rattle.decl_judge.specs.Units.{nodes_of};
 ghost use Rattle.expr_judge.specs.Rows.{Tells};
 ghost use Rattle.expression_rows.specs.Rows.{broken_seen};
-ghost use Rattle.node_judge.specs.Known.{IsKnownOf, table_of};
+ghost use Rattle.node_judge.specs.Known.{IsKnownOf, facts_seen, table_of};
 ghost use Rattle.node_surroundings.specs.Seen.{AreSurroundingsOf, surroundings_seen};
 ghost use Rattle.statement_judge.specs.Statements.{IsKeptOf};
-ghost use Rattle.type_judge.specs.Rows.{accessed_row, row_with_statement, unit_row};
+ghost use Rattle.type_judge.specs.Rows.{TellsAccessedRow, TellsInitializing, TellsUnitRow, nothing_known, row_with_statement};
 
 use crate::access::access_node;
 use c_tree::{Handle, Unit};
 use declaration_judge::Declarations;
 use expr_judge::NodeRow;
 use expression_rows::lesser;
+use init_judge::tables_know_aggregates;
+use initialized_judge::judge_initialized;
+use node_facts::NodeFact;
 use node_judge::{Known, judge_node};
 use node_surroundings::Surroundings;
 use sparse_model::{FailureList, NodeKind};
@@ -38,10 +40,10 @@ fn statement_row(
     requires node { handle < end_of unit.now }
     requires surroundings { AreSurroundingsOf unit.now surroundings.now }
     requires all { length surroundings.now ≡ length unit.now.nodes }
-    requires known { IsKnownOf (nodes_of unit.now) (surroundings_seen surroundings.now) handle known.old }
-    requires kept { IsKeptOf (nodes_of unit.now) (surroundings_seen surroundings.now) (first_whole_facts (nodes_of unit.now) (surroundings_seen surroundings.now) handle) handle statements.now }
-    ensures says { IfOk result (λ row. Tells (table_of known.old) (table_of known.new) found.old found.new row (statement_row_at (nodes_of unit.now) (surroundings_seen surroundings.now) (first_whole_facts (nodes_of unit.now) (surroundings_seen surroundings.now) handle) handle)) }
-    ensures keeps { OnOk result (IsKnownOf (nodes_of unit.now) (surroundings_seen surroundings.now) handle known.new) }
+    requires known { IsKnownOf (nodes_of unit.now) (surroundings_seen surroundings.now) handle (facts_seen known.old) known.old }
+    requires kept { IsKeptOf (nodes_of unit.now) (surroundings_seen surroundings.now) (facts_seen known.old) handle statements.now }
+    ensures says { IfOk result (λ row. Tells (table_of known.old) (table_of known.new) found.old found.new row (statement_row_at (nodes_of unit.now) (surroundings_seen surroundings.now) (facts_seen known.old) handle)) }
+    ensures keeps { OnOk result (IsKnownOf (nodes_of unit.now) (surroundings_seen surroundings.now) handle (facts_seen known.old) known.new) }
 {
     let Known { declarations, .. } = known;
     let Declarations { types, facts, .. } = declarations;
@@ -61,7 +63,39 @@ fn with_statement(row: NodeRow, statement: NodeRow) -> NodeRow
     }
 }
 
-// The row of a node that isn't `return`.
+// The row of a node that initializes something.
+fn initialized_row(
+    alloc: Global,
+    unit: &Unit,
+    surroundings: &Surroundings,
+    known: &mut Known,
+    found: &mut FailureList,
+    handle: Handle,
+) -> Result<NodeRow, AllocError>
+    requires whole { unit.now.first ≡ 0 }
+    requires laid { IsLaid unit.now }
+    requires all { length surroundings.now ≡ length unit.now.nodes }
+    requires known { IsKnownOf (nodes_of unit.now) (surroundings_seen surroundings.now) handle (facts_seen known.old) known.old }
+    ensures says { IfOk result (TellsInitializing (nodes_of unit.now) (surroundings_seen surroundings.now) known.old known.new handle found.old found.new) }
+    ensures keeps { OnOk result (IsKnownOf (nodes_of unit.now) (surroundings_seen surroundings.now) handle (facts_seen known.old) known.new) }
+{
+    tables_know_aggregates();
+    let Known { declarations, .. } = known;
+    judge_initialized(alloc, unit, surroundings, declarations, found, handle)
+}
+
+// What an initializer completes isn't looked for at it.
+fn without_fact(row: NodeRow) -> NodeRow
+    ensures { result ≡ nothing_known row }
+{
+    NodeRow {
+        fact: NodeFact::Unknown,
+        broken: row.broken,
+        passed: row.passed,
+    }
+}
+
+// The row of a node that neither is `return` nor initializes something.
 fn row_besides(
     alloc: Global,
     unit: &Unit,
@@ -76,10 +110,10 @@ fn row_besides(
     requires node { handle < end_of unit.now }
     requires surroundings { AreSurroundingsOf unit.now surroundings.now }
     requires all { length surroundings.now ≡ length unit.now.nodes }
-    requires known { IsKnownOf (nodes_of unit.now) (surroundings_seen surroundings.now) handle known.old }
-    requires kept { IsKeptOf (nodes_of unit.now) (surroundings_seen surroundings.now) (first_whole_facts (nodes_of unit.now) (surroundings_seen surroundings.now) handle) handle statements.now }
-    ensures says { IfOk result (λ row. Tells (table_of known.old) (table_of known.new) found.old found.new row (row_with_statement (nodes_of unit.now) (surroundings_seen surroundings.now) handle)) }
-    ensures keeps { OnOk result (IsKnownOf (nodes_of unit.now) (surroundings_seen surroundings.now) handle known.new) }
+    requires known { IsKnownOf (nodes_of unit.now) (surroundings_seen surroundings.now) handle (facts_seen known.old) known.old }
+    requires kept { IsKeptOf (nodes_of unit.now) (surroundings_seen surroundings.now) (facts_seen known.old) handle statements.now }
+    ensures says { IfOk result (λ row. Tells (table_of known.old) (table_of known.new) found.old found.new row (row_with_statement (nodes_of unit.now) (surroundings_seen surroundings.now) (facts_seen known.old) handle)) }
+    ensures keeps { OnOk result (IsKnownOf (nodes_of unit.now) (surroundings_seen surroundings.now) handle (facts_seen known.old) known.new) }
 {
     let row = judge_node(alloc, unit, surroundings, known, found, handle)?;
     let statement = statement_row(unit, surroundings, known, statements, found, handle)?;
@@ -101,14 +135,21 @@ fn row_of_node(
     requires node { handle < end_of unit.now }
     requires surroundings { AreSurroundingsOf unit.now surroundings.now }
     requires all { length surroundings.now ≡ length unit.now.nodes }
-    requires known { IsKnownOf (nodes_of unit.now) (surroundings_seen surroundings.now) handle known.old }
-    requires kept { IsKeptOf (nodes_of unit.now) (surroundings_seen surroundings.now) (first_whole_facts (nodes_of unit.now) (surroundings_seen surroundings.now) handle) handle statements.now }
-    ensures says { IfOk result (λ row. Tells (table_of known.old) (table_of known.new) found.old found.new row (unit_row (nodes_of unit.now) (surroundings_seen surroundings.now) handle)) }
-    ensures keeps { OnOk result (IsKnownOf (nodes_of unit.now) (surroundings_seen surroundings.now) handle known.new) }
+    requires known { IsKnownOf (nodes_of unit.now) (surroundings_seen surroundings.now) handle (facts_seen known.old) known.old }
+    requires kept { IsKeptOf (nodes_of unit.now) (surroundings_seen surroundings.now) (facts_seen known.old) handle statements.now }
+    ensures says { IfOk result (TellsUnitRow (nodes_of unit.now) (surroundings_seen surroundings.now) known.old known.new handle found.old found.new) }
+    ensures keeps { OnOk result (IsKnownOf (nodes_of unit.now) (surroundings_seen surroundings.now) handle (facts_seen known.old) known.new) }
 {
     match unit.kind(handle) {
         NodeKind::ReturnStatement => {
             statement_row(unit, surroundings, known, statements, found, handle)
+        }
+        NodeKind::CompoundLiteral => {
+            initialized_row(alloc, unit, surroundings, known, found, handle)
+        }
+        NodeKind::Initializer => {
+            let row = initialized_row(alloc, unit, surroundings, known, found, handle)?;
+            Ok(without_fact(row))
         }
         _ => row_besides(alloc, unit, surroundings, known, statements, found, handle),
     }
@@ -135,10 +176,10 @@ pub fn judge_row(
     requires node { handle < end_of unit.now }
     requires surroundings { AreSurroundingsOf unit.now surroundings.now }
     requires all { length surroundings.now ≡ length unit.now.nodes }
-    requires known { IsKnownOf (nodes_of unit.now) (surroundings_seen surroundings.now) handle known.old }
-    requires kept { IsKeptOf (nodes_of unit.now) (surroundings_seen surroundings.now) (first_whole_facts (nodes_of unit.now) (surroundings_seen surroundings.now) handle) handle statements.now }
-    ensures says { IfOk result (λ row. Tells (table_of known.old) (table_of known.new) found.old found.new row (accessed_row (nodes_of unit.now) (surroundings_seen surroundings.now) handle)) }
-    ensures keeps { OnOk result (IsKnownOf (nodes_of unit.now) (surroundings_seen surroundings.now) handle known.new) }
+    requires known { IsKnownOf (nodes_of unit.now) (surroundings_seen surroundings.now) handle (facts_seen known.old) known.old }
+    requires kept { IsKeptOf (nodes_of unit.now) (surroundings_seen surroundings.now) (facts_seen known.old) handle statements.now }
+    ensures says { IfOk result (TellsAccessedRow (nodes_of unit.now) (surroundings_seen surroundings.now) known.old known.new handle found.old found.new) }
+    ensures keeps { OnOk result (IsKnownOf (nodes_of unit.now) (surroundings_seen surroundings.now) handle (facts_seen known.old) known.new) }
 {
     let row = row_of_node(alloc, unit, surroundings, known, statements, found, handle)?;
     let surrounding = surroundings.get(handle);

@@ -7,7 +7,7 @@ use Rattle.expr_judge.proofs.NodeLemmas.{kind-is}
 use Rattle.node_facts.proofs.GrowthLemmas.{joins_none}
 use Rattle.node_surroundings.specs.Seen.{surroundings_seen}
 use Rattle.node_judge.specs.Known.{table_of}
-use Rattle.node_judge.specs.Rows.{next_row}
+use Rattle.judged.specs.Known.{next_row}
 use Rattle.judged.specs.Answers.{IsAnswerIf, nothing}
 use Rattle.judged.specs.Asked.{is_asked}
 use Rattle.judged.proofs.answers.answer_node.Goals as goal

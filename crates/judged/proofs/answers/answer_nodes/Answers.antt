@@ -3,7 +3,7 @@ use Rattle.std.proofs.Common.{◌≡◌, ℕ, suc, ◌+◌, subst, sym, arith}
 use Rattle.decl_judge.specs.Units.{nodes_of}
 use Rattle.expr_judge.proofs.NodeLemmas.{end-nodes}
 use Rattle.node_surroundings.specs.Seen.{surroundings_seen}
-use Rattle.node_judge.specs.Known.{IsKnownOf}
+use Rattle.judged.specs.Known.{IsFirstKnown}
 use Rattle.judged.proofs.AnswerLemmas.{AreAnswered, answered_more, answered_none}
 use Rattle.judged.proofs.answers.answer_nodes.Goals as goal
 
@@ -21,7 +21,7 @@ loop-handle-preserved c =
     subst (λ (count : ℕ). AreAnswered nodes surroundings count c.know_node.new.known c.push.new.self) next
     (answered_more nodes surroundings handle c.loop-handle.known c.loop-handle.answers c.loop-handle.invariant c.answer_node.new.known c.know_node.new.known
     answer c.push.new.self c.in_ok-answer_node.ensures.keeps c.in_ok-answer_node.ensures.answer c.in_ok-push.ensures
-    (subst (λ (count : ℕ). IsKnownOf nodes surroundings count c.know_node.new.known) (sym next) c.in_ok-know_node.ensures.known)
+    (subst (λ (count : ℕ). IsFirstKnown nodes surroundings count c.know_node.new.known) (sym next) c.in_ok-know_node.ensures.known)
     c.in_ok-know_node.ensures.types)
 
 pub returns-clause-all : goal.returns-clause-all

@@ -7,6 +7,6 @@ use Rattle.node_surroundings.specs.Seen.{surroundings_seen}
 use Rattle.judged_objects.specs.Kept.{AreObjects}
 use Rattle.judged_objects.proofs.pass.objects_of.Given as goal
 
-abbrev pub invariant-loop-index : goal.invariant-loop-index
-invariant-loop-index l =
-    (table : TypeTable) → AreObjects (nodes_of l.unit) (surroundings_seen l.surroundings) (nodes_seen table (take l.index l.facts)) l.objects
+abbrev pub invariant-loop-handle : goal.invariant-loop-handle
+invariant-loop-handle l =
+    (table : TypeTable) → AreObjects (nodes_of l.unit) (surroundings_seen l.surroundings) (nodes_seen table (take l.handle l.facts)) l.objects

@@ -3,7 +3,7 @@ use Rattle.std.proofs.lemmas.Result.{IfOk-weaker}
 use Rattle.decl_judge.specs.Units.{nodes_of}
 use Rattle.node_judge.proofs.KnownLemmas.{known_count}
 use Rattle.node_surroundings.specs.Seen.{surroundings_seen}
-use Rattle.type_judge.proofs.KeepingLemmas.{kept_over, kept_with, known_with}
+use Rattle.type_judge.proofs.KeepingLemmas.{kept_with, known_with}
 use Rattle.type_judge.proofs.keeping.keep_statement.Goals as goal
 
 pub add-requires-clause-ids : goal.add-requires-clause-ids
@@ -14,9 +14,7 @@ add-requires-clause-next c =
     known_count (nodes_of c.args.unit.now) (surroundings_seen c.args.surroundings.now) c.args.handle c.args.known.now c.requires.known
 
 pub add-requires-clause-kept : goal.add-requires-clause-kept
-add-requires-clause-kept c =
-    kept_over (nodes_of c.args.unit.now) (surroundings_seen c.args.surroundings.now) c.args.handle c.args.known.now c.requires.known c.args.handle
-    c.args.statements.now c.requires.kept
+add-requires-clause-kept c = c.requires.kept
 
 pub returns-clause-known : goal.returns-clause-known
 returns-clause-known c =

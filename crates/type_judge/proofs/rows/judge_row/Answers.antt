@@ -12,7 +12,7 @@ use Rattle.type_judge.proofs.RowLemmas.{tells_accessed}
 use Rattle.type_judge.proofs.rows.judge_row.Goals as goal
 
 pub access_node-requires : goal.access_node-requires
-access_node-requires c = c.in_ok-row.ensures.says.ids
+access_node-requires c = c.in_ok-row.ensures.says.2.ids
 
 pub returns-clause-says : goal.returns-clause-says
 returns-clause-says c =
@@ -26,6 +26,10 @@ returns-clause-says c =
     let accessed =
     subst (λ (s : Surrounding). Appends new between after (access_failures c.token.result s (node_seen new row.fact)))
     c.get-surrounding.ensures.seen c.in_ok-access_node.ensures in
-    tells_accessed (nodes_of unit) surroundings handle (table_of c.args.known.now) new c.args.found.now between after row c.in_ok-row.ensures.says
-    (subst (λ (token : ℕ). Appends new between after (access_failures token (surrounding_at surroundings handle) (node_seen new row.fact)))
-    (sym (token-is unit c.requires.whole handle c.token.result c.token.ensures)) accessed)
+    let says = c.in_ok-row.ensures.says in (
+      says.0,
+      says.1,
+      tells_accessed (nodes_of unit) surroundings handle (table_of c.args.known.now) new c.args.found.now between after row says.0 says.2
+          (subst (λ (token : ℕ). Appends new between after (access_failures token (surrounding_at surroundings handle) (node_seen new row.fact)))
+          (sym (token-is unit c.requires.whole handle c.token.result c.token.ensures)) accessed),
+    )

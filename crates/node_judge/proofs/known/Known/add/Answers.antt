@@ -1,5 +1,5 @@
 -- The body of the node is told, and then the node joins those that are known.
-use Rattle.std.proofs.Common.{◌≡◌, ℕ, suc, ◌+◌, ◌<◌, List, length, take, sym, ap, subst, ◌∙◌, arith}
+use Rattle.std.proofs.Common.{◌≡◌, ℕ, suc, ◌+◌, ◌<◌, ◌++◌, ◌∷◌, [], List, length, take, sym, ap, subst, ◌∙◌, arith}
 use Rattle.std.proofs.lemmas.List.{length-map}
 use Rattle.std.proofs.lemmas.Result.{IfOk-weaker}
 use Rattle.meaning_typing.specs.Facts.{Fact}
@@ -29,6 +29,9 @@ tell_body-requires-clause-consts c = c.requires.known.bodies.consts
 
 pub tell_body-requires-clause-told : goal.tell_body-requires-clause-told
 tell_body-requires-clause-told c = c.requires.known.bodies.told
+
+pub tell_body-requires-clause-first : goal.tell_body-requires-clause-first
+tell_body-requires-clause-first c = c.requires.known.bodies.first
 
 pub add-requires-clause-next : goal.add-requires-clause-next
 add-requires-clause-next c =
@@ -60,7 +63,7 @@ add-requires-2-clause-kept c =
     let told = c.in_ok-tell_body.ensures in
     let more = c.in_ok-add.ensures in
     let joins : Joins nodes surroundings old c.tell_body.new.types c.tell_body.new.consts kept c.args.fact =
-    record { bodies = told.joins; told = told.told; consts = told.consts; facts = more.facts; types = more.types; kept = more.kept } in
+    record { bodies = told.joins; told = told.told; first = told.first; consts = told.consts; facts = more.facts; types = more.types; kept = more.kept } in
     let seen =
     seen-more nodes surroundings handle old c.tell_body.new.types c.tell_body.new.consts kept c.args.fact c.requires.known joins c.requires.ids in
     let count : length (facts_seen old) ≡ handle =
@@ -79,7 +82,7 @@ returns-clause-known c =
     let told = c.in_ok-tell_body.ensures in
     let more = c.in_ok-add.ensures in
     let joins : Joins nodes surroundings old c.tell_body.new.types c.tell_body.new.consts kept c.args.fact =
-    record { bodies = told.joins; told = told.told; consts = told.consts; facts = more.facts; types = more.types; kept = more.kept } in
+    record { bodies = told.joins; told = told.told; first = told.first; consts = told.consts; facts = more.facts; types = more.types; kept = more.kept } in
     let next : suc handle ≡ handle + 1 = omega arith in
     let within : handle < length nodes = omega (arith, c.requires.node, end-nodes unit c.requires.whole) in
     let order = parts_before unit c.requires.whole c.each_node_stands_for_one_tree.ensures.order in
@@ -87,9 +90,9 @@ returns-clause-known c =
     let new : Known = record old { declarations = kept; consts = c.tell_body.new.consts; enumerations = others } in
     IfOk-weaker c.add-2.result _ _
     (λ _ enumerated.
-    subst (λ (n : ℕ). IsKnownOf nodes surroundings n new) next
+    subst (λ (n : ℕ). IsKnownOf nodes surroundings n (facts_seen old ++ node_seen (table_of old) c.args.fact ∷ []) new) next
     (known_more nodes surroundings handle old c.tell_body.new.types c.tell_body.new.consts kept c.args.fact c.requires.known joins c.requires.ids others order
-    within c.requires.row (subst (λ (n : ℕ). enumerations.IsKeptOf nodes (facts_seen new) n others) (sym next) enumerated)))
+    within (subst (λ (n : ℕ). enumerations.IsKeptOf nodes (facts_seen new) n others) (sym next) enumerated)))
     c.add-2.ensures
 
 pub returns-clause-types : goal.returns-clause-types
@@ -101,7 +104,7 @@ returns-clause-types c =
     let told = c.in_ok-tell_body.ensures in
     let more = c.in_ok-add.ensures in
     let joins : Joins nodes surroundings old c.tell_body.new.types c.tell_body.new.consts kept c.args.fact =
-    record { bodies = told.joins; told = told.told; consts = told.consts; facts = more.facts; types = more.types; kept = more.kept } in
+    record { bodies = told.joins; told = told.told; first = told.first; consts = told.consts; facts = more.facts; types = more.types; kept = more.kept } in
     IfOk-weaker c.add-2.result _ _
     (λ _ enumerated.
     extends-more nodes surroundings c.args.handle old c.tell_body.new.types c.tell_body.new.consts kept c.args.fact c.requires.known joins c.requires.ids)

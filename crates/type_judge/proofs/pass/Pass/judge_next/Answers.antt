@@ -1,18 +1,32 @@
 -- The row of the node is that of one more node, which is kept.
-use Rattle.std.proofs.Common.{◌<◌, length, ap, ◌∙◌, arith}
+use Rattle.std.proofs.Common.{◌<◌, length, arith}
 use Rattle.decl_judge.specs.Units.{nodes_of}
-use Rattle.expr_judge.specs.Rows.{KeptRow}
 use Rattle.expr_judge.proofs.NodeLemmas.{end-nodes}
 use Rattle.node_surroundings.specs.Seen.{surroundings_seen}
 use Rattle.type_judge.specs.declared.pass.Pass.{Pass}
-use Rattle.type_judge.proofs.FactLemmas.{unit_fact}
-use Rattle.type_judge.proofs.PassLemmas.{pass_more}
+use Rattle.type_judge.proofs.PassLemmas.{kept_before, kept_between, known_before, known_between, pass_more}
 use Rattle.type_judge.proofs.pass.Pass.judge_next.Goals as goal
 
-pub keep-requires-clause-row : goal.keep-requires-clause-row
-keep-requires-clause-row c =
-    ap (λ (r : KeptRow). r.fact) c.in_ok-row.ensures.says.row
-    ∙ unit_fact (nodes_of c.args.unit.now) (surroundings_seen c.args.surroundings.now) c.args.handle
+pub judge_row-requires-clause-known : goal.judge_row-requires-clause-known
+judge_row-requires-clause-known c =
+    known_before (nodes_of c.args.unit.now) (surroundings_seen c.args.surroundings.now) c.args.handle c.args.self.now c.requires.before
+
+pub judge_row-requires-clause-kept : goal.judge_row-requires-clause-kept
+judge_row-requires-clause-kept c =
+    kept_before (nodes_of c.args.unit.now) (surroundings_seen c.args.surroundings.now) c.args.handle c.args.self.now c.requires.before
+
+pub keep-requires-clause-known : goal.keep-requires-clause-known
+keep-requires-clause-known c =
+    known_between (nodes_of c.args.unit.now) (surroundings_seen c.args.surroundings.now) c.args.handle c.args.self.now c.requires.before
+    c.judge_row.new.known c.in_ok-row.ensures.keeps
+
+pub keep-requires-clause-kept : goal.keep-requires-clause-kept
+keep-requires-clause-kept c =
+    kept_between (nodes_of c.args.unit.now) (surroundings_seen c.args.surroundings.now) c.args.handle c.args.self.now c.requires.before
+    c.judge_row.new.known c.in_ok-row.ensures.keeps
+
+pub keep-requires-clause-ids : goal.keep-requires-clause-ids
+keep-requires-clause-ids c = c.in_ok-row.ensures.says.2.ids
 
 pub returns : goal.returns
 returns c =
@@ -29,5 +43,5 @@ returns c =
       passed = c.lowest-self.result;
     } in
     let within : handle < length nodes = omega (arith, c.requires.node, end-nodes unit c.requires.whole) in
-    pass_more nodes (surroundings_seen c.args.surroundings.now) handle within c.args.self.now after c.judge_row.new.known c.in_ok-row.row
-    c.requires.before c.in_ok-row.ensures.says kept.known kept.kept kept.types c.lesser-self.ensures c.lowest-self.ensures
+    pass_more nodes (surroundings_seen c.args.surroundings.now) handle c.args.self.now c.requires.before c.judge_row.new.known c.in_ok-row.ensures.keeps after
+    c.in_ok-row.row c.in_ok-row.ensures.says within kept.known kept.kept kept.types c.lesser-self.ensures c.lowest-self.ensures

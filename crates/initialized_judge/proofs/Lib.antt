@@ -1,0 +1,4 @@
+pub mod DeclaratorLemmas
+pub mod ObjectLemmas
+pub mod JudgingLemmas
+pub mod RowLemmas

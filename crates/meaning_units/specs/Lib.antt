@@ -1,0 +1,4 @@
+pub mod UnitRows
+pub mod WholeRows
+pub mod WholeRules
+pub mod Laws

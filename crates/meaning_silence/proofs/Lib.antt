@@ -1,3 +1,5 @@
+pub mod Rows
+pub mod Initializing
 pub mod Listed
 pub mod Untold
 pub mod Silence

@@ -19,7 +19,9 @@ use Rattle.meaning_first_units.specs.Laws.{IsSilent}
 use Rattle.meaning_first_units.proofs.Whole.{silence_is_handed_over}
 use Rattle.meaning_machine.proofs.Worlds.{unit_is_safe}
 use Rattle.meaning_silence.specs.Laws.{AreOff, JudgedUnitsAreSafe, SilentUnitsAreSafe, UntoldUnitsAreSafe}
+use Rattle.meaning_silence.proofs.Initializing.{first_forms_initialize_nothing}
 use Rattle.meaning_silence.proofs.Listed.{listed}
+use Rattle.meaning_silence.proofs.Rows.{judgements_are_whole}
 use Rattle.meaning_silence.proofs.Untold.{unit-off}
 
 pub silent_units_are_safe : SilentUnitsAreSafe
@@ -71,8 +73,9 @@ silent-by-judgement nodes surroundings facts classes listing _ is unit are known
 
 pub judged_units_are_safe : JudgedUnitsAreSafe
 judged_units_are_safe nodes items classes listing unit form judged on off =
+    let whole = judgements_are_whole nodes (Holds listing) (first_forms_initialize_nothing nodes items unit form) judged in
     silent_units_are_safe nodes items unit form
-    (silent-by-judgement nodes judged.0 judged.1 classes listing (Holds listing) refl unit judged.2 judged.3 judged.4 on off)
+    (silent-by-judgement nodes whole.0 whole.1 classes listing (Holds listing) refl unit whole.2 whole.3 whole.4 on off)
 
 pub untold_units_are_safe : UntoldUnitsAreSafe
 untold_units_are_safe nodes items shown classes listing unit form judged on none =

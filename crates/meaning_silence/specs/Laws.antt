@@ -1,20 +1,54 @@
--- What silence says of units of the first form.
-use Rattle.std.specs.Prelude.{◌≡◌, true, false, List, [], Contains}
+-- What the judgement of units says of those that initialize nothing, and what silence says of units of the first form.
+use Rattle.std.specs.Prelude.{◌≡◌, ℕ, ◌<◌, true, false, List, [], take, length, Contains}
 use Rattle.vocabulary.specs.Rules.{rule_class}
 use Rattle.vocabulary.specs.declared.class.Class.{Class}
 use Rattle.vocabulary.specs.declared.class.Class.TheVariants.{AddressSpace}
 use Rattle.meaning_operands.specs.Failures.{Failure}
 use Rattle.meaning_warnings.specs.Listing.{is_on, unit_lines}
 use Rattle.meaning_warnings.specs.Places.{ShownUnit}
-use Rattle.meaning_rules.specs.Rules.{Holds}
+use Rattle.meaning_rules.specs.Rules.{Judgement, Holds}
 use Rattle.meaning_syntax.specs.Items.{Item}
 use Rattle.meaning_syntax.specs.Trees.{unit_tree}
+use Rattle.meaning_typing.specs.Rows.{Row}
+use Rattle.meaning_typing.specs.Surroundings.{Surrounding, AreSurroundings}
 use Rattle.meaning_typing.specs.Units.{UnitNodes}
 use Rattle.meaning_typing.specs.laws.Surroundings.{IsLaidUnit}
+use Rattle.meaning_judgements.specs.UnitRows.{unit_row_at}
+use Rattle.meaning_judgements.specs.WholeFacts.{AreWholeFacts}
 use Rattle.meaning_judgements.specs.WholeRules.{IsWholeJudgement}
+use Rattle.meaning_units.specs.Laws.{AreAllNested}
+use Rattle.meaning_units.specs.WholeRows.{AreRows, facts_of, row_at}
+use Rattle.meaning_units.specs.WholeRules.{IsJudgement}
 use Rattle.meaning_first_units.specs.Laws.{IsSilent}
 use Rattle.meaning_first_units.specs.Units.{IsFirstFormUnit}
 use Rattle.meaning_machine.specs.Runs.{IsSafe}
+use Rattle.meaning_silence.specs.Initializing.{InitializesNothing}
+
+-- Units that initialize nothing
+
+-- the rows of such a unit are those by the rules that know of no initializers
+abbrev pub RowsAreWhole : Type 0
+RowsAreWhole =
+    (nodes : UnitNodes) (surroundings : List Surrounding) (rows : List Row) → InitializesNothing nodes → AreRows nodes surroundings rows
+    → AreWholeFacts nodes surroundings (facts_of rows)
+    × ((handle : ℕ) → handle < length nodes → row_at rows handle ≡ unit_row_at nodes surroundings (take handle (facts_of rows)) handle)
+
+-- and so is its judgement
+abbrev pub JudgementsAreWhole : Type 0
+JudgementsAreWhole = (nodes : UnitNodes) (judgement : Judgement) → InitializesNothing nodes → IsJudgement nodes judgement → IsWholeJudgement nodes judgement
+
+-- the other way too, where the unit is laid and no structure or union lies in itself
+abbrev pub WholeJudgementsAreJudgements : Type 0
+WholeJudgementsAreJudgements =
+    (nodes : UnitNodes) (judgement : Judgement) → IsLaidUnit nodes
+    → ((surroundings : List Surrounding) → AreSurroundings nodes surroundings → AreAllNested nodes surroundings) → InitializesNothing nodes
+    → IsWholeJudgement nodes judgement → IsJudgement nodes judgement
+
+-- a unit of the first form initializes nothing
+abbrev pub FirstFormsInitializeNothing : Type 0
+FirstFormsInitializeNothing = (nodes : UnitNodes) (items : List Item) → IsLaidUnit nodes → IsFirstFormUnit nodes items → InitializesNothing nodes
+
+-- Silence
 
 -- where no rule of the class of address spaces fails, no run meets a fault
 abbrev pub SilentUnitsAreSafe : Type 0
@@ -28,11 +62,11 @@ AreOff classes listing = (failure : Failure) → Contains listing failure → is
 abbrev pub JudgedUnitsAreSafe : Type 0
 JudgedUnitsAreSafe =
     (nodes : UnitNodes) (items : List Item) (classes : List Class) (listing : List Failure) → IsLaidUnit nodes → IsFirstFormUnit nodes items
-    → IsWholeJudgement nodes (Holds listing) → is_on classes AddressSpace ≡ true → AreOff classes listing → IsSafe (unit_tree items)
+    → IsJudgement nodes (Holds listing) → is_on classes AddressSpace ≡ true → AreOff classes listing → IsSafe (unit_tree items)
 
 -- and where nothing is written of it
 abbrev pub UntoldUnitsAreSafe : Type 0
 UntoldUnitsAreSafe =
     (nodes : UnitNodes) (items : List Item) (shown : ShownUnit) (classes : List Class) (listing : List Failure) → IsLaidUnit nodes
-    → IsFirstFormUnit nodes items → IsWholeJudgement nodes (Holds listing) → is_on classes AddressSpace ≡ true → unit_lines shown classes listing ≡ []
+    → IsFirstFormUnit nodes items → IsJudgement nodes (Holds listing) → is_on classes AddressSpace ≡ true → unit_lines shown classes listing ≡ []
     → IsSafe (unit_tree items)

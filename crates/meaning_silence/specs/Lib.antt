@@ -1,1 +1,2 @@
+pub mod Initializing
 pub mod Laws

@@ -27,6 +27,7 @@ pub use declarators::{declarator, with_parts};
 pub use declared::declaration;
 pub use ending::unit_end;
 pub use laws::rows_are_told_by_kinds;
+pub use otherwise::redeclared_otherwise;
 pub use parameters::parameter;
 pub use parts::{array_declarator, function_declarator};
 pub use row::{and_breaks, breaks};

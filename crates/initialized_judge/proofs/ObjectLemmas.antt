@@ -28,14 +28,6 @@ declared_is (facts.Specified specifiers) declaration is = absurd (none-some decl
 declared_is (facts.Declared own) declaration is = ap facts.Declared (same_Some own declaration is)
 declared_is (facts.NamedType of) declaration is = absurd (none-some declaration is)
 
-pub no_object_declared : (table : TypeTable) (nodes : UnitNodes) (surrounding : Surrounding) (specifiers : Option meaning.SpecifiedFact) (fact : NodeFact)
-    → declaration_in fact ≡ None → NoObject ≡ declared_object nodes surrounding specifiers (node_seen table fact)
-no_object_declared table nodes surrounding specifiers facts.Unknown none = refl
-no_object_declared table nodes surrounding specifiers (facts.Expression expression) none = refl
-no_object_declared table nodes surrounding specifiers (facts.Specified said) none = refl
-no_object_declared table nodes surrounding specifiers (facts.Declared declaration) none = absurd (none-some declaration (sym none))
-no_object_declared table nodes surrounding specifiers (facts.NamedType of) none = refl
-
 -- Names of types
 
 pub named_is : (fact : NodeFact) (of : TypeId) → named_in fact ≡ Some of → fact ≡ facts.NamedType of
@@ -45,16 +37,4 @@ named_is (facts.Specified specifiers) of is = absurd (none-some of is)
 named_is (facts.Declared declaration) of is = absurd (none-some of is)
 named_is (facts.NamedType own) of is = ap facts.NamedType (same_Some own of is)
 
-pub no_object_named : (table : TypeTable) (told : Told) (is_static : Bool) (fact : NodeFact) → named_in fact ≡ None
-    → NoObject ≡ literal_object told is_static (node_seen table fact)
-no_object_named table told is_static facts.Unknown none = refl
-no_object_named table told is_static (facts.Expression expression) none = refl
-no_object_named table told is_static (facts.Specified said) none = refl
-no_object_named table told is_static (facts.Declared declaration) none = refl
-no_object_named table told is_static (facts.NamedType of) none = absurd (none-some of (sym none))
-
 -- Units
-
-pub unit_same : (kind : NodeKind) → declarators.is_unit kind ≡ reading.is_unit kind
-unit_same kinds.TranslationUnit = refl
-unit_same kind = refl

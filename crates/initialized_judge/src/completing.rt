@@ -1,28 +1,24 @@
 // An object with its completed type: whether it is too large, whether it was declared otherwise, and what is known of it.
-ghost use Rattle.std.specs.Prelude.{◌≡◌, IfOk, IfSome, length, option_map};
+ghost use Rattle.std.specs.Prelude.{◌≡◌, IfOk, IfSome, length};
 ghost use Rattle.meaning_initialized.specs.Rows as meaning;
 ghost use Rattle.meaning_layout.specs.Sizes.{extent_of};
-ghost use Rattle.meaning_typing.specs.ContextSums as sums;
 ghost use Rattle.meaning_typing.specs.Declarators.{is_too_large};
 ghost use Rattle.meaning_typing.specs.Facts.{Declared, Expression};
-ghost use Rattle.meaning_typing.specs.Names as names;
 ghost use Rattle.c_types.specs.Layouts.{told_in};
 ghost use Rattle.c_types.specs.Table.{IsTypeId, TypeTable, type_at};
 ghost use Rattle.decl_judge.specs.Units.{nodes_of};
 ghost use Rattle.declaration_judge.specs.Kept.{IsKeptOf, facts_seen};
 ghost use Rattle.expression_rows.specs.Rows.{IsKnownFailure, failure_listed};
 ghost use Rattle.node_facts.specs.Facts.{IsKnownFact, declared_seen, fact_seen};
-ghost use Rattle.node_surroundings.specs.Seen.{surrounding_seen, surroundings_seen};
+ghost use Rattle.node_surroundings.specs.Seen.{surroundings_seen};
 
 use c_tree::{Handle, Unit};
 use c_types::{LayoutFault, Types};
-use decl_judge::token_at;
-use declaration_judge::Declarations;
+use declaration_judge::{Declarations, redeclared_otherwise};
 use declaration_rows::{is_unbounded, standing_at};
-use declared_contexts::contexts_of;
 use node_facts::{Addressed, DeclaredFact, ExpressionFact};
-use node_surroundings::{Surrounding, Surroundings};
-use sparse_model::{Failure, RuleCode, TypeId};
+use node_surroundings::Surroundings;
+use sparse_model::{Failure, TypeId};
 use std::alloc::AllocError;
 
 /// Whether a type is larger than an object may be.
@@ -62,52 +58,6 @@ pub fn literal(complete: TypeId, is_static: bool) -> ExpressionFact
         fact.marks.address = Addressed::ConstantPlace;
     }
     fact
-}
-
-// The failure at a token, where an earlier declaration of this type differs.
-fn redeclared(token: u32, declaration: DeclaredFact, earlier: Option<TypeId>) -> Option<Failure>
-    ensures listed { (table : TypeTable) → failure_listed table result ≡ names.redeclared token (declared_seen table declaration) (option_map (type_at table) earlier) }
-    ensures known { (table : TypeTable) → IsTypeId table declaration.of → IfSome earlier (IsTypeId table) → IfSome result (IsKnownFailure table) }
-{
-    match earlier {
-        Some(earlier) => Some(Failure {
-            token,
-            rule: RuleCode::A7,
-            part: 0,
-            first: Some(earlier),
-            second: Some(declaration.of),
-            name: declaration.name,
-            number: 0,
-            wanted: 0,
-        }),
-        None => None,
-    }
-}
-
-// The failure of a declaration at the node with this handle, which stands so, if one of its name differs.
-fn redeclared_otherwise(
-    unit: &Unit,
-    _surroundings: &Surroundings,
-    kept: &Declarations,
-    handle: Handle,
-    surrounding: Surrounding,
-    declaration: DeclaredFact,
-) -> Result<Option<Failure>, AllocError>
-    requires whole { unit.now.first ≡ 0 }
-    requires kept { IsKeptOf (nodes_of unit.now) (surroundings_seen _surroundings.now) kept.now }
-    requires of { IsTypeId kept.now.types declaration.of }
-    ensures listed { IfOk result (λ failure. failure_listed kept.now.types failure ≡ sums.redeclared_otherwise (nodes_of unit.now) (surroundings_seen _surroundings.now) (facts_seen kept.now) handle (surrounding_seen surrounding) (declared_seen kept.now.types declaration)) }
-    ensures known { IfOk result (λ failure. IfSome failure (IsKnownFailure kept.now.types)) }
-{
-    if !declaration.has_linkage {
-        return Ok(None);
-    }
-    let DeclaredFact { name, of, .. } = declaration;
-    let contexts = contexts_of(unit, handle, surrounding.parent, surrounding.place)?;
-    let earlier = kept
-        .contexts
-        .first_differing(&kept.types, name, of, contexts);
-    Ok(redeclared(token_at(unit, handle), declaration, earlier))
 }
 
 /// The failure at a declarator whose array has no length: with the length that it gets it was declared otherwise. It takes a step for

@@ -64,7 +64,7 @@ pub fn await_body(state: &mut ParseState<'_>)
 {
     let is_bad = takes_no_body(state, state.noted_class(2));
     let brace = state.next_token();
-    state.await_body(1);
+    state.await_body();
     state.hold_where(is_bad, ErrorKind::BadDeclaration, brace);
 }
 

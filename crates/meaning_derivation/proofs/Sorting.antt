@@ -35,7 +35,7 @@ use Rattle.meaning_derivation.specs.State as states
 use Rattle.meaning_derivation.specs.Literals.{BadLiteral, bad_piece, constant_made, string_made}
 use Rattle.meaning_derivation.specs.Contexts.{tokens_behind, context_made}
 use Rattle.meaning_derivation.specs.Attributes.{tokens_from, listed_tokens, attributes_made, constant_at, context_tree, and_then, attribute_appended, word_dropped, context_appended, item_appended}
-use Rattle.meaning_derivation.specs.Scoping.{declared, bound_as, hidden_number, hiding_bound, top_numbered, parameter_bound, tag_at, is_member_list, is_lone_tag, is_new_here, with_own_keyword, tag_declared, found_name, found_here, parts_below, ends_with_parameters, name_used, typedef_named, without_closed}
+use Rattle.meaning_derivation.specs.Scoping.{declared, bound_as, hidden_number, hiding_bound, own_name_hidden, top_numbered, parameter_bound, tag_at, is_member_list, is_lone_tag, is_new_here, with_own_keyword, tag_declared, found_name, found_here, parts_below, ends_with_parameters, name_used, typedef_named, without_closed}
 use Rattle.meaning_derivation.specs.Storage.{has_kind}
 use Rattle.meaning_derivation.specs.Specifiers.{is_bad_in_file, is_bad_in_block, is_bad_member, is_refused_parameter, parameter_error, held_where}
 use Rattle.meaning_derivation.specs.Actions.{below, specified}
@@ -225,6 +225,17 @@ parameter-sorts s next specifiers (Part role (Node kind token [] number parts) o
 parameter-sorts s next specifiers (Part role (Node kind token (byte ∷ bytes) number parts) others) is =
     declared-sorts s next (TreeValue (Node kind token (byte ∷ bytes) number parts)) Unlinked is
 
+-- the tree below the top has another number somewhere in it
+own_name-sorts : (s : State) (declarator : Value) (values : List Value) → s.values ≡ values → sort_of declarator ≡ ATree → value_at values 1 ≡ declarator
+    → sorts_of (own_name_hidden s declarator).values ≡ sorts_of values
+own_name-sorts s (WordValue token text) values is tree stands = ap sorts_of is
+own_name-sorts s (ListValue parts) values is tree stands = ap sorts_of is
+own_name-sorts s (TreeValue declarator) [] is tree stands = absurd (cc stands)
+own_name-sorts s (TreeValue declarator) (top ∷ []) is tree stands = absurd (cc stands)
+own_name-sorts s (TreeValue declarator) (top ∷ second ∷ values) is tree stands =
+    ap (λ (all : List Value). sort_of (value_at all 0) ∷ ATree ∷ sorts_of (drop 2 all)) is
+    ∙ ap (λ (one : Value). sort_of top ∷ sort_of one ∷ sorts_of values) (sym stands)
+
 -- something is noted, or not
 noted-values : (test : Bool) (s noted : State) → noted.values ≡ s.values → (if test then noted else s).values ≡ s.values
 noted-values true s noted is = is
@@ -398,7 +409,8 @@ actions_are_sorted BindFurtherDeclarator s next sorts is finds =
 actions_are_sorted NoteFunctionDeclarator s next sorts is finds =
     kept-sorted NoteFunctionDeclarator s next sorts
     (reached _ next is ∙ noted-values (is_open s.scopes && ends_with_parameters (parts_below (below s 1))) s (record s { function_end = Some s.taken }) refl) (λ rest. refl) finds
-actions_are_sorted AwaitBody s next sorts is finds = kept-sorted AwaitBody s next sorts (reached _ next is) (λ rest. refl) finds
+actions_are_sorted AwaitBody s next sorts is finds =
+    kept_sorts AwaitBody s next sorts (ap sorts_of (reached _ next is) ∙ own_name-sorts s (below s 1) s.values refl (sort_below AwaitBody s sorts 1 ATree (λ rest. refl) finds) refl) (λ rest. refl) finds
 actions_are_sorted MakeFileSpecifiers s next sorts is finds =
     made-sorted MakeFileSpecifiers 2 (TreeValue _) (held_where (is_bad_in_file (specified s)) BadDeclaration (token_of (below s 1)) (without_closed s)) next sorts is (λ rest. refl) finds
 actions_are_sorted MakeBlockSpecifiers s next sorts is finds =

@@ -1,5 +1,5 @@
 -- What names are bound to while a unit is read (C11 6.2.1, 6.7 p3).
-use Rattle.std.specs.Prelude.{ℕ, ◌+◌, ◌-◌, Bool, true, false, ◌||◌, ◌&&◌, not, List, [], ◌∷◌, ◌++◌, reverse, nat_eq, Option, Some, None, is_some, if◌then◌else◌}
+use Rattle.std.specs.Prelude.{ℕ, ◌+◌, ◌-◌, Bool, true, false, ◌||◌, ◌&&◌, not, List, [], ◌∷◌, ◌++◌, drop, reverse, nat_eq, Option, Some, None, is_some, if◌then◌else◌}
 use Rattle.std.specs.Str.{bytes_eq}
 use Rattle.vocabulary.specs.declared.error_kind.ErrorKind.TheVariants.{NotDeclared, Redeclared}
 use Rattle.vocabulary.specs.declared.node_kind.NodeKind.{NodeKind}
@@ -36,6 +36,11 @@ last_handle s = s.nodes - 1
 abbrev pub hidden_number : Option (Found (List ℕ)) → ℕ
 hidden_number None = 0
 hidden_number (Some found) = if found.is_innermost then 0 else found.entry.declaration + 1
+
+-- what it hides in a scope that is opened next
+abbrev pub hidden_by_body : Option (Found (List ℕ)) → ℕ
+hidden_by_body None = 0
+hidden_by_body (Some found) = found.entry.declaration + 1
 
 -- a tree with this number
 abbrev pub numbered : ℕ → SyntaxTree → SyntaxTree
@@ -146,9 +151,56 @@ parameters_closed s token =
 abbrev pub without_closed : State → State
 without_closed s = record s { closed = [] }
 
+-- A parameter of its function's own name hides the function, whose name is bound behind the parameters (6.2.1 p7)
+
+-- the first of these trees that is so, changed
+abbrev pub first_changed : (is_so : SyntaxTree → Bool) → (changed : SyntaxTree → SyntaxTree) → Parts (List ℕ) → Parts (List ℕ)
+first_changed is_so changed NoParts = NoParts
+first_changed is_so changed (Part role tree parts) =
+    if is_so tree then Part role (changed tree) parts else Part role tree (first_changed is_so changed parts)
+
+abbrev pub is_any_part : (is_so : SyntaxTree → Bool) → Parts (List ℕ) → Bool
+is_any_part is_so NoParts = false
+is_any_part is_so (Part role tree parts) = is_so tree || is_any_part is_so parts
+
+-- a declarator of this name
+abbrev pub is_declarator_of : (name : List ℕ) → SyntaxTree → Bool
+is_declarator_of name (Node kinds.Declarator token other number parts) = bytes_eq other name
+is_declarator_of name tree = false
+
+-- a parameter of this name
+abbrev pub is_parameter_of : (name : List ℕ) → SyntaxTree → Bool
+is_parameter_of name (Node kind token other number parts) = is_any_part (λ tree. is_declarator_of name tree) parts
+
+-- its declarator has this number
+abbrev pub parameter_numbered : (name : List ℕ) → ℕ → SyntaxTree → SyntaxTree
+parameter_numbered name number (Node kind token other own parts) =
+    Node kind token other own (first_changed (λ tree. is_declarator_of name tree) (numbered number) parts)
+
+-- in a parameter list
+abbrev pub list_numbered : (name : List ℕ) → ℕ → SyntaxTree → SyntaxTree
+list_numbered name number (Node kinds.FunctionDeclarator token other own parts) =
+    Node kinds.FunctionDeclarator token other own (first_changed (λ tree. is_parameter_of name tree) (parameter_numbered name number) parts)
+list_numbered name number tree = tree
+
+-- in that which is the part directly at the name
+abbrev pub own_list_numbered : (name : List ℕ) → ℕ → Parts (List ℕ) → Parts (List ℕ)
+own_list_numbered name number NoParts = NoParts
+own_list_numbered name number (Part role tree parts) =
+    if are_without_form parts then Part role (list_numbered name number tree) parts else Part role tree (own_list_numbered name number parts)
+
+abbrev pub declarator_numbered : ℕ → SyntaxTree → SyntaxTree
+declarator_numbered number (Node kind token name own parts) = Node kind token name own (own_list_numbered name number parts)
+
+-- below what is on top
+abbrev pub own_name_hidden : State → (declarator : Value) → State
+own_name_hidden s (TreeValue tree) =
+    with_values s (value_at s.values 0 ∷ TreeValue (declarator_numbered (hidden_by_body (found_name s Ordinary (name_of (TreeValue tree)))) tree) ∷ drop 2 s.values)
+own_name_hidden s declarator = s
+
 -- the body of this declarator comes next
 abbrev pub body_awaited : State → (declarator : Value) → State
-body_awaited s declarator = record s { awaited = own_parameters (parts_below declarator) }
+body_awaited s declarator = record (own_name_hidden s declarator) { awaited = own_parameters (parts_below declarator) }
 
 -- only a function's declarator has a body, and no type's name (6.9.1 p2)
 abbrev pub takes_no_body : StorageClass → (declarator : Value) → Bool

@@ -14,7 +14,7 @@ use Rattle.vocabulary.specs.declared.node_kind.NodeKind.TheVariants as kinds
 use Rattle.vocabulary.specs.declared.action.Action.{Action}
 use Rattle.vocabulary.specs.declared.action.Action.TheVariants.{Append, AppendAttribute, AppendDeclarator, AppendLeadingAttributes, AwaitBody, BeginAtNext, BeginDeclarators, BeginList, BindDeclarator, BindEnumerator, BindFurtherDeclarator, BindParameter, CloseParameters, CloseScope, CountParameter, DeclareTag, DefineTag, JoinAnyParts, JoinParts, JoinSuffixes, MakeAttributeList, MakeBlockSpecifiers, MakeCharacterConstant, MakeContextStatement, MakeFileSpecifiers, MakeForPart, MakeIntegerConstant, MakeMemberSpecifiers, MakeOptionalDeclarator, MakeParameterSpecifiers, MakeParenthesizedAttributes, MakeStringLiteral, MakeTypeName, MakeTypeNameSpecifiers, NoteFunctionDeclarator, OpenBody, OpenScope, RequireType, RequireTypeOrAttributes, UseName, UseTag, UseTypedefName, WithoutTag}
 use Rattle.meaning_tree.specs.Trees.{SyntaxTree, Node, Parts, NoParts, Part, with_parts}
-use Rattle.meaning_tree.specs.Forms.{PartSort, LeadingLists, SpecifierList, ADeclarator, ADeclaratorPart, AnAttribute, ASpecifier, AnExpression, AConstant, AString, attribute_lists, expressions, optional_expressions, IsOf, Slot, One, Perhaps, Each, slots_of, Fits, nothing, one, left_out, there, no_more, one_more, no_declarator, declarator, no_member, member, IsFormedTree, AreFormedTrees, AStatement}
+use Rattle.meaning_tree.specs.Forms.{PartSort, LeadingLists, SpecifierList, ADeclarator, ADeclaratorPart, AnAttribute, ASpecifier, AnExpression, AConstant, AString, attribute_lists, expressions, optional_expressions, IsOf, Slot, One, Perhaps, Each, slots_of, Fits, nothing, one, left_out, there, no_more, one_more, no_declarator, declarator, no_member, member, IsFormedTree, AreFormedTrees, AStatement, kind_of, sort_of_kind, is_among_sorts}
 use Rattle.meaning_scopes.specs.Scopes.{Found, is_open}
 use Rattle.meaning_attributes.specs.Pieces.{in_parentheses}
 use Rattle.meaning_types.specs.Types.{Space, NoSpace, NumberedSpace, NamedSpace}
@@ -36,7 +36,7 @@ use Rattle.meaning_derivation.specs.Specifiers.{is_bad_in_file, is_bad_in_block,
 use Rattle.meaning_derivation.specs.Contexts.{tokens_behind, context_made}
 use Rattle.meaning_derivation.specs.Attributes.{tokens_from, listed_tokens, attributes_made, kind_of_flag, space_tree, context_appended, item_appended}
 use Rattle.meaning_derivation.specs.Literals.{BadLiteral, bad_piece, constant_made, constant_tree, string_made}
-use Rattle.meaning_derivation.specs.Scoping.{declared, bound_as, hidden_number, hiding_bound, numbered, top_numbered, parameter_bound, tag_at, is_member_list, is_lone_tag, is_new_here, with_own_keyword, tag_declared, found_name, found_here, parts_below, ends_with_parameters, name_used, typedef_named, without_closed}
+use Rattle.meaning_derivation.specs.Scoping.{declared, bound_as, hidden_by_body, hidden_number, hiding_bound, numbered, top_numbered, first_changed, is_declarator_of, is_parameter_of, parameter_numbered, list_numbered, own_list_numbered, declarator_numbered, own_name_hidden, are_without_form, parameter_bound, tag_at, is_member_list, is_lone_tag, is_new_here, with_own_keyword, tag_declared, found_name, found_here, parts_below, ends_with_parameters, name_used, typedef_named, without_closed}
 use Rattle.meaning_derivation.specs.Shapes.{Shape, shape_of, shaped_tree}
 use Rattle.meaning_derivation.specs.Actions.{act, below, specified}
 use Rattle.meaning_derivation.proofs.Shaping.{shapes_are_made}
@@ -83,6 +83,88 @@ with_number-fits (no_declarator fits) = no_declarator (with_number-fits fits)
 with_number-fits (declarator fits) = declarator (with_number-fits fits)
 with_number-fits (no_member fits) = no_member (with_number-fits fits)
 with_number-fits (member fits) = member (with_number-fits fits)
+
+-- trees that are changed where they have other numbers alone
+
+-- of the same kind, and formed
+abbrev Keeps : (SyntaxTree → SyntaxTree) → Type 0
+Keeps changed = (tree : SyntaxTree) → (kind_of (changed tree) ≡ kind_of tree) × (IsFormedTree tree → IsFormedTree (changed tree))
+
+-- the same kinds in the same roles
+abbrev AreAlike : Parts (List ℕ) → Parts (List ℕ) → Type 0
+AreAlike NoParts NoParts = Unit {0}
+AreAlike (Part role tree parts) (Part other_role other others) = (role ≡ other_role) × (kind_of tree ≡ kind_of other) × AreAlike parts others
+AreAlike NoParts (Part other_role other others) = ⊥
+AreAlike (Part role tree parts) NoParts = ⊥
+
+alike-itself : (parts : Parts (List ℕ)) → AreAlike parts parts
+alike-itself NoParts = tt
+alike-itself (Part role tree parts) = (refl, refl, alike-itself parts)
+
+like_sorts : (sorts : List PartSort) (tree other : SyntaxTree) → kind_of tree ≡ kind_of other → IsOf sorts tree → IsOf sorts other
+like_sorts sorts tree other same is = subst (λ kind. is_among_sorts (sort_of_kind kind) sorts ≡ true) same is
+
+alike-fits : {slots : List Slot} {parts : Parts (List ℕ)} → Fits slots parts → (others : Parts (List ℕ)) → AreAlike parts others → Fits slots others
+alike-fits nothing NoParts alike = nothing
+alike-fits nothing (Part role tree parts) alike = absurd alike
+alike-fits (one is fits) NoParts alike = absurd alike
+alike-fits (one {role} {sorts} {slots} {tree} is fits) (Part other_role other others) alike =
+    subst (λ (its : Role). Fits (One role sorts ∷ slots) (Part its other others)) alike.0 (one (like_sorts sorts tree other alike.1 is) (alike-fits fits others alike.2))
+alike-fits (left_out fits) others alike = left_out (alike-fits fits others alike)
+alike-fits (there is fits) NoParts alike = absurd alike
+alike-fits (there {role} {sorts} {slots} {tree} is fits) (Part other_role other others) alike =
+    subst (λ (its : Role). Fits (Perhaps role sorts ∷ slots) (Part its other others)) alike.0 (there (like_sorts sorts tree other alike.1 is) (alike-fits fits others alike.2))
+alike-fits (no_more fits) others alike = no_more (alike-fits fits others alike)
+alike-fits (one_more is fits) NoParts alike = absurd alike
+alike-fits (one_more {role} {sorts} {slots} {tree} is fits) (Part other_role other others) alike =
+    subst (λ (its : Role). Fits (Each role sorts ∷ slots) (Part its other others)) alike.0 (one_more (like_sorts sorts tree other alike.1 is) (alike-fits fits others alike.2))
+alike-fits (no_declarator fits) others alike = no_declarator (alike-fits fits others alike)
+alike-fits (declarator fits) others alike = declarator (alike-fits fits others alike)
+alike-fits (no_member fits) others alike = no_member (alike-fits fits others alike)
+alike-fits (member fits) others alike = member (alike-fits fits others alike)
+
+-- parts that are alike and formed where these are
+abbrev KeepsParts : Parts (List ℕ) → Parts (List ℕ) → Type 0
+KeepsParts parts others = AreAlike parts others × (AreFormedTrees parts → AreFormedTrees others)
+
+changed_if : (test : Bool) (role : Role) (changed : SyntaxTree → SyntaxTree) → Keeps changed → (tree : SyntaxTree) (parts others : Parts (List ℕ)) → KeepsParts parts others
+    → KeepsParts (Part role tree parts) (if test then Part role (changed tree) parts else Part role tree others)
+changed_if true role changed keeps tree parts others kept =
+    ((refl, sym (keeps tree).0, alike-itself parts), λ formed. ((keeps tree).1 formed.0, formed.1))
+changed_if false role changed keeps tree parts others kept = ((refl, refl, kept.0), λ formed. (formed.0, kept.1 formed.1))
+
+first_changed-keeps : (is_so : SyntaxTree → Bool) (changed : SyntaxTree → SyntaxTree) → Keeps changed → (parts : Parts (List ℕ)) → KeepsParts parts (first_changed is_so changed parts)
+first_changed-keeps is_so changed keeps NoParts = (tt, λ formed. formed)
+first_changed-keeps is_so changed keeps (Part role tree parts) =
+    changed_if (is_so tree) role changed keeps tree parts (first_changed is_so changed parts) (first_changed-keeps is_so changed keeps parts)
+
+-- a node over such parts
+over-keeps : (kind : NodeKind) (parts others : Parts (List ℕ)) → KeepsParts parts others → Fits (slots_of kind) parts × AreFormedTrees parts → Fits (slots_of kind) others × AreFormedTrees others
+over-keeps kind parts others kept formed = (alike-fits formed.0 others kept.0, kept.1 formed.1)
+
+numbered-keeps : (number : ℕ) → Keeps (numbered number)
+numbered-keeps number (Node kind token name other parts) = (refl, λ formed. formed)
+
+parameter_numbered-keeps : (name : List ℕ) (number : ℕ) → Keeps (parameter_numbered name number)
+parameter_numbered-keeps name number (Node kind token other own parts) =
+    (refl, over-keeps kind parts _ (first_changed-keeps (λ tree. is_declarator_of name tree) (numbered number) (numbered-keeps number) parts))
+
+list_numbered-keeps : (name : List ℕ) (number : ℕ) → Keeps (list_numbered name number)
+list_numbered-keeps name number (Node kinds.FunctionDeclarator token other own parts) = (
+  refl,
+  over-keeps kinds.FunctionDeclarator parts _
+      (first_changed-keeps (λ tree. is_parameter_of name tree) (parameter_numbered name number) (parameter_numbered-keeps name number) parts),
+)
+list_numbered-keeps name number (Node kind token other own parts) = (refl, λ formed. formed)
+
+own_list_numbered-keeps : (name : List ℕ) (number : ℕ) (parts : Parts (List ℕ)) → KeepsParts parts (own_list_numbered name number parts)
+own_list_numbered-keeps name number NoParts = (tt, λ formed. formed)
+own_list_numbered-keeps name number (Part role tree parts) =
+    changed_if (are_without_form parts) role (list_numbered name number) (list_numbered-keeps name number) tree parts (own_list_numbered name number parts)
+    (own_list_numbered-keeps name number parts)
+
+declarator_numbered-keeps : (number : ℕ) → Keeps (declarator_numbered number)
+declarator_numbered-keeps number (Node kind token name own parts) = (refl, over-keeps kind parts _ (own_list_numbered-keeps name number parts))
 
 -- each attribute's node is formed
 
@@ -530,6 +612,24 @@ module _ (begun : Parts (List ℕ)) (s next : State) (rest : List Value) where
       parameter_acts (below s 1) slots own known after others top
       (subst (λ value. parameter_bound s (below s 1) (parts_of value) ≡ Goes next) (ap (λ all. value_at all 0) top) is) are found stand below_it
 
+  -- so has the parameter of a function's own name
+  await_body_acts :
+      (slots : List Slot) (sorts : List PartSort) (known after : List Known) → act AwaitBody s ≡ Goes next → Some (AList slots ∷ ATree sorts ∷ known) ≡ Some after
+      → Stands (AList slots ∷ ATree sorts ∷ known) → Leaves after
+  await_body_acts slots sorts known after is found stand =
+      let (own, others, top, are, second) = list_first begun (AList slots) (ATree sorts ∷ known) s.values rest refl stand in
+      let (tree, left, under, formed, below_it) = tree_first begun sorts known others rest second in
+      let values : s.values ≡ ListValue own ∷ TreeValue tree ∷ left = top ∙ ap (λ all. ListValue own ∷ all) under in
+      let number : ℕ = hidden_by_body (found_name s Ordinary (name_of (TreeValue tree))) in
+      let keeps = declarator_numbered-keeps number tree in
+      leaves_same (AList slots ∷ ATree sorts ∷ known) after (same_Some _ _ found)
+      (stand_same begun (AList slots ∷ ATree sorts ∷ known) (ListValue own ∷ TreeValue (declarator_numbered number tree) ∷ left) next.values rest
+      (reached _ next is ∙ ap (λ (value : Value). (own_name_hidden s value).values) (ap (λ all. value_at all 1) values)
+      ∙ ap (λ (all : List Value). value_at all 0 ∷ TreeValue (declarator_numbered number tree) ∷ drop 2 all) values)
+      (stand_more begun (AList slots) (ATree sorts ∷ known) (ListValue own) (TreeValue (declarator_numbered number tree) ∷ left) rest are
+      (stand_more begun (ATree sorts) known (TreeValue (declarator_numbered number tree)) left rest
+      (keeps.1 formed.0, like_sorts sorts tree (declarator_numbered number tree) (sym keeps.0) formed.1) below_it)))
+
   tag_acts :
       (found : Option (Found (List ℕ))) (tag : List ℕ) (keyword : ℕ) (known after : List Known) → tag_at s found tag keyword ≡ Goes next
       → Some (AWord ∷ known) ≡ Some after → Stands known → Leaves after
@@ -628,7 +728,8 @@ module _ (begun : Parts (List ℕ)) (s next : State) (rest : List Value) where
   acts BindFurtherDeclarator known after is found stand = absurd (cc found)
   acts NoteFunctionDeclarator known after is found stand =
       kept known after (reached _ next is ∙ noted_values (is_open s.scopes && ends_with_parameters (parts_below (below s 1))) (record s { function_end = Some s.taken }) refl) found stand
-  acts AwaitBody known after is found stand = kept known after (reached _ next is) found stand
+  acts AwaitBody (AList slots ∷ ATree sorts ∷ known) after is found stand = await_body_acts slots sorts known after is found stand
+  acts AwaitBody known after is found stand = absurd (cc found)
   acts MakeFileSpecifiers known after is found stand =
       specifiers_act known after (made-values (held_where (is_bad_in_file (specified s)) BadDeclaration (token_of (below s 1)) (without_closed s)) next 2 (TreeValue (specifiers_tree (below s 1) (below s 0))) is) found stand
   acts MakeBlockSpecifiers known after is found stand =

@@ -19,3 +19,6 @@ pub mod HandedOn
 pub mod Numbered
 pub mod OwnKeywords
 pub mod HiddenNames
+pub mod OtherNumbers
+pub mod OwnNames
+pub mod OwnNameHidden

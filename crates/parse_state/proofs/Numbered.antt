@@ -1,5 +1,5 @@
 -- What becomes of the values where the specifier of the tree on top has another number.
-use Rattle.std.proofs.Common.{◌≡◌, ℕ, zero, suc, ◌+◌, ◌-◌, ◌<◌, ◌≤◌, Bool, true, ◌&&◌, List, [], ◌∷◌, ◌++◌, map, reverse, length, slice_get, Some, refl, sym, ap, ap₂, subst, ◌∙◌, arith, append_assoc, length-append}
+use Rattle.std.proofs.Common.{◌≡◌, ℕ, zero, suc, ◌+◌, ◌-◌, ◌≤◌, Bool, true, ◌&&◌, List, [], ◌∷◌, ◌++◌, map, reverse, length, slice_get, Some, refl, sym, ap, ap₂, subst, ◌∙◌, arith, append_assoc, length-append}
 use Rattle.std.specs.List.{list_all}
 use Rattle.std.proofs.lemmas.Bool.{and_parts, lt-ltb}
 use Rattle.std.proofs.lemmas.List.{map-append}
@@ -90,7 +90,7 @@ module _ {Spelling : Type 0} where
 -- Values
 
 module _ (list : NodeList NameId) where
-  stacked-rises : (stack : List Value) (first end : ℕ) → AreStacked list stack first end → first ≤ end
+  pub stacked-rises : (stack : List Value) (first end : ℕ) → AreStacked list stack first end → first ≤ end
   stacked-rises [] first end stacked = omega (arith, stacked)
   stacked-rises (Word token name ∷ stack) first end stacked = stacked-rises stack first end stacked
   stacked-rises (Tree root ∷ stack) first end stacked =

@@ -1,5 +1,5 @@
 -- The tree of a handle is that of the node there, over the trees of its children.
-use Rattle.std.proofs.Common.{◌≡◌, ℕ, zero, suc, ◌-◌, ◌<◌, ◌≤◌, Bool, true, false, ◌&&◌, List, [], ◌∷◌, ◌++◌, map, reverse, length, slice_get, Option, Some, None, option_map, All, ⊎_elim, if◌then◌else◌, refl, sym, ap, ap₂, subst, ◌∙◌, arith}
+use Rattle.std.proofs.Common.{◌≡◌, ℕ, zero, suc, ◌-◌, ◌<◌, ◌≤◌, Bool, true, false, ◌&&◌, List, [], ◌∷◌, map, reverse, length, slice_get, Option, Some, None, option_map, All, ⊎_elim, if◌then◌else◌, refl, sym, ap, ap₂, subst, ◌∙◌, arith}
 use Rattle.std.specs.List.{list_all}
 use Rattle.vocabulary.specs.declared.node_kind.NodeKind.{NodeKind}
 use Rattle.vocabulary.specs.declared.node_kind.NodeKind.TheVariants.{FunctionDeclarator, ParenthesizedAttributes}
@@ -109,13 +109,13 @@ begins-seen : (kind : NodeKind) (token : ℕ) (name : List ℕ) (number : ℕ) (
 begins-seen FunctionDeclarator token name number parts = refl
 begins-seen kind token name number parts = refl
 
-form-seen : (kind : NodeKind) (token : ℕ) (name : List ℕ) (number : ℕ) (parts : Parts (List ℕ))
+pub form-seen : (kind : NodeKind) (token : ℕ) (name : List ℕ) (number : ℕ) (parts : Parts (List ℕ))
     → scoping.is_without_form (Node kind token name number parts) ≡ is_without_form kind
 form-seen ParenthesizedAttributes token name number parts = refl
 form-seen kind token name number parts = refl
 
 -- of the parts behind one that has form, the last one with form counts
-nearest : (form others : Bool) (found begun rest : Option ℕ)
+pub nearest : (form others : Bool) (found begun rest : Option ℕ)
     → (if others then (if form then found else begun) else rest) ≡ (if form && others then found else (if others then begun else rest))
 nearest true true found begun rest = refl
 nearest true false found begun rest = refl

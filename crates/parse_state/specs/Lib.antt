@@ -17,3 +17,4 @@ pub mod Finished
 pub mod Specifying
 pub mod Strings
 pub mod Tags
+pub mod OwnNames

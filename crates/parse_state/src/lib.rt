@@ -16,6 +16,7 @@ mod leading;
 mod looking;
 mod marks;
 mod nodes;
+mod own_name;
 mod parameters;
 mod row;
 mod scoping;

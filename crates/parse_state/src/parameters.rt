@@ -61,12 +61,14 @@ impl<'t> ParseState<'t> {
         }
     }
 
-    /// The body of this declarator comes next.
-    pub fn await_body(&mut self, depth: usize)
-        ensures state { state_of self.new ≡ body_awaited (state_of self.old) (value_below (state_of self.old).values depth) }
+    /// The body of the declarator below the top comes next.
+    pub fn await_body(&mut self)
+        ensures state { state_of self.new ≡ body_awaited (state_of self.old) (value_below (state_of self.old).values 1) }
         ensures names { self.new.names ≡ self.old.names }
     {
-        self.awaited = self.own_parameters(depth);
+        let parameters = self.own_parameters(1);
+        self.hide_own_name();
+        self.awaited = parameters;
     }
 
     /// Opens the scope of a body: that of the parameters again, if it is awaited.
@@ -115,8 +117,8 @@ fn is_without_form(kind: NodeKind) -> bool
     }
 }
 
-// A part of this kind stands nearer to the name than what was found.
-fn nearer_list(found: Option<u32>, kind: NodeKind, token: u32) -> Option<u32>
+/// A part of this kind stands nearer to the name than what was found.
+pub(crate) fn nearer_list(found: Option<u32>, kind: NodeKind, token: u32) -> Option<u32>
     ensures { result ≡ nearer_list found kind token }
 {
     if is_without_form(kind) {

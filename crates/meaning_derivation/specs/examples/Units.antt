@@ -237,6 +237,11 @@ pub record HidingExamples : Type 0 where
   -- nothing is hidden in the file, nor by what is declared again in its scope
   pub file : hiding (codes "int x; int x;") ≡ 0 ∷ 0 ∷ []
   pub again : hiding (codes "int x; void f(void) { extern int x; extern int x; }") ≡ 0 ∷ 0 ∷ 3 ∷ 0 ∷ []
+  -- a parameter hides its function where that has a body, by the declarator in front of the body
+  pub own_name : hiding (codes "void f(int f) { }") ≡ 0 ∷ 8 ∷ []
+  pub nested_list : hiding (codes "void f(int g(int f), int f) { }") ≡ 0 ∷ 0 ∷ 0 ∷ 17 ∷ []
+  pub own_prototype : hiding (codes "void f(int f);") ≡ 0 ∷ 0 ∷ []
+  pub later_body : hiding (codes "void f(int a); void f(int f) { }") ≡ 0 ∷ 0 ∷ 0 ∷ 17 ∷ []
   -- tags, members and labels are other names
   pub tag : hiding (codes "struct x { int y; }; int y; void f(void) { int x; struct t { int y; }; y: ; }") ≡ 0 ∷ 0 ∷ 0 ∷ 0 ∷ 0 ∷ []
 

@@ -64,6 +64,10 @@ returns-clause-hiding c = record {
   behind = refl;
   file = refl;
   again = refl;
+  own_name = refl;
+  nested_list = refl;
+  own_prototype = refl;
+  later_body = refl;
   tag = refl;
 }
 

@@ -1,7 +1,10 @@
 -- Alignments that are written: none is below 1, and of two lists the larger one counts.
-use Rattle.std.proofs.Common.{◌≡◌, ℕ, ◌≤◌, max, List, [], ◌∷◌, ◌++◌, arith}
-use Rattle.meaning_typing.specs.MemberDeclarations.{alignment_among}
-use Rattle.meaning_typing.specs.Units.{UnitNodes}
+use Rattle.std.proofs.Common.{◌≡◌, ℕ, ◌≤◌, false, max, List, [], ◌∷◌, ◌++◌, refl, arith}
+use Rattle.vocabulary.specs.declared.node_kind.NodeKind.{NodeKind}
+use Rattle.vocabulary.specs.declared.node_kind.NodeKind.TheVariants as kinds
+use Rattle.meaning_typing.specs.MemberDeclarations.{alignment_among, attributes_in}
+use Rattle.meaning_typing.specs.Specifiers.{attributes_of}
+use Rattle.meaning_typing.specs.Units.{UnitNodes, children_at}
 
 module _ (nodes : UnitNodes) where
   pub among_positive : (handles : List ℕ) → 1 ≤ alignment_among nodes handles
@@ -22,3 +25,8 @@ module _ (nodes : UnitNodes) where
 
   pub one_over : (handles : List ℕ) → max (alignment_among nodes handles) 1 ≡ alignment_among nodes handles
   one_over handles = omega (arith, among_positive handles)
+
+  -- only a list has attributes that are its declaration's
+  pub specifier_attributes : (handle : ℕ) (kind : NodeKind) → attributes_of kind (children_at nodes handle) ≡ attributes_in nodes false kind handle
+  specifier_attributes handle kinds.AttributeList = refl
+  specifier_attributes handle kind = refl

@@ -2,3 +2,4 @@ pub mod AlignmentLemmas
 pub mod EntryLemmas
 pub mod MemberLemmas
 pub mod PackedLemmas
+pub mod TypeLemmas

@@ -2,7 +2,7 @@
 // is written. What is aligned isn't known here.
 ghost use Rattle.std.specs.Prelude.{◌≡◌, max};
 ghost use Rattle.meaning_typing.specs.MemberDeclarations as meaning;
-ghost use Rattle.meaning_typing.specs.Specifiers.{attributes_among, attributes_of};
+ghost use Rattle.meaning_typing.specs.Specifiers.{attributes_of};
 ghost use Rattle.meaning_typing.specs.Units.{children_at, kind_at as kind_of, node_at as node_of_unit};
 ghost use Rattle.decl_judge.specs.Units.{handles_of, nodes_of};
 
@@ -51,16 +51,4 @@ pub fn alignment_of_list(unit: &Unit, least: u64, handle: Handle) -> u64
         Some(attributes) => alignment_among(unit, least, attributes),
         None => least.max(1),
     }
-}
-
-/// The same among those of all lists among these children.
-pub fn alignment_of_lists(unit: &Unit, least: u64, children: &TagList) -> u64
-    requires { unit.now.first ≡ 0 }
-    ensures { result ≡ max least (meaning.alignment_among (nodes_of unit.now) (attributes_among (nodes_of unit.now) (handles_of children.now))) }
-{
-    let mut largest = least;
-    for (child, _) in children.iter() {
-        largest = alignment_of_list(unit, largest, child);
-    }
-    largest.max(1)
 }

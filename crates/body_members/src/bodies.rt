@@ -9,10 +9,11 @@ ghost use Rattle.node_facts.specs.Facts.{IsKnownNodeFact, nodes_seen};
 ghost use Rattle.node_surroundings.specs.Seen.{surrounding_seen};
 ghost use Rattle.decl_judge.specs.Asked.{first_of};
 ghost use Rattle.decl_judge.specs.Units.{handles_of, nodes_of};
-ghost use Rattle.body_members.specs.Seen.{IsFirstBody, IsMemberOver, body_seen, is_member_list, list_members, members_seen};
+ghost use Rattle.body_members.specs.Seen.{IsFirstBody, IsMemberOver, body_seen, list_members, members_seen};
 
 use crate::behind::{alignment_behind, is_packed_behind};
 use crate::members::{add_members, kept_alignment};
+use crate::specifiers::is_member_list;
 use c_tree::{Handle, Unit};
 use c_types::{AggregateBody, MemberList, Types};
 use decl_judge::{kind_at, node_at};
@@ -80,15 +81,6 @@ pub fn members_of_list(
     match node_at(unit, list) {
         Some(node) => members_among(alloc, unit, types, facts, &node.children),
         None => Ok(MemberList::new(alloc)),
-    }
-}
-
-fn is_member_list(kind: NodeKind) -> bool
-    ensures { result ≡ is_member_list kind }
-{
-    match kind {
-        NodeKind::MemberList => true,
-        _ => false,
     }
 }
 

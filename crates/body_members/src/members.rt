@@ -4,14 +4,17 @@ ghost use Rattle.std.specs.Prelude.{◌≡◌, ◌++◌, [], None, All, IfOk, If
 ghost use Rattle.std.specs.List.{cons_option, flat_map};
 ghost use Rattle.meaning_typing.specs.MemberDeclarations as meaning;
 ghost use Rattle.meaning_typing.specs.Units as units;
-ghost use Rattle.c_types.specs.Table.{type_at};
+ghost use Rattle.meaning_typing.specs.Declarators.{specifiers_of, type_declared};
+ghost use Rattle.meaning_typing.specs.Facts.{fact_at};
+ghost use Rattle.c_types.specs.Outlines.{aggregate_in, outline_of};
+ghost use Rattle.c_types.specs.Table.{IsTypeId, type_at};
 ghost use Rattle.node_facts.specs.Facts.{IsKnownNodeFact, name_seen, nodes_seen};
 ghost use Rattle.decl_judge.specs.Units.{nodes_of};
-ghost use Rattle.body_members.specs.Seen.{IsMemberOver, member_by, member_seen, member_with, members_if, members_seen};
+ghost use Rattle.body_members.specs.Seen.{IsMemberOver, declares_member, is_tagless_among, member_by, member_seen, member_with, members_if, members_seen, nameless_type};
 
 use crate::entries::{Entry, entries_of};
 use crate::known::{specified_type, width_said};
-use crate::specifiers::{has_tagless, specified_alignment};
+use crate::specifiers::{has_tagless, is_nameless, specified_alignment};
 use c_tree::{Handle, Unit};
 use c_types::{Member, MemberList, Types};
 use decl_judge::{declared_type_at, node_at};
@@ -70,6 +73,35 @@ fn member_of_type(
     })
 }
 
+// Whether a declarator declares a member of this type: one without a name is a bit-field, and has a type of integers.
+fn declares_member(unit: &Unit, types: &Types, declarator: Handle, of: TypeId) -> bool
+    requires whole { unit.now.first ≡ 0 }
+    requires of { IsTypeId types.now of }
+    ensures { result ≡ declares_member (units.node_at (nodes_of unit.now) declarator).name (type_at types.now of) }
+{
+    !is_nameless(unit, declarator) || types.is_integer(of)
+}
+
+// The type of the member that a declarator declares, if it does.
+#[tactic(auto, using(crate::proofs::TypeLemmas::untyped, crate::proofs::TypeLemmas::declares, crate::proofs::TypeLemmas::declares_none))]
+fn member_type_at(
+    unit: &Unit,
+    types: &Types,
+    facts: &NodeFacts,
+    declarator: Handle,
+) -> Option<TypeId>
+    requires whole { unit.now.first ≡ 0 }
+    requires facts { All (IsKnownNodeFact types.now) facts.now }
+    ensures made { option_map (type_at types.now) result ≡ meaning.type_of_entry (units.node_at (nodes_of unit.now) declarator).name (type_declared (fact_at (nodes_seen types.now facts.now) declarator)) }
+    ensures known { IfSome result (IsTypeId types.now) }
+{
+    let of = declared_type_at(facts, declarator)?;
+    if declares_member(unit, types, declarator, of) {
+        return Some(of);
+    }
+    None
+}
+
 // The member of an entry behind specifiers among which this alignment is written. Of what isn't known there is none.
 fn entry_member(
     unit: &Unit,
@@ -83,7 +115,7 @@ fn entry_member(
     ensures made { IfOk result (λ found. members_if types.now found ≡ member_by (nodes_of unit.now) (nodes_seen types.now facts.now) specified entry) }
     ensures known { IfOk result (λ found. IfSome found (IsMemberOver types.now)) }
 {
-    match declared_type_at(facts, entry.declarator) {
+    match member_type_at(unit, types, facts, entry.declarator) {
         Some(of) => Ok(Some(member_of_type(unit, types, facts, specified, entry, of)?)),
         None => Ok(None),
     }
@@ -136,7 +168,40 @@ fn nameless_of_type(unit: &Unit, declaration: Handle, of: TypeId) -> Result<Memb
     })
 }
 
+// Whether a type is that of a structure or union that stands without a tag and with its members among the specifiers of a declaration.
+fn is_type_of_tagless(unit: &Unit, types: &Types, declaration: Handle, of: TypeId) -> bool
+    requires whole { unit.now.first ≡ 0 }
+    requires of { IsTypeId types.now of }
+    ensures { result ≡ is_tagless_among (nodes_of unit.now) (aggregate_in (outline_of (type_at types.now of))) (units.children_at (nodes_of unit.now) (units.child_at (nodes_of unit.now) declaration 0)) }
+{
+    match types.outline(of).aggregate() {
+        Some((number, _)) => has_tagless(unit, declaration, number),
+        None => false,
+    }
+}
+
+// The type of a member without a declarator, if the declaration has one (p13).
+#[tactic(auto, using(crate::proofs::TypeLemmas::tagless_told))]
+fn nameless_type_at(
+    unit: &Unit,
+    types: &Types,
+    facts: &NodeFacts,
+    declaration: Handle,
+) -> Option<TypeId>
+    requires whole { unit.now.first ≡ 0 }
+    requires facts { All (IsKnownNodeFact types.now) facts.now }
+    ensures made { option_map (type_at types.now) result ≡ nameless_type (nodes_of unit.now) declaration (meaning.specified_type (specifiers_of (nodes_of unit.now) (nodes_seen types.now facts.now) declaration)) }
+    ensures known { IfSome result (IsTypeId types.now) }
+{
+    let of = specified_type(unit, facts, declaration)?;
+    if is_type_of_tagless(unit, types, declaration, of) {
+        return Some(of);
+    }
+    None
+}
+
 // A structure or union without a tag is a member without a declarator (p13).
+#[tactic(auto, using(crate::proofs::TypeLemmas::nameless_told))]
 fn nameless_member(
     unit: &Unit,
     types: &Types,
@@ -148,10 +213,7 @@ fn nameless_member(
     ensures made { IfOk result (λ found. members_if types.now found ≡ meaning.nameless_member (nodes_of unit.now) (nodes_seen types.now facts.now) declaration) }
     ensures known { IfOk result (λ found. IfSome found (IsMemberOver types.now)) }
 {
-    if !has_tagless(unit, declaration) {
-        return Ok(None);
-    }
-    match specified_type(unit, facts, declaration) {
+    match nameless_type_at(unit, types, facts, declaration) {
         Some(of) => Ok(Some(nameless_of_type(unit, declaration, of)?)),
         None => Ok(None),
     }

@@ -1,14 +1,14 @@
 // What is written among the specifiers of a member's declaration (C11 6.7.2.1): the alignment for its members, and whether
 // they specify a structure or union without a tag. Attributes directly behind a body belong to that, and not to the members.
-ghost use Rattle.std.specs.Prelude.{◌≡◌, false, max};
+ghost use Rattle.std.specs.Prelude.{◌≡◌, false, max, nat_eq};
 ghost use Rattle.std.specs.List.{list_any};
 ghost use Rattle.meaning_typing.specs.MemberDeclarations as meaning;
-ghost use Rattle.meaning_typing.specs.Specifiers.{attributes_among};
 ghost use Rattle.meaning_typing.specs.Tags as tags;
 ghost use Rattle.meaning_typing.specs.Units.{children_at, child_at as child_of, kind_at as kind_of, node_at as node_of_unit};
 ghost use Rattle.decl_judge.specs.Units.{handles_of, nodes_of};
+ghost use Rattle.body_members.specs.Seen.{is_tagless_number};
 
-use crate::alignment::{alignment_of_list, alignment_of_lists};
+use crate::alignment::alignment_of_list;
 use c_tree::{Handle, Unit};
 use decl_judge::{child_at, kind_at, node_at};
 use sparse_model::NodeKind;
@@ -81,25 +81,12 @@ fn is_still_behind(unit: &Unit, is_behind_body: bool, handle: Handle) -> bool
     is_tagged(kind) && has_body(unit, handle)
 }
 
-// The alignment of the lists below a node, no less than this one.
-fn alignment_below(unit: &Unit, least: u64, handle: Handle) -> u64
-    requires { unit.now.first ≡ 0 }
-    ensures { result ≡ max least (meaning.alignment_among (nodes_of unit.now) (attributes_among (nodes_of unit.now) (children_at (nodes_of unit.now) handle))) }
-{
-    match node_at(unit, handle) {
-        Some(node) => alignment_of_lists(unit, least, &node.children),
-        None => least.max(1),
-    }
-}
-
-// What a specifier adds to an alignment: attributes between the keyword of a tag and the tag are the member's.
+// What a specifier adds to an alignment: attributes between the keyword of a tag and the tag say nothing of a layout.
+#[tactic(auto, using(crate::proofs::AlignmentLemmas::specifier_attributes))]
 fn alignment_of_specifier(unit: &Unit, least: u64, is_behind_body: bool, handle: Handle) -> u64
     requires { unit.now.first ≡ 0 }
     ensures { result ≡ max least (meaning.alignment_among (nodes_of unit.now) (meaning.attributes_in (nodes_of unit.now) is_behind_body (kind_of (nodes_of unit.now) handle) handle)) }
 {
-    if is_tagged(kind_at(unit, handle)) {
-        return alignment_below(unit, least, handle);
-    }
     if is_behind_body {
         return least.max(1);
     }
@@ -131,7 +118,8 @@ pub fn specified_alignment(unit: &Unit, declaration: Handle) -> u64
     }
 }
 
-fn is_nameless(unit: &Unit, handle: Handle) -> bool
+/// Whether a node has no name.
+pub fn is_nameless(unit: &Unit, handle: Handle) -> bool
     requires { unit.now.first ≡ 0 }
     ensures { result ≡ meaning.is_empty (node_of_unit (nodes_of unit.now) handle).name }
 {
@@ -152,25 +140,77 @@ fn is_tagless(unit: &Unit, handle: Handle) -> bool
     }
 }
 
-fn is_tagless_among(unit: &Unit, specifiers: &TagList) -> bool
+// Whether members stand between the braces of a specifier.
+fn has_member_list(unit: &Unit, handle: Handle) -> bool
     requires { unit.now.first ≡ 0 }
-    ensures { result ≡ meaning.is_tagless_among (nodes_of unit.now) (handles_of specifiers.now) }
+    ensures { result ≡ meaning.has_member_list (nodes_of unit.now) handle }
 {
-    for (specifier, _) in specifiers.iter() {
-        if is_tagless(unit, specifier) {
+    match node_at(unit, handle) {
+        Some(node) => is_list_among(unit, &node.children),
+        None => false,
+    }
+}
+
+fn is_list_among(unit: &Unit, children: &TagList) -> bool
+    requires { unit.now.first ≡ 0 }
+    ensures { result ≡ list_any (λ child. meaning.is_member_list (kind_of (nodes_of unit.now) child)) (handles_of children.now) }
+{
+    for (child, _) in children.iter() {
+        if is_member_list(kind_at(unit, child)) {
             return true;
         }
     }
     false
 }
 
-/// Whether a structure or union without a tag is among the specifiers of a declaration.
-pub fn has_tagless(unit: &Unit, declaration: Handle) -> bool
+/// Whether a node of this kind is the list of members of a specifier.
+pub fn is_member_list(kind: NodeKind) -> bool
+    ensures { result ≡ meaning.is_member_list kind }
+{
+    match kind {
+        NodeKind::MemberList => true,
+        _ => false,
+    }
+}
+
+fn has_number(unit: &Unit, number: u32, handle: Handle) -> bool
     requires { unit.now.first ≡ 0 }
-    ensures { result ≡ meaning.is_tagless_among (nodes_of unit.now) (children_at (nodes_of unit.now) (child_of (nodes_of unit.now) declaration 0)) }
+    ensures { result ≡ nat_eq (node_of_unit (nodes_of unit.now) handle).number number }
+{
+    match node_at(unit, handle) {
+        Some(node) => node.number == u64::from(number),
+        None => number == 0,
+    }
+}
+
+// Whether a specifier is that of the structure or union with this number, without a tag and with its members.
+fn is_tagless_number(unit: &Unit, number: u32, handle: Handle) -> bool
+    requires { unit.now.first ≡ 0 }
+    ensures { result ≡ is_tagless_number (nodes_of unit.now) number handle }
+{
+    is_tagless(unit, handle) && has_member_list(unit, handle) && has_number(unit, number, handle)
+}
+
+fn is_tagless_among(unit: &Unit, number: u32, specifiers: &TagList) -> bool
+    requires { unit.now.first ≡ 0 }
+    ensures { result ≡ list_any (λ handle. is_tagless_number (nodes_of unit.now) number handle) (handles_of specifiers.now) }
+{
+    for (specifier, _) in specifiers.iter() {
+        if is_tagless_number(unit, number, specifier) {
+            return true;
+        }
+    }
+    false
+}
+
+/// Whether the structure or union with this number stands without a tag, and with its members, among the specifiers of a declaration.
+/// It takes a step for each specifier, and for each part of one without a tag.
+pub fn has_tagless(unit: &Unit, declaration: Handle, number: u32) -> bool
+    requires { unit.now.first ≡ 0 }
+    ensures { result ≡ list_any (λ handle. is_tagless_number (nodes_of unit.now) number handle) (children_at (nodes_of unit.now) (child_of (nodes_of unit.now) declaration 0)) }
 {
     match node_at(unit, child_at(unit, declaration, 0)) {
-        Some(node) => is_tagless_among(unit, &node.children),
+        Some(node) => is_tagless_among(unit, number, &node.children),
         None => false,
     }
 }

@@ -6,15 +6,15 @@ use Rattle.meaning_layout.specs.Sizes.{Told}
 use Rattle.meaning_operands.specs.Failures as meaning
 use Rattle.meaning_rules.specs.Rules.{least_broken, least_token, lesser}
 use Rattle.meaning_types.specs.Types.{TypeTree}
-use Rattle.meaning_typing.specs.DeclarationRows.{declarator_parts_broken}
+use Rattle.meaning_typing.specs.DeclarationRows.{declarator_parts_broken, defined_name_broken}
 use Rattle.meaning_typing.specs.Declarators.{declarator_fact, declared_if, declared_type, specifiers_of}
 use Rattle.meaning_typing.specs.Facts as facts_meant
 use Rattle.meaning_typing.specs.Facts.{Fact, Declared}
-use Rattle.meaning_typing.specs.MemberRows.{is_member_declaration, member_declarator_row}
+use Rattle.meaning_typing.specs.MemberRows.{is_member_declaration, member_declarator_row, name_broken}
 use Rattle.meaning_typing.specs.Rows.{Row, known, nothing}
 use Rattle.meaning_typing.specs.Surroundings.{Surrounding}
 use Rattle.meaning_typing.specs.Units.{UnitNodes, children_at, kind_at, node_at}
-use Rattle.meaning_typing.specs.WholeTyping.{declaration_broken, declaration_failures, declaration_row_by, declared_row, large_by, whole_declarator_row}
+use Rattle.meaning_typing.specs.WholeTyping.{declaration_broken, declaration_failures, declaration_row_by, declared_row, large_by, own_name_broken, whole_declarator_row}
 use Rattle.c_types.specs.Layouts.{told_in}
 use Rattle.c_types.specs.Table.{TypeTable, IsTypeId}
 use Rattle.decl_judge.specs.declared.declared.DeclaratorPlace.{DeclaratorPlace}
@@ -33,12 +33,12 @@ use Rattle.expression_rows.specs.Rows.{broken_seen}
 use Rattle.expression_rows.proofs.LeastLemmas.{least_both}
 use Rattle.expr_judge.specs.declared.row.NodeRow.{NodeRow}
 use Rattle.expr_judge.specs.Parts.{declaration_in}
-use Rattle.expr_judge.specs.Rows.{KeptRow, Tells, known_row, row_kept, row_seen}
+use Rattle.expr_judge.specs.Rows.{Tells, known_row, row_kept, row_seen}
 use Rattle.expr_judge.proofs.TellingLemmas.{tells_only}
 use Rattle.declaration_judge.specs.declared.declarations.Declarations.{Declarations}
 use Rattle.declaration_judge.specs.Kept.{OnlyTypesJoin, facts_seen}
-use Rattle.declaration_judge.specs.Rows.{kept_and}
-use Rattle.declaration_judge.proofs.RowLemmas.{and_kept, kept_more}
+use Rattle.declaration_judge.specs.Rows.{kept_and, row_without_type}
+use Rattle.declaration_judge.proofs.RowLemmas.{declarator_row, kept_more, row_typed, row_untyped, untyped_silent}
 
 -- What is declared
 
@@ -164,24 +164,61 @@ module _ (nodes : UnitNodes) (surroundings : List Surrounding) (handle : ℕ) (s
       (declarator_fact nodes surrounding (facts_seen old) handle specifiers))
       (sym declares)
 
+  abbrev parts_broken : List meaning.Broken
+  parts_broken = declarator_parts_broken (told_in old.types) nodes (facts_seen old) handle surrounding specifiers
+
+  abbrev names_broken : List meaning.Broken
+  names_broken = own_name_broken nodes surroundings (facts_seen old) handle surrounding
+
+  abbrev large : List ℕ
+  large = large_by (told_in old.types) nodes (facts_seen old) surrounding.parent (children_at nodes handle) specifiers
+
+  abbrev declared_so : Row
+  declared_so = declared_row (told_in old.types) nodes surroundings (facts_seen old) handle surrounding
+
+  pub names-are : defined_name_broken nodes surroundings (facts_seen new) handle fact ≡ names_broken
+  names-are =
+      (λ i. defined_name_broken nodes surroundings (same i) handle (is i))
+      ∙ ap
+      (λ test. if test then name_broken nodes surroundings handle
+      else defined_name_broken nodes surroundings (facts_seen old) handle (declarator_fact nodes surrounding (facts_seen old) handle specifiers))
+      (sym declares)
+
+  -- its parts break nothing
   pub tells_declarator :
       (before after : List Failure) (row said : NodeRow) (parts : DeclaratorParts)
       → Tells new.types new.types before after row (declaration_row_by (told_in new.types) nodes surroundings (facts_seen new) handle surrounding fact)
-      → option_map broken_seen parts.broken ≡ least_broken (declarator_parts_broken (told_in old.types) nodes (facts_seen old) handle surrounding specifiers)
-      → parts.passed ≡ least_token (large_by (told_in old.types) nodes (facts_seen old) surrounding.parent (children_at nodes handle) specifiers)
-      → row_seen new.types said ≡ record (kept_and (row_seen new.types row) (option_map broken_seen parts.broken)) { passed = parts.passed }
+      → parts.broken ≡ None → option_map broken_seen parts.broken ≡ least_broken parts_broken → parts.passed ≡ least_token large
+      → row_seen new.types said ≡ record (row_seen new.types row) { passed = parts.passed }
       → IsKnownNodeFact new.types said.fact
       → Tells old.types new.types before after said (whole_declarator_row (told_in old.types) nodes surroundings (facts_seen old) handle surrounding)
-  tells_declarator before after row said parts tells least large made id =
-      let broken = declarator_parts_broken (told_in old.types) nodes (facts_seen old) handle surrounding specifiers in
-      let passed = large_by (told_in old.types) nodes (facts_seen old) surrounding.parent (children_at nodes handle) specifiers in
-      let declared = declared_row (told_in old.types) nodes surroundings (facts_seen old) handle surrounding in
-      record {
-        row =
-            made
-            ∙ (λ i. record (kept_and ((tells.row ∙ ap row_kept declared-is) i) (least i)) { passed = large i })
-            ∙ ap (λ (one : KeptRow). record one { passed = least_token passed }) (and_kept declared broken);
+  tells_declarator before after row said parts tells none least passed made id =
+      subst (Tells old.types new.types before after said)
+      (sym (row_typed parts_broken names_broken declared_so large (sym (ap (option_map broken_seen) none) ∙ least)))
+      (record {
+        row = made ∙ (λ i. record ((tells.row ∙ ap row_kept declared-is) i) { passed = passed i });
         ids = id;
         failures = subst (λ (one : Row). Appends new.types before after one.failures) declared-is tells.failures;
         keeps = only.types;
-      }
+      })
+
+  -- or they do
+  pub tells_untyped :
+      (found : List Failure) (said : NodeRow) (parts : DeclaratorParts) (broken : Broken) (name : Option Broken)
+      → parts.broken ≡ Some broken → option_map broken_seen parts.broken ≡ least_broken parts_broken → parts.passed ≡ least_token large
+      → option_map broken_seen name ≡ least_broken (defined_name_broken nodes surroundings (facts_seen new) handle fact)
+      → row_seen new.types said ≡ row_without_type (Some (broken_seen broken)) (option_map broken_seen name) parts.passed
+      → IsKnownNodeFact new.types said.fact
+      → Tells old.types new.types found found said (whole_declarator_row (told_in old.types) nodes surroundings (facts_seen old) handle surrounding)
+  tells_untyped found said parts broken name some least passed names made id =
+      let there : Some (broken_seen broken) ≡ least_broken parts_broken = sym (ap (option_map broken_seen) some) ∙ least in
+      tells_only old.types new.types found said (declarator_row parts_broken names_broken declared_so large)
+      (record {
+        row =
+            made
+            ∙ (λ i. row_without_type (there i) ((names ∙ ap least_broken names-are) i) (passed i))
+            ∙ sym (row_untyped parts_broken names_broken declared_so large (broken_seen broken) there);
+        ids = id;
+        silent = untyped_silent parts_broken names_broken declared_so large (broken_seen broken) there;
+      })
+      only.types

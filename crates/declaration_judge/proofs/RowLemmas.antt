@@ -1,11 +1,13 @@
 -- Rows that break something, and rows that break more.
-use Rattle.std.proofs.Common.{◌≡◌, List, ◌++◌, Option, Some, None, IfSome, option_map, refl, sym, ap, subst, ◌∙◌}
+use Rattle.std.proofs.Common.{◌≡◌, ℕ, List, [], ◌∷◌, ◌++◌, Option, Some, None, IfSome, option_map, refl, sym, ap, subst, ◌∙◌}
+use Rattle.std.proofs.lemmas.Option.{none-some}
 use Rattle.sparse_model.specs.declared.failure.Failure.{Failure}
 use Rattle.meaning_operands.specs.Failures as meaning
 use Rattle.meaning_rules.specs.Rules.{least_broken, least_token, lesser}
 use Rattle.meaning_typing.specs.Facts.{Fact, Unknown}
 use Rattle.meaning_typing.specs.Rows.{Row, breaks, known, nothing}
 use Rattle.meaning_typing.specs.Wholes.{and_breaks}
+use Rattle.meaning_typing.specs.WholeTyping.{declared_unless}
 use Rattle.c_types.specs.Table.{TypeTable}
 use Rattle.node_facts.specs.declared.fact.NodeFact.{NodeFact}
 use Rattle.node_facts.specs.declared.fact.NodeFact.TheVariants as facts
@@ -16,10 +18,11 @@ use Rattle.expression_rows.specs.Arguments.{Appends, listed_failure}
 use Rattle.expression_rows.specs.Parts.{unless}
 use Rattle.expression_rows.specs.Rows.{IsKnownFailure, broken_seen, failure_listed}
 use Rattle.expression_rows.proofs.LeastLemmas.{least_both, unless_told}
+use Rattle.declaration_rows.proofs.LeastLemmas.{nothing_broken}
 use Rattle.expr_judge.specs.declared.row.NodeRow.{NodeRow}
 use Rattle.expr_judge.specs.Rows.{KeptRow, SaysOnly, Tells, known_row, row_kept, row_seen}
 use Rattle.expr_judge.proofs.TellingLemmas.{one_known, one_listed}
-use Rattle.declaration_judge.specs.Rows.{broken_row, kept_and}
+use Rattle.declaration_judge.specs.Rows.{broken_row, kept_and, row_without_type}
 
 -- nothing is known, and this is broken
 pub says_broken : (table : TypeTable) (row : NodeRow) (broken : Option Broken) (meant : List meaning.Broken) → row ≡ broken_row broken
@@ -53,6 +56,26 @@ module _ (table : TypeTable) (row said : NodeRow) (broken : Option Broken) (mean
 
   pub says_more : SaysOnly table row meant → IsKnownNodeFact table said.fact → SaysOnly table said (and_breaks meant more)
   says_more says id = record { row = kept_more says.row; ids = id; silent = says.silent }
+
+-- Declarators, by whether their parts break something
+
+module _ (parts names : List meaning.Broken) (declared : Row) (passed : List ℕ) where
+  abbrev pub declarator_row : Row
+  declarator_row = record (declared_unless parts names declared) { passed = passed }
+
+  pub row_typed : None ≡ least_broken parts → declarator_row ≡ record declared { passed = passed }
+  row_typed none = ap (λ broken. record (declared_unless broken names declared) { passed = passed }) (nothing_broken parts none)
+
+pub row_untyped : (parts names : List meaning.Broken) (declared : Row) (passed : List ℕ) (broken : meaning.Broken) → Some broken ≡ least_broken parts
+    → row_kept (declarator_row parts names declared passed) ≡ row_without_type (least_broken parts) (least_broken names) (least_token passed)
+row_untyped [] names declared passed broken some = absurd (none-some broken (sym some))
+row_untyped (first ∷ others) names declared passed broken some =
+    λ i. record { fact = Unknown; broken = least_both (first ∷ others) names i; passed = least_token passed }
+
+pub untyped_silent : (parts names : List meaning.Broken) (declared : Row) (passed : List ℕ) (broken : meaning.Broken) → Some broken ≡ least_broken parts
+    → (declarator_row parts names declared passed).failures ≡ []
+untyped_silent [] names declared passed broken some = absurd (none-some broken (sym some))
+untyped_silent (first ∷ others) names declared passed broken some = refl
 
 -- Failures
 

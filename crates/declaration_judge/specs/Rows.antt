@@ -62,3 +62,7 @@ broken_row broken = record { fact = facts.Unknown; broken = broken; passed = Non
 abbrev pub kept_and : KeptRow → Option meaning.Broken → KeptRow
 kept_and row None = row
 kept_and row (Some broken) = record row { fact = Unknown; broken = lesser row.broken (Some broken) }
+
+-- of a declarator whose parts break something, where its name breaks this
+abbrev pub row_without_type : (parts names : Option meaning.Broken) → (passed : Option ℕ) → KeptRow
+row_without_type parts names passed = record { fact = Unknown; broken = lesser parts names; passed = passed }

@@ -1,6 +1,6 @@
 // Declarators by their nodes (C11 6.7.6): what is declared, what its parts break besides, and the arrays among them that are too large.
 // Members of structures and unions aren't known here.
-ghost use Rattle.std.specs.Prelude.{◌≡◌, ◌<◌, false, IfOk, List, OnOk, length, option_map};
+ghost use Rattle.std.specs.Prelude.{◌≡◌, ◌<◌, false, IfOk, List, OnOk, Some, length, option_map};
 ghost use Rattle.meaning_operands.specs.Failures as failures;
 ghost use Rattle.meaning_rules.specs.Rules.{least_broken, least_token};
 ghost use Rattle.meaning_tree.specs.Nodes.{end_of};
@@ -16,29 +16,38 @@ ghost use Rattle.expression_rows.specs.Rows.{broken_seen};
 ghost use Rattle.node_facts.specs.Facts.{IsKnownNodeFact};
 ghost use Rattle.node_surroundings.specs.Seen.{surroundings_seen};
 ghost use Rattle.declaration_judge.specs.Kept.{IsKeptOf, OnlyTypesJoin, facts_seen};
-ghost use Rattle.declaration_judge.specs.Rows.{kept_and};
+ghost use Rattle.declaration_judge.specs.Rows.{row_without_type};
 
 use crate::declarations::Declarations;
-use crate::declared::declaration;
-use crate::row::and_breaks;
+use crate::declared::{declaration, defined_name_broken};
 use c_tree::{Handle, Unit};
 use decl_judge::{DeclaratorPlace, declarator_fact};
-use declaration_rows::{DeclaratorParts, declarator_parts};
+use declaration_rows::declarator_parts;
 use expr_judge::NodeRow;
+use expression_rows::{Broken, lesser};
+use node_facts::NodeFact;
 use node_surroundings::Surroundings;
 use sparse_model::FailureList;
 use std::alloc::{AllocError, Global};
 
-/// The row of a declaration, with what the parts of its declarator break and pass.
-pub fn with_parts(row: NodeRow, parts: DeclaratorParts) -> NodeRow
-    ensures seen { (table : TypeTable) → row_seen table result ≡ record (kept_and (row_seen table row) (option_map broken_seen parts.broken)) { passed = parts.passed } }
+/// The row of a declarator whose parts break something: nothing is known of it, and its name alone is asked.
+pub fn without_type(parts: Broken, names: Option<Broken>, passed: Option<u32>) -> NodeRow
+    ensures seen { (table : TypeTable) → row_seen table result ≡ row_without_type (Some (broken_seen parts)) (option_map broken_seen names) passed }
+    ensures known { (table : TypeTable) → IsKnownNodeFact table result.fact }
+{
+    NodeRow {
+        fact: NodeFact::Unknown,
+        broken: lesser(Some(parts), names),
+        passed,
+    }
+}
+
+/// The row of a declaration, with the least array among the parts of its declarator that is too large.
+pub fn with_passed(row: NodeRow, passed: Option<u32>) -> NodeRow
+    ensures seen { (table : TypeTable) → row_seen table result ≡ record (row_seen table row) { passed = passed } }
     ensures known { (table : TypeTable) → IsKnownNodeFact table row.fact → IsKnownNodeFact table result.fact }
 {
-    let row = and_breaks(row, parts.broken);
-    NodeRow {
-        passed: parts.passed,
-        ..row
-    }
+    NodeRow { passed, ..row }
 }
 
 /// The row of the declarator with this handle, which is none of a member. It takes the steps of its parts, and one for each
@@ -75,6 +84,14 @@ pub fn declarator(
         scope: surrounding.around.scope,
     };
     let fact = declarator_fact(alloc, unit, &kept.facts, &mut kept.types, at, handle)?;
-    let row = declaration(unit, surroundings, kept, found, handle, surrounding, fact)?;
-    Ok(with_parts(row, parts))
+    match parts.broken {
+        None => {
+            let row = declaration(unit, surroundings, kept, found, handle, surrounding, fact)?;
+            Ok(with_passed(row, parts.passed))
+        }
+        Some(broken) => {
+            let names = defined_name_broken(unit, surroundings, kept, handle, surrounding, fact);
+            Ok(without_type(broken, names, parts.passed))
+        }
+    }
 }

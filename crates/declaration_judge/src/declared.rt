@@ -4,6 +4,7 @@ ghost use Rattle.std.specs.Prelude.{◌≡◌, ◌≤◌, ◌^◌, IfOk, OnOk, l
 ghost use Rattle.meaning_rules.specs.Rules.{least_broken};
 ghost use Rattle.meaning_typing.specs.Facts.{Declared};
 ghost use Rattle.meaning_typing.specs.Surroundings.{surrounding_at};
+ghost use Rattle.meaning_typing.specs.DeclarationRows as meaning_rows;
 ghost use Rattle.meaning_typing.specs.WholeTyping as meaning;
 ghost use Rattle.c_types.specs.Layouts.{told_in};
 ghost use Rattle.c_types.specs.Table.{IsTypeId};
@@ -53,6 +54,32 @@ fn declaration_broken(
     let twice = definition_broken(unit, &kept.defined, handle, surrounding, declaration);
     let own = lesser(again, object);
     lesser(own, twice)
+}
+
+/// The least that the name breaks of what is known so of its declarator, whatever its type is.
+pub fn defined_name_broken(
+    unit: &Unit,
+    _surroundings: &Surroundings,
+    kept: &Declarations,
+    handle: Handle,
+    surrounding: Surrounding,
+    fact: NodeFact,
+) -> Option<Broken>
+    requires whole { unit.now.first ≡ 0 }
+    requires next { length kept.now.facts ≡ handle }
+    requires kept { IsKeptOf (nodes_of unit.now) (surroundings_seen _surroundings.now) kept.now }
+    requires stands { surrounding_seen surrounding ≡ surrounding_at (surroundings_seen _surroundings.now) handle }
+    ensures { option_map broken_seen result ≡ least_broken (meaning_rows.defined_name_broken (nodes_of unit.now) (surroundings_seen _surroundings.now) (facts_seen kept.now) handle (node_seen kept.now.types fact)) }
+{
+    match fact {
+        NodeFact::Declared(declaration) => {
+            definition_broken(unit, &kept.defined, handle, surrounding, declaration)
+        }
+        NodeFact::Unknown => None,
+        NodeFact::Expression(_) => None,
+        NodeFact::Specified(_) => None,
+        NodeFact::NamedType(_) => None,
+    }
 }
 
 // The rules that fail there are appended.

@@ -23,7 +23,7 @@ mod row;
 
 pub use assertion::static_assertion;
 pub use declarations::Declarations;
-pub use declarators::{declarator, with_parts};
+pub use declarators::{declarator, with_passed, without_type};
 pub use declared::declaration;
 pub use ending::unit_end;
 pub use laws::rows_are_told_by_kinds;

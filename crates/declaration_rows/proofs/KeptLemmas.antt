@@ -7,9 +7,9 @@ use Rattle.meaning_typing.specs.DeclarationRows.{is_earlier_definition}
 use Rattle.meaning_typing.specs.Facts as meaning
 use Rattle.meaning_typing.specs.Facts.{Fact, fact_at}
 use Rattle.meaning_typing.specs.Surroundings.{Surrounding, surrounding_at}
-use Rattle.meaning_typing.specs.Units.{UnitNodes}
+use Rattle.meaning_typing.specs.Units.{UnitNodes, kind_at}
 use Rattle.node_facts.specs.Facts.{name_seen}
-use Rattle.declaration_rows.specs.Kept.{AreTentative, is_defined_below, tentative_below, tentative_by}
+use Rattle.declaration_rows.specs.Kept.{AreTentative, declared_by, is_defined_below, tentative_below, tentative_by}
 
 -- Names are seen alike where they have one number
 
@@ -71,20 +71,22 @@ module _ (nodes : UnitNodes) (surroundings : List Surrounding) (facts : List Fac
   earlier_tentative zero within = refl
   earlier_tentative (suc count) within =
       (λ i. earlier_tentative count (omega arith) i
-      ++ tentative_by nodes count (surrounding_at surroundings count) (earlier_fact facts fact count (omega arith) i))
+      ++ tentative_by nodes count (surrounding_at surroundings count) (declared_by (kind_at nodes count) (earlier_fact facts fact count (omega arith) i)))
 
   tentative_more :
       tentative_below nodes surroundings more (length more)
-      ≡ tentative_below nodes surroundings facts (length facts) ++ tentative_by nodes (length facts) (surrounding_at surroundings (length facts)) fact
+      ≡ tentative_below nodes surroundings facts (length facts)
+      ++ tentative_by nodes (length facts) (surrounding_at surroundings (length facts)) (declared_by (kind_at nodes (length facts)) fact)
   tentative_more =
       ap (tentative_below nodes surroundings more) (one_longer facts fact)
       ∙ (λ i. earlier_tentative (length facts) (omega arith) i
-      ++ tentative_by nodes (length facts) (surrounding_at surroundings (length facts)) (last_fact facts fact i))
+      ++ tentative_by nodes (length facts) (surrounding_at surroundings (length facts)) (declared_by (kind_at nodes (length facts)) (last_fact facts fact i)))
 
   pub tentative_kept : (old new : List ℕ) (handle : ℕ) (surrounding : Surrounding) → length facts ≡ handle → surrounding_at surroundings handle ≡ surrounding
-      → new ≡ old ++ tentative_by nodes handle surrounding fact → AreTentative nodes surroundings facts old → AreTentative nodes surroundings more new
+      → new ≡ old ++ tentative_by nodes handle surrounding (declared_by (kind_at nodes handle) fact) → AreTentative nodes surroundings facts old → AreTentative nodes surroundings more new
   tentative_kept old new handle surrounding here stands joins are =
       joins
-      ∙ (λ i. are i ++ tentative_by nodes handle (sym stands i) fact)
-      ∙ (λ i. tentative_below nodes surroundings facts (length facts) ++ tentative_by nodes (sym here i) (surrounding_at surroundings (sym here i)) fact)
+      ∙ (λ i. are i ++ tentative_by nodes handle (sym stands i) (declared_by (kind_at nodes handle) fact))
+      ∙ (λ i. tentative_below nodes surroundings facts (length facts)
+      ++ tentative_by nodes (sym here i) (surrounding_at surroundings (sym here i)) (declared_by (kind_at nodes (sym here i)) fact))
       ∙ sym tentative_more

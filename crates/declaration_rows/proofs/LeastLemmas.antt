@@ -1,8 +1,11 @@
 -- The least of several lists, one after the other.
-use Rattle.std.proofs.Common.{◌≡◌, ℕ, List, [], ◌∷◌, ◌++◌, Option, Some, None, refl, sym, ap, ◌∙◌, arith}
+use Rattle.std.proofs.Common.{◌≡◌, ℕ, Bool, true, false, List, [], ◌∷◌, ◌++◌, Option, Some, None, if◌then◌else◌, refl, sym, ap, ◌∙◌, arith}
 use Rattle.std.proofs.lemmas.Bool.Decides.{nat_tests}
+use Rattle.std.proofs.lemmas.Option.{none-some}
 use Rattle.meaning_operands.specs.Failures.{Broken}
-use Rattle.meaning_rules.specs.Rules.{least_broken, least_token, lesser, lower}
+use Rattle.meaning_rules.specs.Rules.{goes_before, least_broken, least_token, lesser, lower}
+use Rattle.meaning_types.specs.Types.{TypeTree}
+use Rattle.meaning_typing.specs.DeclarationRows.{type_unless}
 use Rattle.expression_rows.proofs.LeastLemmas as rows
 use Rattle.declaration_rows.specs.Parts.{lowest}
 
@@ -20,6 +23,29 @@ least_more least front back =
 pub lesser_none : (least : Option Broken) → lesser least None ≡ least
 lesser_none None = refl
 lesser_none (Some broken) = refl
+
+-- where there is no least, nothing is broken
+
+least_other : (test : Bool) (broken other : Broken) → None ≡ (if test then Some other else Some broken) → ⊥
+least_other true broken other none = none-some other none
+least_other false broken other none = none-some broken none
+
+least_there : (broken : Broken) (others : Option Broken) → None ≡ lesser (Some broken) others → ⊥
+least_there broken None none = none-some broken none
+least_there broken (Some other) none = least_other (goes_before other broken) broken other none
+
+pub nothing_broken : (list : List Broken) → None ≡ least_broken list → list ≡ []
+nothing_broken [] none = refl
+nothing_broken (broken ∷ others) none = absurd (least_there broken (least_broken others) none)
+
+-- Types behind what is broken
+
+pub type_there : (list : List Broken) (made : Option TypeTree) → None ≡ least_broken list → made ≡ type_unless list made
+type_there list made none = ap (λ broken. type_unless broken made) (sym (nothing_broken list none))
+
+pub type_hidden : (list : List Broken) (made : Option TypeTree) (broken : Broken) → Some broken ≡ least_broken list → None ≡ type_unless list made
+type_hidden [] made broken some = absurd (none-some broken (sym some))
+type_hidden (first ∷ others) made broken some = refl
 
 -- Tokens
 

@@ -1,8 +1,9 @@
 mod TypeLemmas
-mod LeastLemmas
+pub mod LeastLemmas
 mod BitwiseLemmas
 mod PartLemmas
 mod ObjectLemmas
+mod CompletedLemmas
 mod KeptLemmas
 mod TentativeLemmas
 mod LinkedLemmas

@@ -4,10 +4,9 @@ use Rattle.meaning_layout.specs.Sizes.{Told}
 use Rattle.meaning_operands.specs.Failures.{Broken}
 use Rattle.meaning_types.specs.Types.{TypeTree}
 use Rattle.meaning_rules.specs.Rules.{least_broken, least_token, lesser}
-use Rattle.meaning_typing.specs.DeclarationRows.{large_parts_of, made_or, part_broken, parts_broken}
-use Rattle.meaning_typing.specs.Declarators.{derived}
+use Rattle.meaning_typing.specs.DeclarationRows.{large_parts_of, made_by_part, made_by_parts, one_part_broken, parts_broken}
 use Rattle.meaning_typing.specs.Facts.{Fact}
-use Rattle.meaning_typing.specs.Units.{UnitNodes, children_at, kind_at}
+use Rattle.meaning_typing.specs.Units.{UnitNodes}
 use Rattle.declaration_rows.specs.Parts.{large_at, lowest}
 use Rattle.declaration_rows.proofs.LeastLemmas.{least_more, lesser_none, lowest_more, lowest_none}
 
@@ -21,21 +20,28 @@ module _ (told : Told) (nodes : UnitNodes) (facts : List Fact) (token : ℕ) whe
   none-large [] = refl
   none-large (part ∷ parts) = refl
 
+  none-made : (parts : List ℕ) → made_by_parts told nodes facts token parts None ≡ None
+  none-made [] = refl
+  none-made (part ∷ parts) = refl
+
   module _ (part : ℕ) (parts : List ℕ) (type_ : TypeTree) (made : Option TypeTree)
-      (is : made ≡ derived nodes facts token (kind_at nodes part) (children_at nodes part) type_) where
-    -- what a part breaks, which makes this, and those behind it
+      (is : made ≡ made_by_part told nodes facts token part type_) where
+    abbrev own_broken : List Broken
+    own_broken = one_part_broken told nodes facts token part type_
+
+    -- what it breaks, and those behind it, which makes this
     abbrev broken_from : Option TypeTree → List Broken
-    broken_from made = part_broken told nodes part (kind_at nodes part) type_ (made_or type_ made) ++ parts_broken told nodes facts token parts made
+    broken_from made = own_broken ++ parts_broken told nodes facts token parts made
 
     abbrev large_from : Option TypeTree → List ℕ
     large_from made = large_at told nodes part made ++ large_parts_of told nodes facts token parts made
 
-    pub broken_step : (least own : Option Broken) → own ≡ least_broken (part_broken told nodes part (kind_at nodes part) type_ (made_or type_ made))
+    pub broken_step : (least own : Option Broken) → own ≡ least_broken own_broken
         → lesser (lesser least own) (least_broken (parts_broken told nodes facts token parts made))
         ≡ lesser least (least_broken (parts_broken told nodes facts token (part ∷ parts) (Some type_)))
     broken_step least own own_is =
         ap (λ one. lesser (lesser least one) (least_broken (parts_broken told nodes facts token parts made))) own_is
-        ∙ least_more least (part_broken told nodes part (kind_at nodes part) type_ (made_or type_ made)) (parts_broken told nodes facts token parts made)
+        ∙ least_more least own_broken (parts_broken told nodes facts token parts made)
         ∙ ap (λ made. lesser least (least_broken (broken_from made))) is
 
     pub large_step : (least own : Option ℕ) → own ≡ least_token (large_at told nodes part made)
@@ -47,8 +53,11 @@ module _ (told : Told) (nodes : UnitNodes) (facts : List Fact) (token : ℕ) whe
         ∙ ap (λ made. lowest least (least_token (large_from made))) is
 
     -- it makes nothing, so it is the last that says something
+    pub made_end : made ≡ None → None ≡ made_by_parts told nodes facts token (part ∷ parts) (Some type_)
+    made_end none = sym (none-made parts) ∙ ap (made_by_parts told nodes facts token parts) (sym none ∙ is)
+
     pub broken_end : (least own : Option Broken) → made ≡ None
-        → own ≡ least_broken (part_broken told nodes part (kind_at nodes part) type_ (made_or type_ made))
+        → own ≡ least_broken own_broken
         → lesser least own ≡ lesser least (least_broken (parts_broken told nodes facts token (part ∷ parts) (Some type_)))
     broken_end least own none own_is =
         sym (lesser_none (lesser least own))

@@ -4,9 +4,9 @@ use Rattle.std.specs.List.{flat_map}
 use Rattle.std.proofs.lemmas.Grind.{flat_map-append}
 use Rattle.meaning_layout.specs.Sizes.{Told}
 use Rattle.meaning_operands.specs.Failures.{Broken}
-use Rattle.meaning_typing.specs.DeclarationRows.{has_initializer, is_declaration_kind, is_extern_said, is_tentative, tentative_broken, tentative_of, unit_end_broken}
+use Rattle.meaning_typing.specs.DeclarationRows.{fact_of_declarator, has_initializer, is_declaration_kind, is_extern_said, is_tentative, tentative_broken, tentative_of, unit_end_broken}
 use Rattle.meaning_typing.specs.Declarators.{in_file, is_function, specifiers_of}
-use Rattle.meaning_typing.specs.Facts.{Fact, Unknown, Expression, Specified, Declared, NamedType, DeclaredFact, fact_at}
+use Rattle.meaning_typing.specs.Facts.{Fact, Unknown, Expression, Specified, Declared, NamedType, DeclaredFact}
 use Rattle.meaning_typing.specs.Names.{type_of_name}
 use Rattle.meaning_typing.specs.Surroundings.{Surrounding, surrounding_at}
 use Rattle.meaning_typing.specs.Units.{UnitNodes, kind_at, node_at}
@@ -71,7 +71,7 @@ module _ (told : Told) (nodes : UnitNodes) (surroundings : List Surrounding) (fa
   end_told zero = refl
   end_told (suc count) =
       let surrounding = surrounding_at surroundings count in
-      let fact = fact_at facts count in
+      let fact = fact_of_declarator nodes facts count in
       let own = tentative_by nodes count surrounding fact in
       flat_map-append (at_end told nodes surroundings facts) (tentative_below nodes surroundings facts count) own
       ∙ ap (λ others. others ++ flat_map (at_end told nodes surroundings facts) own) (end_told count)

@@ -1,12 +1,13 @@
 -- What is kept of declarations while nodes come in their order, and what it is kept of.
 use Rattle.std.specs.Prelude.{◌≡◌, ℕ, zero, suc, Bool, ◌&&◌, not, nat_eq, false, List, [], ◌∷◌, ◌++◌, get_or, length, if◌then◌else◌}
 use Rattle.std.specs.List.{list_any}
+use Rattle.vocabulary.specs.declared.node_kind.NodeKind.{NodeKind}
 use Rattle.sparse_model.specs.declared.ids.NameId.{NameId}
 use Rattle.meaning_layout.specs.Sizes.{Told}
 use Rattle.meaning_operands.specs.Failures.{Broken}
-use Rattle.meaning_typing.specs.DeclarationRows.{has_initializer, is_declaration_kind, is_earlier_definition, tentative_of}
-use Rattle.meaning_typing.specs.Declarators.{in_file, is_function}
-use Rattle.meaning_typing.specs.Facts.{Fact, Declared, DeclaredFact, fact_at}
+use Rattle.meaning_typing.specs.DeclarationRows.{fact_of_declarator, has_initializer, is_declaration_kind, is_earlier_definition, tentative_of}
+use Rattle.meaning_typing.specs.Declarators.{in_file, is_declarator, is_function}
+use Rattle.meaning_typing.specs.Facts.{Fact, Unknown, Declared, DeclaredFact, fact_at}
 use Rattle.meaning_typing.specs.Names.{linked_types}
 use Rattle.meaning_typing.specs.Surroundings.{Surrounding, surrounding_at}
 use Rattle.meaning_typing.specs.Tags.{is_any_below}
@@ -52,11 +53,16 @@ abbrev pub tentative_by : UnitNodes → (handle : ℕ) → Surrounding → Fact 
 tentative_by nodes handle surrounding (Declared declaration) = if may_be_tentative nodes surrounding declaration then handle ∷ [] else []
 tentative_by nodes handle surrounding fact = []
 
+-- an initializer declares nothing itself
+abbrev pub declared_by : NodeKind → Fact → Fact
+declared_by kind fact = if is_declarator kind then fact else Unknown
+
 -- the handles of those among the first so many nodes, in order
 abbrev pub tentative_below : UnitNodes → List Surrounding → List Fact → (count : ℕ) → List ℕ
 tentative_below nodes surroundings facts zero = []
 tentative_below nodes surroundings facts (suc count) =
-    tentative_below nodes surroundings facts count ++ tentative_by nodes count (surrounding_at surroundings count) (fact_at facts count)
+    tentative_below nodes surroundings facts count
+    ++ tentative_by nodes count (surrounding_at surroundings count) (declared_by (kind_at nodes count) (fact_at facts count))
 
 -- these are the handles of those among the nodes of which this is known
 abbrev pub AreTentative : UnitNodes → List Surrounding → List Fact → (handles : List ℕ) → Type 0
@@ -65,7 +71,7 @@ AreTentative nodes surroundings facts handles = handles ≡ tentative_below node
 -- what the node with this handle breaks at the end of the unit
 abbrev pub at_end : Told → UnitNodes → List Surrounding → List Fact → (handle : ℕ) → List Broken
 at_end told nodes surroundings facts handle =
-    tentative_of told nodes facts (node_at nodes handle).token (surrounding_at surroundings handle) (fact_at facts handle)
+    tentative_of told nodes facts (node_at nodes handle).token (surrounding_at surroundings handle) (fact_of_declarator nodes facts handle)
 
 -- Names that are hidden
 

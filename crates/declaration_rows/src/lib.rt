@@ -8,6 +8,7 @@
 
 mod bitwise;
 mod complete;
+mod completed;
 mod declarator;
 mod definitions;
 mod failures;
@@ -23,6 +24,7 @@ mod undeclared;
 
 pub use bitwise::{bitwise_broken, own_bitwise_broken};
 pub use complete::{incomplete_name, is_no_object, is_unbounded};
+pub use completed::declared_behind;
 pub use declarator::{DeclaratorParts, declarator_parts};
 pub use definitions::{DefinedNames, definition_broken};
 pub use hiding::{hiding_declarator_failure, hiding_enumerator_failure};

@@ -25,7 +25,8 @@ use node_surroundings::Surrounding;
 use sparse_model::{NodeKind, TypeId};
 use tag_list::TagList;
 
-fn is_list(kind: NodeKind) -> bool
+/// Whether a node of this kind is a list of attributes.
+pub fn is_list(kind: NodeKind) -> bool
     ensures { result ≡ is_list kind }
 {
     match kind {
@@ -34,7 +35,8 @@ fn is_list(kind: NodeKind) -> bool
     }
 }
 
-fn is_initializer(kind: NodeKind) -> bool
+/// Whether a node of this kind is an initializer.
+pub fn is_initializer(kind: NodeKind) -> bool
     ensures { result ≡ meaning.is_initializer kind }
 {
     match kind {

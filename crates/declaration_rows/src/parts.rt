@@ -1,12 +1,13 @@
 // The parts of a declarator (C11 6.7.6), from the specified type outwards: nodes and what is known of them in, the type that they
 // make, the least that they break and the least array that is too large out. Where the declarator stands isn't known here.
-ghost use Rattle.std.specs.Prelude.{◌≡◌, All, IfOk, IfSome, OnOk, Some, option_map};
+ghost use Rattle.std.specs.Prelude.{◌≡◌, All, IfOk, IfSome, List, OnOk, Some, option_map};
+ghost use Rattle.meaning_operands.specs.Failures as failures;
 ghost use Rattle.meaning_rules.specs.Rules.{least_broken, least_token};
 ghost use Rattle.meaning_typing.specs.DeclarationRows as meaning;
 ghost use Rattle.meaning_typing.specs.Declarators as declarators;
-ghost use Rattle.meaning_typing.specs.Units.{children_at, kind_at as kind_of};
+ghost use Rattle.meaning_typing.specs.Units.{kind_at as kind_of};
 ghost use Rattle.c_types.specs.Layouts.{told_in};
-ghost use Rattle.c_types.specs.Table.{IsTypeId, type_at};
+ghost use Rattle.c_types.specs.Table.{IsTypeId, TypeTable, type_at};
 ghost use Rattle.decl_judge.specs.Units.{handles_of, nodes_of};
 ghost use Rattle.expression_rows.specs.Rows.{broken_seen};
 ghost use Rattle.node_facts.specs.Facts.{IsKnownNodeFact, nodes_seen};
@@ -28,7 +29,7 @@ use tag_list::TagList;
 /// What is found of the parts of a declarator.
 #[derive(Clone, Copy, Debug, PartialEq, Eq)]
 pub struct JudgedParts {
-    /// The type that they make, if each makes one.
+    /// The type that they make, if each makes one and none breaks something.
     pub made: Option<TypeId>,
     /// The least constraint that they break.
     pub broken: Option<Broken>,
@@ -119,6 +120,17 @@ fn part_broken_by(
     }
 }
 
+// Behind what is broken there is no type.
+fn type_unless(broken: Option<Broken>, made: Option<TypeId>) -> Option<TypeId>
+    ensures made { (table : TypeTable) (list : List failures.Broken) → option_map broken_seen broken ≡ least_broken list → option_map (type_at table) result ≡ meaning.type_unless list (option_map (type_at table) made) }
+    ensures known { (table : TypeTable) → IfSome made (IsTypeId table) → IfSome result (IsTypeId table) }
+{
+    match broken {
+        None => made,
+        Some(_broken) => None,
+    }
+}
+
 fn is_array_part(kind: NodeKind) -> bool
     ensures { result ≡ declarators.is_array_part kind }
 {
@@ -176,16 +188,18 @@ fn judge_part(
     requires whole { unit.now.first ≡ 0 }
     requires facts { All (IsKnownNodeFact types.old) facts.now }
     requires of { IsTypeId types.old of }
-    ensures made { IfOk result (λ judged. option_map (type_at types.new) judged.made ≡ declarators.derived (nodes_of unit.now) (nodes_seen types.old facts.now) token (kind_of (nodes_of unit.now) part) (children_at (nodes_of unit.now) part) (type_at types.old of)) }
+    ensures made { IfOk result (λ judged. option_map (type_at types.new) judged.made ≡ meaning.made_by_part (told_in types.old) (nodes_of unit.now) (nodes_seen types.old facts.now) token part (type_at types.old of)) }
     ensures known { IfOk result (λ judged. IfSome judged.made (IsTypeId types.new)) }
-    ensures broken { IfOk result (λ judged. option_map broken_seen judged.broken ≡ least_broken (meaning.part_broken (told_in types.old) (nodes_of unit.now) part (kind_of (nodes_of unit.now) part) (type_at types.old of) (meaning.made_or (type_at types.old of) (option_map (type_at types.new) judged.made)))) }
+    ensures broken { IfOk result (λ judged. option_map broken_seen judged.broken ≡ least_broken (meaning.one_part_broken (told_in types.old) (nodes_of unit.now) (nodes_seen types.old facts.now) token part (type_at types.old of))) }
     ensures passed { IfOk result (λ judged. judged.passed ≡ least_token (large_at (told_in types.old) (nodes_of unit.now) part (option_map (type_at types.new) judged.made))) }
     ensures keeps { OnOk result (TypesJoin types.old types.new) }
 {
-    let made = derived(alloc, unit, facts, types, token, part, of)?;
+    let type_made = derived(alloc, unit, facts, types, token, part, of)?;
+    let broken = part_broken_by(unit, types, part, of, type_made);
+    let made = type_unless(broken, type_made);
     Ok(JudgedParts {
         made,
-        broken: part_broken_by(unit, types, part, of, made),
+        broken,
         passed: large_part(unit, types, part, made),
     })
 }
@@ -204,7 +218,7 @@ pub fn judge_parts(
     requires whole { unit.now.first ≡ 0 }
     requires facts { All (IsKnownNodeFact types.old) facts.now }
     requires of { IsTypeId types.old of }
-    ensures made { IfOk result (λ judged. option_map (type_at types.new) judged.made ≡ declarators.derived_by (nodes_of unit.now) (nodes_seen types.old facts.now) token (handles_of parts.now) (type_at types.old of)) }
+    ensures made { IfOk result (λ judged. option_map (type_at types.new) judged.made ≡ meaning.made_by_parts (told_in types.old) (nodes_of unit.now) (nodes_seen types.old facts.now) token (handles_of parts.now) (Some (type_at types.old of))) }
     ensures known { IfOk result (λ judged. IfSome judged.made (IsTypeId types.new)) }
     ensures broken { IfOk result (λ judged. option_map broken_seen judged.broken ≡ least_broken (meaning.parts_broken (told_in types.old) (nodes_of unit.now) (nodes_seen types.old facts.now) token (handles_of parts.now) (Some (type_at types.old of)))) }
     ensures passed { IfOk result (λ judged. judged.passed ≡ least_token (meaning.large_parts_of (told_in types.old) (nodes_of unit.now) (nodes_seen types.old facts.now) token (handles_of parts.now) (Some (type_at types.old of)))) }

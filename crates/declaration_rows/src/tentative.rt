@@ -8,14 +8,14 @@ ghost use Rattle.meaning_typing.specs.Declarators as declarators;
 ghost use Rattle.meaning_typing.specs.Facts.{Declared, Fact};
 ghost use Rattle.meaning_typing.specs.Names as names;
 ghost use Rattle.meaning_typing.specs.Surroundings as around;
-ghost use Rattle.meaning_typing.specs.Units.{node_at as node_of_unit};
+ghost use Rattle.meaning_typing.specs.Units.{kind_at as kind_of, node_at as node_of_unit};
 ghost use Rattle.c_types.specs.Layouts.{told_in};
 ghost use Rattle.c_types.specs.Table.{Extends, IsTypeId, TypeTable, type_at};
 ghost use Rattle.decl_judge.specs.Units.{nodes_of};
 ghost use Rattle.expression_rows.specs.Rows.{broken_seen};
 ghost use Rattle.node_facts.specs.Facts.{IsKnownNodeFact, declared_seen, node_seen, nodes_seen, specified_seen};
 ghost use Rattle.node_surroundings.specs.Seen.{surrounding_seen, surroundings_seen};
-ghost use Rattle.declaration_rows.specs.Kept.{AreLinked, AreTentative, at_end, may_be_tentative, tentative_by};
+ghost use Rattle.declaration_rows.specs.Kept.{AreLinked, AreTentative, at_end, declared_by, may_be_tentative, tentative_by};
 
 use crate::complete::{incomplete_name, is_no_object, is_unbounded};
 use crate::objects::{has_initializer, in_file, is_declaration_kind};
@@ -27,7 +27,7 @@ use expression_rows::{Broken, is_function, lesser};
 use linked_names::LinkedNames;
 use node_facts::{DeclaredFact, NodeFact, NodeFacts, SpecifiedFact};
 use node_surroundings::{Surrounding, Surroundings};
-use sparse_model::TypeId;
+use sparse_model::{NodeKind, TypeId};
 use std::alloc::{AllocError, Global};
 use std::marker::Model;
 
@@ -81,6 +81,18 @@ pub fn is_tentative(
 {
     may_be_tentative(unit, types, surrounding, declaration)
         && !is_extern(unit, types, facts, surrounding.parent)
+}
+
+// An initializer has what its declarator declares, and is none.
+fn fact_of_declarator(unit: &Unit, handle: Handle, fact: NodeFact) -> NodeFact
+    requires { unit.now.first ≡ 0 }
+    ensures seen { (table : TypeTable) → node_seen table result ≡ declared_by (kind_of (nodes_of unit.now) handle) (node_seen table fact) }
+    ensures known { (table : TypeTable) → IsKnownNodeFact table fact → IsKnownNodeFact table result }
+{
+    match kind_at(unit, handle) {
+        NodeKind::Declarator => fact,
+        _ => NodeFact::Unknown,
+    }
 }
 
 /// What a tentative object, whose name has this type, breaks at its name at the end of the unit: a length may be missing, and behind a
@@ -204,6 +216,7 @@ impl TentativeObjects {
         ensures kept { OnOk result ((surroundings : List around.Surrounding) (known : List Fact) → length known ≡ handle → around.surrounding_at surroundings handle ≡ surrounding_seen surrounding → AreTentative (nodes_of unit.now) surroundings known self.old → AreTentative (nodes_of unit.now) surroundings (known ++ node_seen types.now fact ∷ []) self.new) }
         ensures err { OnErr result (self.new ≡ self.old) }
     {
+        let fact = fact_of_declarator(unit, handle, fact);
         self.keep_fact(unit, types, handle, surrounding, fact)
     }
 }
@@ -248,7 +261,7 @@ fn node_at_end(
     ensures { option_map broken_seen result ≡ least_broken (at_end (told_in types.now) (nodes_of unit.now) (surroundings_seen surroundings.now) (nodes_seen types.now facts.now) handle) }
 {
     let surrounding = standing_at(unit, surroundings, handle);
-    match facts.at(handle) {
+    match fact_of_declarator(unit, handle, facts.at(handle)) {
         NodeFact::Declared(declaration) => {
             declaration_at_end(unit, types, facts, linked, handle, surrounding, declaration)
         }

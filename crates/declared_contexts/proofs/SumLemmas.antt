@@ -1,8 +1,9 @@
 -- Sums come to the same from the first attribute to the last, as the definition has them from the last one on.
-use Rattle.std.proofs.Common.{◌≡◌, ℕ, ◌+◌, List, [], ◌∷◌, ◌++◌, Option, Some, None, refl, sym, ap, ◌∙◌, arith}
+use Rattle.std.proofs.Common.{◌≡◌, ℕ, ◌+◌, true, false, List, [], ◌∷◌, ◌++◌, Option, Some, None, if◌then◌else◌, refl, sym, ap, ◌∙◌, arith}
 use Rattle.vocabulary.specs.declared.node_kind.NodeKind.{NodeKind}
 use Rattle.vocabulary.specs.declared.node_kind.NodeKind.TheVariants as kinds
-use Rattle.meaning_typing.specs.ContextSums.{ContextSums, contexts_of, sums_among, sums_before, sums_with}
+use Rattle.meaning_typing.specs.ContextSums.{ContextSums, attributes_of_declarator, contexts_of, sums_among, sums_before, sums_with}
+use Rattle.meaning_typing.specs.Declarators.{is_declarator}
 use Rattle.meaning_typing.specs.Surroundings.{Surrounding}
 use Rattle.meaning_typing.specs.Units.{UnitNodes, kind_at}
 use Rattle.declared_contexts.specs.Sums.{attributes_standing, sums_over}
@@ -51,8 +52,16 @@ module _ (nodes : UnitNodes) where
       over_append sums (one ++ two ++ three) four
       ∙ ap (λ before. sums_over nodes before four) (over_append sums (one ++ two) three ∙ ap (λ before. sums_over nodes before three) (over_append sums one two))
 
-  pub standing-contexts : (declarator parent place : ℕ) (surrounding : Surrounding) → surrounding.parent ≡ parent → surrounding.place ≡ place
+  pub standing-contexts : (declarator parent place : ℕ) → is_declarator (kind_at nodes declarator) ≡ true
+      → (surrounding : Surrounding) → surrounding.parent ≡ parent → surrounding.place ≡ place
       → sums_over nodes None (attributes_standing nodes declarator parent place) ≡ contexts_of nodes declarator surrounding
-  standing-contexts declarator parent place surrounding above at =
+  standing-contexts declarator parent place is surrounding above at =
       over-among (attributes_standing nodes declarator parent place)
       ∙ (λ i. sums_among nodes (attributes_standing nodes declarator (sym above i) (sym at i)))
+      ∙ ap (λ test. if test then sums_among nodes (attributes_of_declarator nodes declarator surrounding) else None) (sym is)
+
+  -- what is no declarator carries none
+  pub no-contexts : (declarator : ℕ) (surrounding : Surrounding) → is_declarator (kind_at nodes declarator) ≡ false
+      → None ≡ contexts_of nodes declarator surrounding
+  no-contexts declarator surrounding is =
+      ap (λ test. if test then sums_among nodes (attributes_of_declarator nodes declarator surrounding) else None) (sym is)

@@ -1,6 +1,7 @@
 // The contexts of a declarator: those among the specifiers, before and behind it, and in parentheses around a part of it.
 ghost use Rattle.std.specs.Prelude.{◌≡◌, IfOk, None, option_map};
 ghost use Rattle.meaning_typing.specs.ContextSums as meaning;
+ghost use Rattle.meaning_typing.specs.Declarators.{is_declarator};
 ghost use Rattle.meaning_typing.specs.Surroundings.{Surrounding};
 ghost use Rattle.meaning_typing.specs.Tags.{attributes_of_specifiers, tag_attributes};
 ghost use Rattle.meaning_typing.specs.Units.{children_at, kind_at as kind_of};
@@ -125,8 +126,17 @@ fn over_all(
     over_lists_behind(unit, within, parent, place)
 }
 
+fn is_declarator(kind: NodeKind) -> bool
+    ensures { result ≡ is_declarator kind }
+{
+    match kind {
+        NodeKind::Declarator => true,
+        _ => false,
+    }
+}
+
 /// The sums of the contexts of the declarator at this place below a node, if it carries some: those among the specifiers, before
-/// and behind it, and in parentheses around a part of it. A sum that doesn't fit in 64 bits is want of memory. It takes a step
+/// and behind it, and in parentheses around a part of it. Another node carries none. A sum that doesn't fit in 64 bits is want of memory. It takes a step
 /// for each attribute, and for each part and specifier.
 pub fn contexts_of(
     unit: &Unit,
@@ -137,5 +147,8 @@ pub fn contexts_of(
     requires { unit.now.first ≡ 0 }
     ensures { IfOk result (λ sums. (surrounding : Surrounding) → surrounding.parent ≡ parent → surrounding.place ≡ place → option_map sums_of sums ≡ meaning.contexts_of (nodes_of unit.now) declarator surrounding) }
 {
+    if !is_declarator(kind_at(unit, declarator)) {
+        return Ok(None);
+    }
     over_all(unit, declarator, parent, place)
 }

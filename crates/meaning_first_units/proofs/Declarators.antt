@@ -11,7 +11,7 @@ use Rattle.meaning_operands.specs.Failures.{Broken}
 use Rattle.meaning_operands.specs.Operands.{is_integer}
 use Rattle.meaning_first_rules.specs.Typing.{behind_stars, int_with}
 use Rattle.meaning_typing.specs.Aggregates.{KnownAggregates}
-use Rattle.meaning_typing.specs.DeclarationRows.{begins_with_initializer, declarator_parts_broken, declared_object_broken, definition_broken, defines, has_initializer, is_declaration_kind, is_definition_kind, is_earlier_definition, made_or, object_broken, own_bitwise_broken, part_broken, parts_broken}
+use Rattle.meaning_typing.specs.DeclarationRows.{begins_with_initializer, declarator_parts_broken, declared_object_broken, definition_broken, defines, has_initializer, is_declaration_kind, is_definition_kind, is_earlier_definition, made_by_part, made_by_parts, made_or, object_broken, one_part_broken, own_bitwise_broken, part_broken, parts_broken, type_unless}
 use Rattle.meaning_typing.specs.Declarators.{adjusted_in, declared, declared_if, declared_type, declarator_fact, declares_with_linkage, derived, derived_by, in_file, leading_lists, links, lists_before, lists_behind, lists_in_front, own_marks, specified_by, specifiers_of}
 use Rattle.meaning_typing.specs.Facts.{Fact, Specified, Declared, SpecifiedFact, DeclaredFact, fact_at}
 use Rattle.meaning_typing.specs.MemberRows.{aggregates_before, is_member_declaration, member_declarator_row}
@@ -22,7 +22,7 @@ use Rattle.meaning_typing.specs.Tags.{any_type_said, attributes_of_specifiers, b
 use Rattle.meaning_typing.specs.Typing.{token_at}
 use Rattle.meaning_typing.specs.Units.{UnitNodes, child_at, children_at, kind_at, node_at}
 use Rattle.meaning_typing.specs.Wholes.{loaded_broken}
-use Rattle.meaning_typing.specs.WholeTyping.{declaration_broken, declaration_row_by, declared_row, whole_constant_at, whole_declarator_row, whole_row_at, whole_row_by}
+use Rattle.meaning_typing.specs.WholeTyping.{declaration_broken, declaration_row_by, declared_row, declared_unless, own_name_broken, whole_constant_at, whole_declarator_row, whole_row_at, whole_row_by}
 use Rattle.meaning_first_units.proofs.Rows.{row-known}
 use Rattle.meaning_first_units.proofs.Scalars.{scalar}
 
@@ -107,6 +107,8 @@ module _ (nodes : UnitNodes) (surroundings : List Surrounding) (earlier : List F
 pub record Stars (nodes : UnitNodes) (parts : List ℕ) (stars : ℕ) : Type 0 where
   pub derive : (facts : List Fact) (identity : ℕ) (type_ : TypeTree) → derived_by nodes facts identity parts type_ ≡ Some (behind_stars stars type_)
   pub unbroken : (told : Told) (facts : List Fact) (identity : ℕ) (type_ : TypeTree) → parts_broken told nodes facts identity parts (Some type_) ≡ []
+  pub made : (told : Told) (facts : List Fact) (identity : ℕ) (type_ : TypeTree)
+      → made_by_parts told nodes facts identity parts (Some type_) ≡ Some (behind_stars stars type_)
 
 nothing-bitwise : (nodes : UnitNodes) (type_ : TypeTree) → bitwise_broken nodes [] type_ ≡ []
 nothing-bitwise nodes type_ = by (is_integer type_)
@@ -116,31 +118,48 @@ nothing-bitwise nodes type_ = by (is_integer type_)
     by false = refl
 
 pub no-stars : (nodes : UnitNodes) → Stars nodes [] 0
-no-stars nodes = record { derive = λ facts identity type_. refl; unbroken = λ told facts identity type_. refl }
+no-stars nodes = record { derive = λ facts identity type_. refl; unbroken = λ told facts identity type_. refl; made = λ told facts identity type_. refl }
 
 pub one-star :
     (nodes : UnitNodes) (part : ℕ) (parts : List ℕ) (stars : ℕ) → kind_at nodes part ≡ kinds.PointerDeclarator → children_at nodes part ≡ []
     → Stars nodes parts stars → Stars nodes (part ∷ parts) (suc stars)
-one-star nodes part parts stars is_kind none behind = record { derive = derive_all; unbroken = whole }
+one-star nodes part parts stars is_kind none behind = record { derive = derive_all; unbroken = whole; made = made_all }
   where
-    made : (facts : List Fact) (identity : ℕ) (type_ : TypeTree)
+    derives : (facts : List Fact) (identity : ℕ) (type_ : TypeTree)
         → derived nodes facts identity (kind_at nodes part) (children_at nodes part) type_ ≡ Some (pointer_to type_)
-    made facts identity type_ =
+    derives facts identity type_ =
         ap (λ kind. derived nodes facts identity kind (children_at nodes part) type_) is_kind
         ∙ ap (λ children. derived nodes facts identity kinds.PointerDeclarator children type_) none
 
     derive_all : (facts : List Fact) (identity : ℕ) (type_ : TypeTree) → derived_by nodes facts identity (part ∷ parts) type_ ≡ Some (behind_stars (suc stars) type_)
     derive_all facts identity type_ =
-        ap (option_and_then (derived_by nodes facts identity parts)) (made facts identity type_)
+        ap (option_and_then (derived_by nodes facts identity parts)) (derives facts identity type_)
         ∙ behind.derive facts identity (pointer_to type_) ∙ ap Some (star-inside stars type_)
+
+    one : (told : Told) (facts : List Fact) (identity : ℕ) (type_ : TypeTree) → one_part_broken told nodes facts identity part type_ ≡ []
+    one told facts identity type_ =
+        ap (λ m. part_broken told nodes part (kind_at nodes part) type_ (made_or type_ m)) (derives facts identity type_)
+        ∙ ap (λ kind. part_broken told nodes part kind type_ (pointer_to type_)) is_kind
+        ∙ ap (λ children. bitwise_broken nodes (attributes_among nodes children) (pointer_to type_)) none
+        ∙ nothing-bitwise nodes (pointer_to type_)
+
+    makes : (told : Told) (facts : List Fact) (identity : ℕ) (type_ : TypeTree) → made_by_part told nodes facts identity part type_ ≡ Some (pointer_to type_)
+    makes told facts identity type_ =
+        ap (λ broken. type_unless broken (derived nodes facts identity (kind_at nodes part) (children_at nodes part) type_)) (one told facts identity type_)
+        ∙ derives facts identity type_
 
     whole : (told : Told) (facts : List Fact) (identity : ℕ) (type_ : TypeTree) → parts_broken told nodes facts identity (part ∷ parts) (Some type_) ≡ []
     whole told facts identity type_ =
-        let behind_all : Option TypeTree → List Broken = parts_broken told nodes facts identity parts in
-        ap (λ m. part_broken told nodes part (kind_at nodes part) type_ (made_or type_ m) ++ behind_all m) (made facts identity type_)
-        ∙ ap (λ kind. part_broken told nodes part kind type_ (pointer_to type_) ++ behind_all (Some (pointer_to type_))) is_kind
-        ∙ ap (λ children. bitwise_broken nodes (attributes_among nodes children) (pointer_to type_) ++ behind_all (Some (pointer_to type_))) none
+        ap (λ broken. broken ++ parts_broken told nodes facts identity parts (made_by_part told nodes facts identity part type_)) (one told facts identity type_)
+        ∙ ap (parts_broken told nodes facts identity parts) (makes told facts identity type_)
         ∙ behind.unbroken told facts identity (pointer_to type_)
+
+    made_all : (told : Told) (facts : List Fact) (identity : ℕ) (type_ : TypeTree)
+        → made_by_parts told nodes facts identity (part ∷ parts) (Some type_) ≡ Some (behind_stars (suc stars) type_)
+    made_all told facts identity type_ =
+        ap (made_by_parts told nodes facts identity parts) (makes told facts identity type_)
+        ∙ behind.made told facts identity (pointer_to type_)
+        ∙ ap Some (star-inside stars type_)
 
 -- what an object that is declared `extern` at file scope is
 abbrev pub object_declared : UnitNodes → Surrounding → (name : List ℕ) → (stars : ℕ) → Flags → DeclaredFact
@@ -214,9 +233,9 @@ module _ (nodes : UnitNodes) (surroundings : List Surrounding) (earlier : List F
     parts-unbroken : declarator_parts_broken told nodes earlier handle surrounding (specifiers_of nodes earlier parent) ≡ []
     parts-unbroken =
         ap (declarator_parts_broken told nodes earlier handle surrounding) specified
-        ∙ ap (λ broken. broken ++ own_bitwise_broken nodes parent 1 (derived_by nodes earlier token (children_at nodes handle) (int_with flags)))
+        ∙ ap (λ broken. broken ++ own_bitwise_broken nodes parent 1 (made_by_parts told nodes earlier token (children_at nodes handle) (Some (int_with flags))))
         (of_stars.unbroken told earlier token (int_with flags))
-        ∙ ap (own_bitwise_broken nodes parent 1) (of_stars.derive earlier token (int_with flags))
+        ∙ ap (own_bitwise_broken nodes parent 1) (of_stars.made told earlier token (int_with flags))
         ∙ ap (λ lists. bitwise_broken nodes (attributes_among nodes lists) (scalar stars flags)) no-lists
         ∙ nothing-bitwise nodes (scalar stars flags)
 
@@ -244,7 +263,8 @@ module _ (nodes : UnitNodes) (surroundings : List Surrounding) (earlier : List F
     declarator-known : (whole_declarator_row told nodes surroundings earlier handle (surrounding_at surroundings handle)).fact ≡ Declared what
     declarator-known =
         ap (λ s. (whole_declarator_row told nodes surroundings earlier handle s).fact) around
-        ∙ ap (λ broken. unless_broken broken (declared_row told nodes surroundings earlier handle surrounding).fact) parts-unbroken
+        ∙ ap (λ broken. (declared_unless broken (own_name_broken nodes surroundings earlier handle surrounding)
+        (declared_row told nodes surroundings earlier handle surrounding)).fact) parts-unbroken
         ∙ declares
 
   pub declarator-fact : (whole_row_at nodes surroundings earlier handle).fact ≡ Declared what

@@ -11,7 +11,7 @@ use Rattle.meaning_typing.specs.EnumRows.{enumerator_name_fact, is_enumerator}
 use Rattle.meaning_typing.specs.Expressions.{address_row, assigned, assignment_row, has_address, indirection_of, indirection_row, store_broken}
 use Rattle.meaning_typing.specs.Facts.{Fact, Unknown, Expression, Specified, Declared, NamedType, ExpressionFact, SpecifiedFact, fact_at, type_of_value}
 use Rattle.meaning_typing.specs.MemberRows.{aggregates_before, is_member_declaration, member_declarator_row}
-use Rattle.meaning_typing.specs.Names.{name_row}
+use Rattle.meaning_typing.specs.Names.{declared_behind, name_row}
 use Rattle.meaning_typing.specs.Rows.{Row, known, nothing, unless_broken}
 use Rattle.meaning_typing.specs.Specifiers.{Words, words_of}
 use Rattle.meaning_typing.specs.Surroundings.{Surrounding, Want, surrounding_at}
@@ -19,7 +19,7 @@ use Rattle.meaning_typing.specs.Tags.{any_type_said, attributes_of_specifiers, s
 use Rattle.meaning_typing.specs.Typing.{part_fact, part_token, row_with_constant, token_at, with_constant}
 use Rattle.meaning_typing.specs.Units.{UnitNodes, children_at, kind_at, node_at}
 use Rattle.meaning_typing.specs.Wholes.{as_stored, row_loaded}
-use Rattle.meaning_typing.specs.WholeTyping.{declaration_row_by, declared_row, whole_constant_at, whole_declarator_row, whole_row_at, whole_row_by, whole_row_of}
+use Rattle.meaning_typing.specs.WholeTyping.{declaration_row_by, declared_row, declared_unless, whole_constant_at, whole_declarator_row, whole_row_at, whole_row_by, whole_row_of}
 
 -- nothing is declared
 abbrev pub NotDeclared : Fact → Type 0
@@ -64,6 +64,10 @@ loaded-named : (name : List ℕ) (told : Told) (token : ℕ) (want : Want) (cons
 loaded-named name told token want constant row named = unless-named name _ (with_constant constant row.fact) (constant-named name constant row.fact named)
 
 -- Rows
+
+declared-if-named : (name : List ℕ) (parts names : List Broken) (row : Row) → NamedSo name row.fact → NamedSo name (declared_unless parts names row).fact
+declared-if-named name [] names row named = named
+declared-if-named name (broken ∷ others) names row named = tt
 
 either : (P : Row → Type 0) (test : Bool) (row other : Row) → P row → P other → P (if test then row else other)
 either P true row other one two = one
@@ -189,8 +193,8 @@ module _ (nodes : UnitNodes) (surroundings : List Surrounding) (earlier : List F
   quiet-by kinds.Name is names =
       let declarator = (node_at nodes handle).number in
       quiet-row (whole_row_of aggregates nodes surroundings earlier handle kinds.Name)
-      (subst (λ kind. QuietRow (if is_enumerator kind then known (enumerator_name_fact nodes surroundings earlier declarator) else name_row earlier (fact_at earlier declarator)))
-      (sym (names refl)) (name-quiet earlier (fact_at earlier declarator)))
+      (subst (λ kind. QuietRow (if is_enumerator kind then known (enumerator_name_fact nodes surroundings earlier declarator) else name_row earlier (declared_behind nodes surroundings earlier declarator)))
+      (sym (names refl)) (name-quiet earlier (declared_behind nodes surroundings earlier declarator)))
   quiet-by kind is names = absurd (never is)
 
   pub nothing-declared :
@@ -227,7 +231,7 @@ module _ (nodes : UnitNodes) (surroundings : List Surrounding) (earlier : List F
       subst (λ kind. NamedSo name (whole_row_by aggregates nodes surroundings earlier handle kind).fact) (sym is_kind)
       (loaded-named name told (token_at nodes handle) surrounding.want (whole_constant_at aggregates nodes surroundings earlier handle)
       (whole_declarator_row told nodes surroundings earlier handle surrounding)
-      (unless-named name _ (declared_row told nodes surroundings earlier handle surrounding).fact
+      (declared-if-named name _ _ (declared_row told nodes surroundings earlier handle surrounding)
       (subst (λ (b : Bool). NamedSo name (if b then member_declarator_row nodes surroundings told earlier handle surrounding
       else declaration_row_by told nodes surroundings earlier handle surrounding (declarator_fact nodes surrounding earlier handle specifiers)).fact) (sym no_member)
       (declared-named (declarator_fact nodes surrounding earlier handle specifiers) told surrounding name (fact-named surrounding specifiers)))))

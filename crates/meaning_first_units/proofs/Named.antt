@@ -1,5 +1,5 @@
 -- What is known of names in statements of the first form.
-use Rattle.std.proofs.Common.{◌≡◌, ℕ, ◌-◌, ◌<◌, ◌⊎◌, inl, inr, Bool, true, false, ◌||◌, List, [], ◌∷◌, length, take, get_or, Contains, Some, slice_get, if◌then◌else◌, refl, sym, ap, subst, ◌∙◌, arith, length-take}
+use Rattle.std.proofs.Common.{◌≡◌, ℕ, ◌-◌, ◌<◌, ◌⊎◌, inl, inr, Bool, true, false, ◌||◌, List, [], ◌∷◌, length, take, drop, get_or, Contains, Some, slice_get, if◌then◌else◌, refl, sym, ap, subst, ◌∙◌, arith, length-take}
 use Rattle.std.specs.Str.{bytes_eq}
 use Rattle.std.proofs.lemmas.Bool.{and_parts}
 use Rattle.std.proofs.lemmas.Option.{get_or_from_slice_get, slice_get_within}
@@ -16,8 +16,8 @@ use Rattle.meaning_syntax.specs.Items.{Word, Item, Object, Function}
 use Rattle.meaning_syntax.specs.Trees.{unit_tree}
 use Rattle.meaning_first_rules.specs.Typing.{flagged}
 use Rattle.meaning_typing.specs.Facts.{Fact, Unknown, Expression, Declared, DeclaredFact, Addressed, Specified, fact_at}
-use Rattle.meaning_typing.specs.MemberRows.{is_member_declaration}
-use Rattle.meaning_typing.specs.Names.{address_of_name, common_type, linked_types, links_name, type_of_name}
+use Rattle.meaning_typing.specs.MemberRows.{is_member_declaration, is_unbounded}
+use Rattle.meaning_typing.specs.Names.{address_of_name, common_type, declared_behind, declared_with, first_initializer, initializer_behind, linked_types, links_name, type_of_name}
 use Rattle.meaning_typing.specs.Surroundings.{Surrounding, AreSurroundings, asked, of_unit, surrounding_at}
 use Rattle.meaning_typing.specs.Units.{UnitNodes, children_at, kind_at, node_at}
 use Rattle.meaning_typing.specs.WholeTyping.{whole_row_at}
@@ -55,6 +55,10 @@ abbrev is_function_item : Item → Bool
 is_function_item (Object words stars name) = false
 is_function_item (Function name statements) = true
 
+either-same : {A : Type 0} (test : Bool) (one : A) → (if test then one else one) ≡ one
+either-same true one = refl
+either-same false one = refl
+
 -- equal facts declare the same
 abbrev fact_type : TypeTree → Fact → TypeTree
 fact_type otherwise (Declared declaration) = declaration.type_
@@ -87,6 +91,22 @@ module _ (nodes : UnitNodes) (items : List Item) (surroundings : List Surroundin
 
   -- Objects
 
+  object-stands :
+      (parent : ℕ) (words : List Word) (stars : ℕ) (name : List ℕ) (shape : ObjectShape nodes parent words stars name)
+      → surrounding_at surroundings shape.second.0 ≡ asked kinds.Declaration parent 1 (role_of shape.second.1) (surrounding_at surroundings parent)
+  object-stands parent words stars name shape =
+      around-is parent 1 shape.second (ap (λ children. slice_get children 1) shape.parts)
+      ∙ ap (λ kind. asked kind parent 1 (role_of shape.second.1) (surrounding_at surroundings parent)) shape.is_kind
+
+  -- no initializer stands behind it
+  object-alone :
+      (parent : ℕ) (words : List Word) (stars : ℕ) (name : List ℕ) (shape : ObjectShape nodes parent words stars name)
+      → initializer_behind nodes (surrounding_at surroundings shape.second.0) shape.second.0 ≡ shape.second.0
+  object-alone parent words stars name shape =
+      let parts : children_at nodes parent ≡ shape.first.0 ∷ shape.second.0 ∷ [] = ap handles_of shape.parts in
+      ap (λ surrounding. initializer_behind nodes surrounding shape.second.0) (object-stands parent words stars name shape)
+      ∙ ap (λ children. first_initializer nodes shape.second.0 (drop 2 children)) parts
+
   object-declares :
       (parent : ℕ) (words : List Word) (stars : ℕ) (name : List ℕ) (shape : ObjectShape nodes parent words stars name)
       → fact_at facts shape.second.0
@@ -97,9 +117,7 @@ module _ (nodes : UnitNodes) (items : List Item) (surroundings : List Surroundin
       let flags = flagged no_flags words in
       let parts : children_at nodes parent ≡ first ∷ second ∷ [] = ap handles_of shape.parts in
       let in_order : first < second = subst (λ (children : List ℕ). get_or children 0 (length nodes) < get_or children 1 (length nodes)) parts (form.in_order parent shape.is_kind) in
-      let around =
-      around-is parent 1 shape.second (ap (λ children. slice_get children 1) shape.parts)
-      ∙ ap (λ kind. asked kind parent 1 (role_of shape.second.1) (surrounding_at surroundings parent)) shape.is_kind in
+      let around = object-stands parent words stars name shape in
       let specified : fact_at (take second facts) first ≡ Specified (extern_int flags) =
       earlier-is second first in_order ∙ fact-is first shape.specifiers.within
       ∙ specifiers-fact nodes surroundings (take first facts) first shape.specifiers.attributes flags shape.specifiers.is_kind shape.specifiers.specify shape.specifiers.marks in
@@ -191,6 +209,13 @@ module _ (nodes : UnitNodes) (items : List Item) (surroundings : List Surroundin
           let same = same-item [] items (Object object.words object.stars object.name) (Object words stars name) form.bound object.among among same_name in
           let is_fact : fact_at facts declarator ≡ Declared declaration =
           ap (fact_at facts) object.is ∙ object-declares object.parent object.words object.stars object.name shape in
+          let is_alone : initializer_behind nodes (surrounding_at surroundings declarator) declarator ≡ declarator =
+          subst (λ h. initializer_behind nodes (surrounding_at surroundings h) h ≡ h) (sym object.is)
+          (object-alone object.parent object.words object.stars object.name shape) in
+          let completed : declared_behind nodes surroundings (take handle facts) declarator ≡ Declared declaration =
+          ap (λ initializer. declared_with (fact_at (take handle facts) declarator) (fact_at (take handle facts) initializer)) is_alone
+          ∙ ap (λ fact. declared_with fact fact) (earlier-is handle declarator link.before ∙ is_fact)
+          ∙ either-same (is_unbounded declaration.type_) (Declared declaration) in
           let all = linked-one type_ object.name (take handle facts) (λ k other at links.
           let before : k < handle = omega (arith, slice_get_within (take handle facts) k (Declared other) at, length-take handle facts) in
           declared-type words stars name among k other (omega (arith, before, within))
@@ -203,5 +228,5 @@ module _ (nodes : UnitNodes) (items : List Item) (surroundings : List Surroundin
             address_of_name declaration,
             fact-is handle within
                 ∙ name-fact nodes surroundings (take handle facts) handle declaration stars (flagged no_flags words) is_name link.is_declarator
-                (earlier-is handle declarator link.before ∙ is_fact) refl refl of_type,
+                completed refl refl of_type,
           )

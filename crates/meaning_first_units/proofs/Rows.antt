@@ -19,7 +19,7 @@ use Rattle.meaning_typing.specs.EnumRows.{enumerator_name_fact, is_enumerator}
 use Rattle.meaning_typing.specs.Expressions.{address_row, address_taken, assigned, assignment_row, indirection_of, indirection_row, store_broken}
 use Rattle.meaning_typing.specs.Facts.{Fact, Expression, Declared, ExpressionFact, DeclaredFact, Addressed, NotAddress, fact_at, operand_of, place, type_of_value, value}
 use Rattle.meaning_typing.specs.MemberRows.{aggregates_before}
-use Rattle.meaning_typing.specs.Names.{address_of_name, name_row, named_place, type_of_name}
+use Rattle.meaning_typing.specs.Names.{address_of_name, declared_behind, name_row, named_place, type_of_name}
 use Rattle.meaning_typing.specs.Rows.{Row, converted_by, fails_with, gives, known, nothing, unless_broken}
 use Rattle.meaning_typing.specs.Surroundings.{Surrounding, Want, ForValue, surrounding_at}
 use Rattle.meaning_typing.specs.Typing.{access_failures, accesses, part_fact, part_seen, part_token, row_with_constant, token_at, with_constant}
@@ -98,13 +98,13 @@ module _ (nodes : UnitNodes) (surroundings : List Surrounding) (earlier : List F
   pub name-fact :
       (declaration : DeclaredFact) (stars : ℕ) (flags : Flags)
       → kind_at nodes handle ≡ kinds.Name → kind_at nodes declarator ≡ kinds.Declarator
-      → fact_at earlier declarator ≡ Declared declaration → declaration.is_typedef ≡ false → declaration.is_register ≡ false
+      → declared_behind nodes surroundings earlier declarator ≡ Declared declaration → declaration.is_typedef ≡ false → declaration.is_register ≡ false
       → type_of_name earlier declaration ≡ scalar stars flags
       → (whole_row_at nodes surroundings earlier handle).fact ≡ Expression (located (scalar stars flags) (address_of_name declaration))
   name-fact declaration stars flags is_name is_declarator is_declared no_typedef no_register of_type =
       by-kind kinds.Name (located (scalar stars flags) (address_of_name declaration)) is_name refl
       (ap (λ (kind : NodeKind). (if is_enumerator kind then known (enumerator_name_fact nodes surroundings earlier declarator)
-      else name_row earlier (fact_at earlier declarator)).fact) is_declarator
+      else name_row earlier (declared_behind nodes surroundings earlier declarator)).fact) is_declarator
       ∙ ap (λ (fact : Fact). (name_row earlier fact).fact) is_declared
       ∙ ap (λ (b : Bool). (if b then nothing else gives (named_place earlier declaration) [] []).fact) no_typedef
       ∙ ap (λ (b : Bool). Expression (record (place (type_of_name earlier declaration)) { is_register = b; address = address_of_name declaration })) no_register

@@ -1,5 +1,5 @@
 -- Worked examples: initializers of declarations, and compound literals. Units are drawn as trees, and tokens are counted from 0.
-use Rattle.std.specs.Prelude.{◌≡◌, ℕ, true, false, List, [], ◌∷◌, ◌++◌, codes, option_map, Option, Some, None}
+use Rattle.std.specs.Prelude.{◌≡◌, ℕ, true, false, List, [], ◌∷◌, codes, option_map, Option, Some, None}
 use Rattle.vocabulary.specs.declared.error_kind.ErrorKind.TheVariants.{ExtraInitializer, IncompleteType}
 use Rattle.vocabulary.specs.declared.node_kind.NodeKind.TheVariants as kinds
 use Rattle.vocabulary.specs.declared.role.Role.TheVariants.{Evaluated, TypePart}
@@ -14,7 +14,6 @@ use Rattle.meaning_typing.specs.WholeTyping.{first_whole_facts}
 use Rattle.meaning_typing.specs.examples.Declared.{called, int_at, tagged}
 use Rattle.meaning_typing.specs.examples.Drawn.{array, declaration, declarator, int, leaf, nodes_of, number, over, type_over}
 use Rattle.meaning_initialized.specs.Initialized.{Initialized, initialized_at}
-use Rattle.meaning_initialized.specs.Names.{declared_behind}
 use Rattle.meaning_initialized.specs.Plain.{row_found}
 
 abbrev pub facts_before : UnitNodes → (handle : ℕ) → List Fact
@@ -70,9 +69,6 @@ of_too_many =
 
 pub record DeclarationExamples : Type 0 where
   pub completed : option_map (λ row. row.fact) (row_in of_two 10) ≡ Some (array_declared (Some 2))
-  -- a name behind it has that type, one within it the declared one
-  pub behind : declared_behind of_two (surroundings_of of_two) (facts_before of_two 10 ++ array_declared (Some 2) ∷ []) 4 ≡ array_declared (Some 2)
-  pub within : declared_behind of_two (surroundings_of of_two) (facts_before of_two 10) 4 ≡ array_declared None
   pub typedef_ : row_in of_typedef 5 ≡ Some (breaks (breaks_at ExtraInitializer 4))
   pub otherwise : option_map (λ row. row.failures) (row_in of_another_length 14)
       ≡ Some (fails_with A7 8 0 (Some (array_type int (Some 2))) (Some (array_type int (Some 1))) a ∷ [])

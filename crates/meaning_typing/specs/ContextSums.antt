@@ -11,7 +11,7 @@ use Rattle.meaning_typing.specs.Units.{UnitNodes, node_at, kind_at, children_at,
 use Rattle.meaning_typing.specs.Surroundings.{Surrounding}
 use Rattle.meaning_typing.specs.Facts.{Fact, Declared, DeclaredFact}
 use Rattle.meaning_typing.specs.Specifiers.{attributes_among}
-use Rattle.meaning_typing.specs.Declarators.{lists_before, lists_behind}
+use Rattle.meaning_typing.specs.Declarators.{is_declarator, lists_before, lists_behind}
 use Rattle.meaning_typing.specs.Names.{links_name, redeclared}
 use Rattle.meaning_typing.specs.Tags.{attributes_of_specifiers}
 
@@ -49,8 +49,10 @@ attributes_of_declarator nodes declarator surrounding =
     ++ flat_map (λ part. part_attributes nodes (kind_at nodes part) part) (children_at nodes declarator)
     ++ attributes_among nodes (lists_behind nodes surrounding.parent surrounding.place)
 
+-- an initializer has none of its own
 abbrev pub contexts_of : UnitNodes → (declarator : ℕ) → Surrounding → Option ContextSums
-contexts_of nodes declarator surrounding = sums_among nodes (attributes_of_declarator nodes declarator surrounding)
+contexts_of nodes declarator surrounding =
+    if is_declarator (kind_at nodes declarator) then sums_among nodes (attributes_of_declarator nodes declarator surrounding) else None
 
 -- Declarations of a name with linkage
 
@@ -62,7 +64,7 @@ abbrev pub declarations_with : Bool → LinkedDeclaration → List LinkedDeclara
 declarations_with true declaration others = declaration ∷ others
 declarations_with false declaration others = others
 
--- those of this name, in order, where the first node of these has this handle
+-- those of this name, in order, and behind each what its initializer completes, where the first node of these has this handle
 abbrev pub linked_from : UnitNodes → (name : List ℕ) → (first : ℕ) → List Surrounding → List Fact → List LinkedDeclaration
 linked_from nodes name first (surrounding ∷ surroundings) (Declared declaration ∷ facts) =
     declarations_with (links_name name declaration) (record { type_ = declaration.type_; contexts = contexts_of nodes first surrounding })

@@ -12,9 +12,9 @@ use Rattle.meaning_operands.specs.Failures.{Failure, Broken}
 use Rattle.meaning_operands.specs.Operands.{is_integer}
 use Rattle.meaning_typing.specs.Units.{UnitNodes, node_at, kind_at, children_at, child_at, children_from}
 use Rattle.meaning_typing.specs.Surroundings.{Surrounding, surrounding_at}
-use Rattle.meaning_typing.specs.Facts.{Fact, Declared, Expression, DeclaredFact, SpecifiedFact, fact_at, type_of_value}
+use Rattle.meaning_typing.specs.Facts.{Fact, Unknown, Declared, Expression, DeclaredFact, SpecifiedFact, fact_at, type_of_value}
 use Rattle.meaning_typing.specs.Specifiers.{attributes_among}
-use Rattle.meaning_typing.specs.Declarators.{derived, derived_by, in_file, is_array_part, is_function, is_too_large, is_void_list, lists_before, lists_behind, specifiers_of}
+use Rattle.meaning_typing.specs.Declarators.{derived, in_file, is_array_part, is_declarator, is_function, is_too_large, is_void_list, lists_before, lists_behind, specifiers_of}
 use Rattle.meaning_typing.specs.Names.{links_name, type_of_name}
 use Rattle.meaning_typing.specs.Rows.{breaks_at, breaks_named, fails_with, void_used}
 use Rattle.meaning_typing.specs.Operators.{has_no_size}
@@ -63,12 +63,34 @@ abbrev pub made_or : TypeTree → Option TypeTree → TypeTree
 made_or type_ None = type_
 made_or type_ (Some made) = made
 
+-- what one part breaks behind this type, in a declaration that begins at this token
+abbrev pub one_part_broken : Told → UnitNodes → List Fact → (identity part : ℕ) → TypeTree → List Broken
+one_part_broken told nodes facts identity part type_ =
+    part_broken told nodes part (kind_at nodes part) type_ (made_or type_ (derived nodes facts identity (kind_at nodes part) (children_at nodes part) type_))
+
+-- behind what is broken there is no type
+abbrev pub type_unless : List Broken → Option TypeTree → Option TypeTree
+type_unless [] type_ = type_
+type_unless (broken ∷ others) type_ = None
+
+abbrev pub made_by_part : Told → UnitNodes → List Fact → (identity part : ℕ) → TypeTree → Option TypeTree
+made_by_part told nodes facts identity part type_ =
+    type_unless (one_part_broken told nodes facts identity part type_)
+    (derived nodes facts identity (kind_at nodes part) (children_at nodes part) type_)
+
 abbrev pub parts_broken : Told → UnitNodes → List Fact → (identity : ℕ) → (parts : List ℕ) → Option TypeTree → List Broken
 parts_broken told nodes facts identity [] type_ = []
 parts_broken told nodes facts identity (part ∷ parts) None = []
 parts_broken told nodes facts identity (part ∷ parts) (Some type_) =
-    part_broken told nodes part (kind_at nodes part) type_ (made_or type_ (derived nodes facts identity (kind_at nodes part) (children_at nodes part) type_))
-    ++ parts_broken told nodes facts identity parts (derived nodes facts identity (kind_at nodes part) (children_at nodes part) type_)
+    one_part_broken told nodes facts identity part type_
+    ++ parts_broken told nodes facts identity parts (made_by_part told nodes facts identity part type_)
+
+-- the type that all of them make
+abbrev pub made_by_parts : Told → UnitNodes → List Fact → (identity : ℕ) → (parts : List ℕ) → Option TypeTree → Option TypeTree
+made_by_parts told nodes facts identity [] type_ = type_
+made_by_parts told nodes facts identity (part ∷ parts) None = None
+made_by_parts told nodes facts identity (part ∷ parts) (Some type_) =
+    made_by_parts told nodes facts identity parts (made_by_part told nodes facts identity part type_)
 
 -- what stands before and behind the declarator is said of the type that its parts make
 abbrev pub own_bitwise_broken : UnitNodes → (parent place : ℕ) → Option TypeTree → List Broken
@@ -81,7 +103,7 @@ declarator_parts_broken told nodes facts handle surrounding None = []
 declarator_parts_broken told nodes facts handle surrounding (Some specifiers) =
     parts_broken told nodes facts (node_at nodes surrounding.parent).token (children_at nodes handle) (Some specifiers.type_)
     ++ own_bitwise_broken nodes surrounding.parent surrounding.place
-    (derived_by nodes facts (node_at nodes surrounding.parent).token (children_at nodes handle) specifiers.type_)
+    (made_by_parts told nodes facts (node_at nodes surrounding.parent).token (children_at nodes handle) (Some specifiers.type_))
 
 -- array parts whose type is larger than an object may be
 abbrev pub is_large_type : Told → Option TypeTree → Bool
@@ -92,10 +114,10 @@ abbrev pub large_parts_of : Told → UnitNodes → List Fact → (identity : ℕ
 large_parts_of told nodes facts identity [] type_ = []
 large_parts_of told nodes facts identity (part ∷ parts) None = []
 large_parts_of told nodes facts identity (part ∷ parts) (Some type_) =
-    (if is_array_part (kind_at nodes part) && is_large_type told (derived nodes facts identity (kind_at nodes part) (children_at nodes part) type_)
+    (if is_array_part (kind_at nodes part) && is_large_type told (made_by_part told nodes facts identity part type_)
     then (node_at nodes part).token ∷ []
     else [])
-    ++ large_parts_of told nodes facts identity parts (derived nodes facts identity (kind_at nodes part) (children_at nodes part) type_)
+    ++ large_parts_of told nodes facts identity parts (made_by_part told nodes facts identity part type_)
 
 -- `()` is taken as `(void)` (our choice)
 abbrev pub empty_list_failures : (token : ℕ) → (children : List ℕ) → List Failure
@@ -177,12 +199,16 @@ tentative_of told nodes facts token surrounding (Declared declaration) =
     if is_tentative nodes facts surrounding declaration then tentative_broken told token (type_of_name facts declaration) else []
 tentative_of told nodes facts token surrounding fact = []
 
+-- an initializer has what its declarator declares, and is none
+abbrev pub fact_of_declarator : UnitNodes → List Fact → (handle : ℕ) → Fact
+fact_of_declarator nodes facts handle = if is_declarator (kind_at nodes handle) then fact_at facts handle else Unknown
+
 -- of the first so many nodes
 abbrev pub unit_end_broken : Told → UnitNodes → List Surrounding → List Fact → (count : ℕ) → List Broken
 unit_end_broken told nodes surroundings facts zero = []
 unit_end_broken told nodes surroundings facts (suc count) =
     unit_end_broken told nodes surroundings facts count
-    ++ tentative_of told nodes facts (node_at nodes count).token (surrounding_at surroundings count) (fact_at facts count)
+    ++ tentative_of told nodes facts (node_at nodes count).token (surrounding_at surroundings count) (fact_of_declarator nodes facts count)
 
 -- Parameters
 
@@ -242,6 +268,11 @@ definition_broken nodes surroundings facts handle declaration =
     && is_any_below (λ other. is_earlier_definition nodes surroundings facts declaration.name other (fact_at facts other)) handle)
     then breaks_named DefinedTwice (node_at nodes handle).token declaration.name
     else []
+
+-- by what is known of its declarator
+abbrev pub defined_name_broken : UnitNodes → List Surrounding → List Fact → (handle : ℕ) → Fact → List Broken
+defined_name_broken nodes surroundings facts handle (Declared declaration) = definition_broken nodes surroundings facts handle declaration
+defined_name_broken nodes surroundings facts handle fact = []
 
 -- Definitions that weren't declared: at file scope, not static
 

@@ -1,9 +1,10 @@
 -- What a body declares (C11 6.7.2.1): its members in order, each with its type, its width and its alignment.
-use Rattle.std.specs.Prelude.{ℕ, zero, suc, ◌+◌, max, Bool, true, false, ◌&&◌, ◌||◌, not, is_some, List, [], ◌∷◌, ◌++◌, map, Option, Some, None, option_map, if◌then◌else◌}
+use Rattle.std.specs.Prelude.{ℕ, zero, suc, ◌+◌, nat_eq, max, Bool, true, false, ◌&&◌, ◌||◌, not, is_some, List, [], ◌∷◌, ◌++◌, map, Option, Some, None, option_map, if◌then◌else◌}
 use Rattle.std.specs.List.{flat_map, list_any}
 use Rattle.vocabulary.specs.declared.node_kind.NodeKind.{NodeKind}
 use Rattle.vocabulary.specs.declared.node_kind.NodeKind.TheVariants as kinds
-use Rattle.meaning_types.specs.Types.{TypeTree}
+use Rattle.meaning_types.specs.Types.{TypeTree, Typed, AggregateTree}
+use Rattle.meaning_operands.specs.Operands.{is_integer}
 use Rattle.meaning_layout.specs.Members.{DeclaredBody, DeclaredMember}
 use Rattle.meaning_layout.specs.Telling.{ToldMember}
 use Rattle.meaning_typing.specs.Units.{UnitNodes, node_at, kind_at, children_at, child_at, children_from}
@@ -12,7 +13,7 @@ use Rattle.meaning_typing.specs.Facts.{Fact, Unknown, Declared, SpecifiedFact, f
 use Rattle.meaning_typing.specs.Specifiers.{attributes_among, marks_among, with_marks}
 use Rattle.meaning_typing.specs.Declarators.{derived_by, length_said, lists_in_front, specifiers_of, type_declared}
 use Rattle.meaning_typing.specs.Aggregates.{Bodies}
-use Rattle.meaning_typing.specs.Tags.{has_body, is_tagged, tag_attributes}
+use Rattle.meaning_typing.specs.Tags.{has_body, is_tagged}
 
 -- Members as they stand behind the specifiers of their declaration: declarators, widths, and lists of attributes behind both
 
@@ -93,10 +94,11 @@ abbrev pub is_packed_word : NodeKind → Bool
 is_packed_word kinds.PackedAttribute = true
 is_packed_word kind = false
 
--- the attributes of specifiers but those directly behind a body, which belong to that
+-- the attributes of specifiers but those directly behind a body, which belong to that, and those before a tag, which say nothing of a
+-- layout
 abbrev pub attributes_in : UnitNodes → (is_behind_body : Bool) → NodeKind → (handle : ℕ) → List ℕ
-attributes_in nodes true kinds.AttributeList handle = []
-attributes_in nodes is_behind_body kind handle = tag_attributes nodes kind (children_at nodes handle)
+attributes_in nodes false kinds.AttributeList handle = children_at nodes handle
+attributes_in nodes is_behind_body kind handle = []
 
 abbrev pub is_still_behind : UnitNodes → (is_behind_body : Bool) → NodeKind → (handle : ℕ) → Bool
 is_still_behind nodes is_behind_body kinds.AttributeList handle = is_behind_body
@@ -142,13 +144,19 @@ abbrev pub name_said : (name : List ℕ) → Option (List ℕ)
 name_said [] = None
 name_said (byte ∷ bytes) = Some (byte ∷ bytes)
 
+-- one without a name has a type of integers, since it is a bit-field (p5, p12)
+abbrev pub type_of_entry : (name : List ℕ) → Option TypeTree → Option TypeTree
+type_of_entry [] None = None
+type_of_entry [] (Some type_) = if is_integer type_ then Some type_ else None
+type_of_entry (byte ∷ bytes) type_ = type_
+
 -- of what isn't known there is none
 abbrev pub entry_member : UnitNodes → List Fact → (declaration : ℕ) → MemberEntry → List BodyMember
 entry_member nodes facts declaration entry =
     body_member (name_said (node_at nodes entry.declarator).name) (width_said facts entry.width) (member_alignment nodes declaration entry.lists)
-    (type_declared (fact_at facts entry.declarator))
+    (type_of_entry (node_at nodes entry.declarator).name (type_declared (fact_at facts entry.declarator)))
 
--- a structure or union without a tag is a member without a declarator (p13)
+-- a structure or union without a tag
 abbrev pub is_tagless : UnitNodes → (handle : ℕ) → NodeKind → Bool
 is_tagless nodes handle kinds.StructSpecifier = is_empty (node_at nodes handle).name
 is_tagless nodes handle kinds.UnionSpecifier = is_empty (node_at nodes handle).name
@@ -157,11 +165,29 @@ is_tagless nodes handle kind = false
 abbrev pub is_tagless_among : UnitNodes → List ℕ → Bool
 is_tagless_among nodes handles = list_any (λ handle. is_tagless nodes handle (kind_at nodes handle)) handles
 
-abbrev pub nameless_member : UnitNodes → List Fact → (declaration : ℕ) → List BodyMember
-nameless_member nodes facts declaration =
-    if is_tagless_among nodes (children_at nodes (child_at nodes declaration 0))
-    then body_member None None (member_alignment nodes declaration []) (specified_type (specifiers_of nodes facts declaration))
+abbrev pub is_member_list : NodeKind → Bool
+is_member_list kinds.MemberList = true
+is_member_list kind = false
+
+abbrev pub has_member_list : UnitNodes → (handle : ℕ) → Bool
+has_member_list nodes handle = list_any (λ child. is_member_list (kind_at nodes child)) (children_at nodes handle)
+
+-- the type is that of this specifier, which has members and no tag
+abbrev pub is_type_of_tagless : UnitNodes → TypeTree → (handle : ℕ) → Bool
+is_type_of_tagless nodes (Typed (AggregateTree number is_union) _ _) handle =
+    is_tagless nodes handle (kind_at nodes handle) && (has_member_list nodes handle && nat_eq (node_at nodes handle).number number)
+is_type_of_tagless nodes (Typed base _ _) handle = false
+
+-- it is a member without a declarator (p13)
+abbrev pub nameless_of_type : UnitNodes → (declaration : ℕ) → Option TypeTree → List BodyMember
+nameless_of_type nodes declaration None = []
+nameless_of_type nodes declaration (Some type_) =
+    if list_any (λ handle. is_type_of_tagless nodes type_ handle) (children_at nodes (child_at nodes declaration 0))
+    then body_member None None (member_alignment nodes declaration []) (Some type_)
     else []
+
+abbrev pub nameless_member : UnitNodes → List Fact → (declaration : ℕ) → List BodyMember
+nameless_member nodes facts declaration = nameless_of_type nodes declaration (specified_type (specifiers_of nodes facts declaration))
 
 -- without declarators nothing else is one
 abbrev pub members_by : UnitNodes → List Fact → (declaration : ℕ) → List MemberEntry → List BodyMember

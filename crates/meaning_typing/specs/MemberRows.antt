@@ -1,5 +1,5 @@
 -- Rows of members, widths and the specifiers of structures and unions (C11 6.7.2.1): what is broken among them.
-use Rattle.std.specs.Prelude.{ℕ, ℤ, zero, suc, ◌+◌, pos, negsuc, nat_eq, nat_lt, Bool, true, false, ◌&&◌, ◌||◌, not, is_some, List, [], ◌∷◌, ◌++◌, length, Option, Some, None, Result, Ok, Err, if◌then◌else◌}
+use Rattle.std.specs.Prelude.{ℕ, ℤ, zero, suc, ◌+◌, pos, negsuc, nat_eq, nat_lt, Bool, true, false, ◌&&◌, ◌||◌, not, List, [], ◌∷◌, ◌++◌, length, Option, Some, None, Result, Ok, Err, if◌then◌else◌}
 use Rattle.std.specs.List.{list_any}
 use Rattle.std.specs.Str.{bytes_eq}
 use Rattle.vocabulary.specs.declared.error_kind.ErrorKind.TheVariants.{BadBitField, IncompleteType, MemberDeclaredTwice, RestrictedBitField}
@@ -102,9 +102,15 @@ is_unbounded (Typed base _ _) = false
 abbrev pub is_no_object : Told → TypeTree → Bool
 is_no_object told type_ = is_void type_ || (is_function type_ || has_no_size told type_)
 
-abbrev pub member_broken : Told → (token : ℕ) → (is_field may_be_flexible : Bool) → TypeTree → List Broken
-member_broken told token is_field may_be_flexible type_ =
-    if is_field || (is_unbounded type_ && may_be_flexible) then []
+-- it has elements that have a size
+abbrev pub is_flexible : Told → TypeTree → Bool
+is_flexible told (Typed (ArrayTree element None) _ _) = not (is_no_object told element)
+is_flexible told (Typed base _ _) = false
+
+-- one without a name is a bit-field, and declares no object (p12)
+abbrev pub member_broken : Told → (token : ℕ) → (is_named may_be_flexible : Bool) → TypeTree → List Broken
+member_broken told token is_named may_be_flexible type_ =
+    if not is_named || (may_be_flexible && is_flexible told type_) then []
     else (if is_no_object told type_ then breaks_at IncompleteType token
     else [])
 
@@ -211,19 +217,10 @@ may_be_flexible nodes surroundings declarator declaration =
 
 -- The row of a member's declarator
 
-abbrev pub entry_with_declarator : (declarator : ℕ) → List MemberEntry → Option MemberEntry
-entry_with_declarator declarator [] = None
-entry_with_declarator declarator (entry ∷ entries) =
-    if nat_eq declarator entry.declarator then Some entry else entry_with_declarator declarator entries
-
-abbrev pub has_width : Option MemberEntry → Bool
-has_width None = false
-has_width (Some entry) = is_some entry.width
-
 abbrev pub typed_member_broken : UnitNodes → List Surrounding → Told → (handle declaration : ℕ) → Option TypeTree → List Broken
 typed_member_broken nodes surroundings told handle declaration None = []
 typed_member_broken nodes surroundings told handle declaration (Some type_) =
-    member_broken told (node_at nodes handle).token (has_width (entry_with_declarator handle (member_entries nodes declaration)))
+    member_broken told (node_at nodes handle).token (not (is_empty (node_at nodes handle).name))
     (may_be_flexible nodes surroundings handle declaration) type_
 
 -- by what its type breaks and what its name does: a name that stands twice leaves the member its type, by which its width is judged

@@ -1,15 +1,19 @@
 -- What a name stands for (C11 6.2.2, 6.5.1): an object or a function of one name with linkage has the type of its first
 -- declaration in the unit.
-use Rattle.std.specs.Prelude.{ℕ, Bool, true, false, ◌&&◌, nat_eq, List, [], ◌∷◌, Option, Some, None, is_some, if◌then◌else◌}
+use Rattle.std.specs.Prelude.{ℕ, ◌+◌, Bool, true, false, ◌&&◌, nat_eq, List, [], ◌∷◌, Option, Some, None, is_some, if◌then◌else◌}
 use Rattle.std.specs.Str.{bytes_eq}
+use Rattle.vocabulary.specs.declared.node_kind.NodeKind.{NodeKind}
+use Rattle.vocabulary.specs.declared.node_kind.NodeKind.TheVariants as kinds
 use Rattle.vocabulary.specs.declared.error_kind.ErrorKind.TheVariants.{TypedefHasAnotherType}
 use Rattle.vocabulary.specs.declared.rule.RuleCode.TheVariants.{A7}
 use Rattle.meaning_types.specs.Types.{TypeTree}
 use Rattle.meaning_types.specs.Composite.{composite}
 use Rattle.meaning_operands.specs.Failures.{Failure, Broken}
-use Rattle.meaning_typing.specs.Surroundings.{Surrounding}
-use Rattle.meaning_typing.specs.Facts.{Fact, Declared, DeclaredFact, ExpressionFact, Addressed, NotAddress, ConstantPlace, place}
+use Rattle.meaning_typing.specs.Units.{UnitNodes, kind_at, children_from}
+use Rattle.meaning_typing.specs.Surroundings.{Surrounding, surrounding_at}
+use Rattle.meaning_typing.specs.Facts.{Fact, Declared, DeclaredFact, ExpressionFact, Addressed, NotAddress, ConstantPlace, fact_at, place}
 use Rattle.meaning_typing.specs.Equality.{are_equal_types}
+use Rattle.meaning_typing.specs.MemberRows.{is_unbounded}
 use Rattle.meaning_typing.specs.Rows.{Row, nothing, gives, breaks_named, fails_with}
 
 -- Linkage
@@ -22,7 +26,7 @@ abbrev pub before_types : Bool → TypeTree → List TypeTree → List TypeTree
 before_types true type_ types = type_ ∷ types
 before_types false type_ types = types
 
--- the types of the declarations of this name with linkage, in order
+-- the types of the declarations of this name with linkage, in order, and behind each the one that its initializer completes
 abbrev pub linked_types : List ℕ → List Fact → List TypeTree
 linked_types name [] = []
 linked_types name (Declared declaration ∷ facts) = before_types (links_name name declaration) declaration.type_ (linked_types name facts)
@@ -46,6 +50,39 @@ common_type otherwise (first ∷ types) = with_lengths first types
 abbrev pub type_of_name : List Fact → DeclaredFact → TypeTree
 type_of_name facts declaration =
     if declaration.has_linkage then common_type declaration.type_ (linked_types declaration.name facts) else declaration.type_
+
+-- Names behind an initializer, which completes the type of what is declared (6.7.9 p22)
+
+-- the initializer behind a declarator and its attributes; where there is none, another handle
+abbrev pub initializer_by_kind : NodeKind → (handle : ℕ) → (behind otherwise : ℕ) → ℕ
+initializer_by_kind kinds.AttributeList handle behind otherwise = behind
+initializer_by_kind kinds.Initializer handle behind otherwise = handle
+initializer_by_kind kind handle behind otherwise = otherwise
+
+abbrev pub first_initializer : UnitNodes → (otherwise : ℕ) → List ℕ → ℕ
+first_initializer nodes otherwise [] = otherwise
+first_initializer nodes otherwise (handle ∷ handles) =
+    initializer_by_kind (kind_at nodes handle) handle (first_initializer nodes otherwise handles) otherwise
+
+abbrev pub initializer_behind : UnitNodes → Surrounding → (declarator : ℕ) → ℕ
+initializer_behind nodes surrounding declarator = first_initializer nodes declarator (children_from nodes surrounding.parent (surrounding.place + 1))
+
+-- an array without a length has the one that its initializer completes, once that stands before and breaks nothing
+abbrev pub completed_by : DeclaredFact → (initializer : Fact) → Fact
+completed_by declaration (Declared completed) = Declared completed
+completed_by declaration fact = Declared declaration
+
+abbrev pub completed_if : (is_unbounded : Bool) → DeclaredFact → (initializer : Fact) → Fact
+completed_if is_unbounded declaration initializer = if is_unbounded then completed_by declaration initializer else Declared declaration
+
+abbrev pub declared_with : Fact → (initializer : Fact) → Fact
+declared_with (Declared declaration) initializer = completed_if (is_unbounded declaration.type_) declaration initializer
+declared_with fact initializer = fact
+
+-- what a declarator declares, behind these facts
+abbrev pub declared_behind : UnitNodes → List Surrounding → List Fact → (declarator : ℕ) → Fact
+declared_behind nodes surroundings facts declarator =
+    declared_with (fact_at facts declarator) (fact_at facts (initializer_behind nodes (surrounding_at surroundings declarator) declarator))
 
 -- Names in expressions (6.5.1 p2)
 

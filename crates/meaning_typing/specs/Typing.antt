@@ -16,7 +16,7 @@ use Rattle.meaning_typing.specs.Surroundings.{Surrounding, Want, ForValue, ForSt
 use Rattle.meaning_typing.specs.Facts.{Fact, Expression, Declared, NamedType, ExpressionFact, fact_at, is_loaded}
 use Rattle.meaning_typing.specs.Specifiers.{plain_type, specified}
 use Rattle.meaning_typing.specs.Declarators.{declarator_fact, parameter_fact, specifiers_of, large_in, nothing_told, type_declared, type_designated, named_if, named_type}
-use Rattle.meaning_typing.specs.Names.{name_row, redeclarations, typedefs_again}
+use Rattle.meaning_typing.specs.Names.{declared_behind, name_row, redeclarations, typedefs_again}
 use Rattle.meaning_typing.specs.Expressions.{Argument, literal_row, string_row, indirection_row, address_row, subscript_row, assignment_row, call_row}
 use Rattle.meaning_typing.specs.Operators.{unary_row, not_row, binary_row, logical_row, comma_row, statement_expression_row}
 use Rattle.meaning_typing.specs.Conditionals.{conditional_row, conditional_without_middle}
@@ -163,7 +163,7 @@ row_of nodes surroundings facts handle kinds.TypeName = known (named_if (named_t
 row_of nodes surroundings facts handle kinds.TypeofType = known (fact_at facts (child_at nodes handle 0))
 row_of nodes surroundings facts handle kinds.TypeofExpression = known (named_if (type_designated (fact_at facts (child_at nodes handle 0))))
 -- 6.5.1
-row_of nodes surroundings facts handle kinds.Name = name_row facts (fact_at facts (node_at nodes handle).number)
+row_of nodes surroundings facts handle kinds.Name = name_row facts (declared_behind nodes surroundings facts (node_at nodes handle).number)
 row_of nodes surroundings facts handle (kinds.IntegerConstant kind) = literal_row (plain_type (IntegerTree kind))
 row_of nodes surroundings facts handle (kinds.CharacterConstant kind) = literal_row (plain_type (IntegerTree kind))
 row_of nodes surroundings facts handle kinds.StringLiteral = string_row (node_at nodes handle).number

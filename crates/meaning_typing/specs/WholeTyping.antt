@@ -27,8 +27,8 @@ use Rattle.meaning_typing.specs.Wholes.{and_breaks, row_loaded, whole_assignment
 use Rattle.meaning_typing.specs.OffsetRows.{offset_row, steps_of}
 use Rattle.meaning_typing.specs.EnumRows.{enumeration_row, enumerator_name_fact, enumerator_row, enumerators_of, is_enumerator}
 use Rattle.meaning_typing.specs.Tags.{enumeration_named, has_body, specifiers_row, tag_broken}
-use Rattle.meaning_typing.specs.MemberRows.{aggregate_specifier_row, aggregates_before, bit_field_row, is_member_declaration, member_declarator_row}
-use Rattle.meaning_typing.specs.DeclarationRows.{declarator_parts_broken, declared_object_broken, definition_broken, empty_list_failures, hiding_declarator_failures, hiding_enumerator_failures, large_parts_of, parameter_node_broken, sizes_broken, undeclared_failures, unit_end_broken}
+use Rattle.meaning_typing.specs.MemberRows.{aggregate_specifier_row, aggregates_before, bit_field_row, is_member_declaration, member_declarator_row, name_broken}
+use Rattle.meaning_typing.specs.DeclarationRows.{declarator_parts_broken, declared_object_broken, defined_name_broken, definition_broken, empty_list_failures, hiding_declarator_failures, hiding_enumerator_failures, large_parts_of, parameter_node_broken, sizes_broken, undeclared_failures, unit_end_broken}
 use Rattle.meaning_typing.specs.ContextSums.{redeclared_otherwise}
 
 -- Enumerations
@@ -114,12 +114,23 @@ abbrev pub large_by : Told → UnitNodes → List Fact → (parent : ℕ) → (p
 large_by told nodes facts parent parts None = []
 large_by told nodes facts parent parts (Some specifiers) = large_parts_of told nodes facts (token_at nodes parent) parts (Some specifiers.type_)
 
--- and what its parts do
+-- what its name breaks, whatever its type is
+abbrev pub own_name_broken : UnitNodes → List Surrounding → List Fact → (handle : ℕ) → Surrounding → List Broken
+own_name_broken nodes surroundings facts handle surrounding =
+    if is_member_declaration (kind_at nodes surrounding.parent) then name_broken nodes surroundings handle
+    else defined_name_broken nodes surroundings facts handle (declarator_fact nodes surrounding facts handle (specifiers_of nodes facts surrounding.parent))
+
+-- where its parts break something it has no type, and its name alone is asked
+abbrev pub declared_unless : (parts names : List Broken) → Row → Row
+declared_unless [] names row = row
+declared_unless (broken ∷ others) names row = breaks ((broken ∷ others) ++ names)
+
 abbrev pub whole_declarator_row : Told → UnitNodes → List Surrounding → List Fact → (handle : ℕ) → Surrounding → Row
 whole_declarator_row told nodes surroundings facts handle surrounding =
     record
-    (and_breaks (declared_row told nodes surroundings facts handle surrounding)
-    (declarator_parts_broken told nodes facts handle surrounding (specifiers_of nodes facts surrounding.parent))) {
+    (declared_unless (declarator_parts_broken told nodes facts handle surrounding (specifiers_of nodes facts surrounding.parent))
+    (own_name_broken nodes surroundings facts handle surrounding)
+    (declared_row told nodes surroundings facts handle surrounding)) {
       passed = large_by told nodes facts surrounding.parent (children_at nodes handle) (specifiers_of nodes facts surrounding.parent);
     }
 

@@ -1,6 +1,6 @@
 // What is proved of typing, and examples.
 ghost use Rattle.meaning_typing.specs.examples.Declared.{BodyExamples, CompleteMemberExamples, MemberListExamples, TagExamples, UseExamples, WidthExamples};
-ghost use Rattle.meaning_typing.specs.examples.DeclarationRows.{CompletenessExamples, DeclarationFailures, PartExamples, SizeExamples};
+ghost use Rattle.meaning_typing.specs.examples.DeclarationRows.{CompletenessExamples, DeclarationFailures, InitializerExamples, PartExamples, SizeExamples};
 ghost use Rattle.meaning_typing.specs.examples.EnumRows.{EnumerationRowExamples, EnumeratorExamples};
 ghost use Rattle.meaning_typing.specs.examples.Enumerations.{EnumerationExamples};
 ghost use Rattle.meaning_typing.specs.examples.Members.{MemberAccesses, MemberConstraints, MemberTypes, WholeConstraints};
@@ -104,6 +104,7 @@ pub fn worked_declarations()
     ensures parts { PartExamples }
     ensures completeness { CompletenessExamples }
     ensures failures { DeclarationFailures }
+    ensures initializers { InitializerExamples }
 {}
 
 /// `x->a` says what `(*x).a` says, and a member of an anonymous member has the type that it has behind two steps.

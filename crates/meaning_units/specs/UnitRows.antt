@@ -3,7 +3,7 @@
 use Rattle.std.specs.Prelude.{◌≡◌, ℕ, List}
 use Rattle.vocabulary.specs.declared.node_kind.NodeKind.{NodeKind}
 use Rattle.vocabulary.specs.declared.node_kind.NodeKind.TheVariants as kinds
-use Rattle.meaning_typing.specs.Facts.{Fact, Unknown}
+use Rattle.meaning_typing.specs.Facts.{Fact}
 use Rattle.meaning_typing.specs.MemberRows.{aggregates_before}
 use Rattle.meaning_typing.specs.Rows.{Row}
 use Rattle.meaning_typing.specs.Surroundings.{Surrounding}
@@ -11,11 +11,11 @@ use Rattle.meaning_typing.specs.Units.{UnitNodes, kind_at}
 use Rattle.meaning_initialized.specs.Rows.{IsInitializingRow}
 use Rattle.meaning_judgements.specs.UnitRows.{unit_row_at}
 
--- By the kind of the node: a compound literal is a place of the completed type. What an initializer completes isn't looked for at it
--- yet: a name stands for what its declarator declares.
+-- By the kind of the node: a compound literal is a place of the completed type, and at an initializer what stands before is declared
+-- with the completed type.
 abbrev pub row_by_initializer : NodeKind → Row → (initializing : Row) → Row
 row_by_initializer kinds.CompoundLiteral row initializing = initializing
-row_by_initializer kinds.Initializer row initializing = record initializing { fact = Unknown }
+row_by_initializer kinds.Initializer row initializing = initializing
 row_by_initializer kind row initializing = row
 
 -- this is the row of a node of a unit, over what is known of the nodes before it

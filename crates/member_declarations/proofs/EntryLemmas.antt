@@ -1,5 +1,5 @@
 -- The entry of a declarator or a width, where its handle stands among the parts of a declaration once.
-use Rattle.std.proofs.Common.{◌≡◌, ℕ, zero, suc, ◌+◌, ◌-◌, ◌<◌, ◌≤◌, nat_eq, true, false, is_some, List, drop, get_or, length, slice_get, Option, Some, None, option_map, inl, inr, refl, sym, ap, ◌∙◌, subst, arith}
+use Rattle.std.proofs.Common.{◌≡◌, ℕ, zero, suc, ◌+◌, ◌-◌, ◌<◌, ◌≤◌, nat_eq, true, false, List, drop, get_or, length, slice_get, Option, Some, None, option_map, inl, inr, refl, sym, ap, ◌∙◌, subst, arith}
 use Rattle.std.proofs.Math.Seq.{drop-cons}
 use Rattle.std.proofs.lemmas.Bool.{eq-eqb}
 use Rattle.std.proofs.lemmas.Bool.Decides.{eqb_tells}
@@ -8,10 +8,10 @@ use Rattle.std.proofs.lemmas.Option.{slice_get_within, slice_get-get_or, get_or_
 use Rattle.vocabulary.specs.declared.node_kind.NodeKind.{NodeKind}
 use Rattle.vocabulary.specs.declared.node_kind.NodeKind.TheVariants as kinds
 use Rattle.meaning_typing.specs.MemberDeclarations.{MemberEntry, PendingMembers, nothing_pending, pending_from, pending_with}
-use Rattle.meaning_typing.specs.MemberRows.{entry_with_declarator, entry_with_width, has_width, is_handle}
+use Rattle.meaning_typing.specs.MemberRows.{entry_with_width, is_handle}
 use Rattle.meaning_typing.specs.Units.{UnitNodes, kind_at}
 use Rattle.decl_judge.specs.Units.{handles_of}
-use Rattle.member_declarations.specs.Entries.{declarator_before, declarator_by, has_width_by, member_part}
+use Rattle.member_declarations.specs.Entries.{declarator_before, declarator_by, member_part}
 
 -- One part more in front
 
@@ -26,14 +26,6 @@ passes-width width kinds.AttributeList handle pending other not = record { entri
 passes-width width kinds.BitFieldWidth handle pending other not = record { entries = refl; pending = other }
 passes-width width kinds.Declarator handle pending other not = record { entries = rw not refl; pending = refl }
 passes-width width kind handle pending other not = record { entries = refl; pending = not }
-
--- nor one with this declarator
-passes-declarator : (declarator : ℕ) (kind : NodeKind) (handle : ℕ) (pending : PendingMembers) → nat_eq declarator handle ≡ false
-    → entry_with_declarator declarator (pending_with kind handle pending).entries ≡ entry_with_declarator declarator pending.entries
-passes-declarator declarator kinds.AttributeList handle pending other = refl
-passes-declarator declarator kinds.BitFieldWidth handle pending other = refl
-passes-declarator declarator kinds.Declarator handle pending other = rw other refl
-passes-declarator declarator kind handle pending other = refl
 
 -- Parts by their places
 
@@ -159,46 +151,6 @@ module _ (nodes : UnitNodes) (handles : List ℕ) where
             (ap (λ first. (from first).width) (sym same) ∙ ap (λ pending. pending.width) part)
             (ap (λ first. entry_with_width handle (from first).entries) (sym same) ∙ ap (λ pending. entry_with_width handle pending.entries) part ∙ behind.entries)
 
-    -- parts in front leave the entry of a declarator
-    keeps : (other : ℕ) → 1 ≤ other → other ≤ place → entry_with_declarator handle (from 1).entries ≡ entry_with_declarator handle (from other).entries
-    keeps zero some before = absurd (omega (arith, some))
-    keeps (suc zero) some before = refl
-    keeps (suc (suc other)) some before =
-        keeps (suc other) (omega arith) (omega arith)
-        ∙ ap (λ pending. entry_with_declarator handle pending.entries) (from_part (suc other) (omega (arith, within)))
-        ∙ passes-declarator handle (kind_here (suc other)) (handle_at (suc other)) (from (suc (suc other)))
-        (elsewhere (suc other) (omega (arith, within)) (λ same. omega (arith, same)))
-
-    -- a declarator has a width where one is pending behind it
-    pub width_had : kind_at nodes handle ≡ kinds.Declarator → 1 ≤ place → is_some (from (suc place)).width ≡ has_width (entry_with_declarator handle (from 1).entries)
-    width_had is some =
-        sym
-        (ap has_width
-        (keeps place some (omega arith)
-        ∙ ap (λ pending. entry_with_declarator handle pending.entries)
-        (from_part place within ∙ (λ i. pending_with ((ap (kind_at nodes) here ∙ is) i) (here i) (from (suc place)))))
-        ∙ rw same_handle refl)
-
-    -- the first part declares no member
-    none_first : (count other : ℕ) → other + count ≡ length handles → place < other → entry_with_declarator handle (from other).entries ≡ None
-    none_first zero other all behind = ap (λ pending. entry_with_declarator handle pending.entries) (from_end other (omega arith))
-    none_first (suc count) other all behind =
-        ap (λ pending. entry_with_declarator handle pending.entries) (from_part other (omega arith))
-        ∙ passes-declarator handle (kind_here other) (handle_at other) (from (suc other)) (elsewhere other (omega arith) (λ same. omega (arith, same)))
-        ∙ none_first count (suc other) (omega arith) (omega arith)
-
-    pub first_has_none : place ≡ 0 → has_width (entry_with_declarator handle (from 1).entries) ≡ false
-    first_has_none first = ap has_width (none_first (length handles - 1) 1 (omega (arith, within)) (omega (arith, first)))
-
--- Widths that are pending, part by part
-
-pub width_by : (kind : NodeKind) (handle : ℕ) (pending : PendingMembers)
-    → is_some (pending_with kind handle pending).width ≡ has_width_by (member_part kind) (is_some pending.width)
-width_by kinds.AttributeList handle pending = refl
-width_by kinds.BitFieldWidth handle pending = refl
-width_by kinds.Declarator handle pending = refl
-width_by kind handle pending = refl
-
 -- Parts one by one
 
 module _ (nodes : UnitNodes) (children : List (ℕ × ℕ)) (place : ℕ) (child : ℕ × ℕ) (found : slice_get children place ≡ Some child) where
@@ -209,17 +161,6 @@ module _ (nodes : UnitNodes) (children : List (ℕ × ℕ)) (place : ℕ) (child
   child_here =
       get_or-map (λ (child : ℕ × ℕ). child.0) children place child 0 (slice_get_within children place child found)
       ∙ ap (λ (child : ℕ × ℕ). child.0) (get_or_from_slice_get children place child child found)
-
-  -- whether a width stands from a place on
-  pub width_from : is_some (pending_from nodes (drop place (handles_of children))).width
-      ≡ has_width_by (member_part (kind_at nodes child.0)) (is_some (pending_from nodes (drop (place + 1) (handles_of children))).width)
-  width_from =
-      ap (λ handles. is_some (pending_from nodes handles).width) (drop-cons (handles_of children) place 0 child_within)
-      ∙ (λ i. is_some (pending_with (kind_at nodes (child_here i)) (child_here i) (pending_from nodes (drop (next i) (handles_of children)))).width)
-      ∙ width_by (kind_at nodes child.0) child.0 (pending_from nodes (drop (place + 1) (handles_of children)))
-    where
-      next : suc place ≡ place + 1
-      next = omega arith
 
 -- the declarator before the place behind a part
 pub before_part : (nodes : UnitNodes) (children : List (ℕ × ℕ)) (place before : ℕ) (child : ℕ × ℕ) → place ≡ before + 1 → 1 ≤ before
@@ -234,9 +175,3 @@ before_part nodes children place (suc before) child same some found =
   where
     behind : place ≡ suc (suc before)
     behind = omega (arith, same)
-
--- Places
-
-pub not_first : (place : ℕ) → (place ≡ 0 → ⊥) → 1 ≤ place
-not_first zero not = absurd (not refl)
-not_first (suc place) not = omega arith

@@ -7,3 +7,4 @@ pub mod NumberLemmas
 pub mod RowLemmas
 pub mod StandingLemmas
 pub mod WidthLemmas
+pub mod OpenLemmas

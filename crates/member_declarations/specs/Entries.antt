@@ -1,5 +1,5 @@
 -- Members among the parts of their declaration, by the places of their declarators and widths.
-use Rattle.std.specs.Prelude.{◌≡◌, ℕ, zero, suc, Bool, true, false, get_or, slice_get, List, Option, Some, None}
+use Rattle.std.specs.Prelude.{◌≡◌, ℕ, zero, suc, get_or, slice_get, List, Option, Some, None}
 use Rattle.vocabulary.specs.declared.node_kind.NodeKind.{NodeKind}
 use Rattle.vocabulary.specs.declared.node_kind.NodeKind.TheVariants as kinds
 use Rattle.meaning_typing.specs.Units.{UnitNodes, children_at, kind_at}
@@ -15,12 +15,6 @@ abbrev pub declarator_by : MemberPart → (handle : ℕ) → (before : Option �
 declarator_by parts.Declarator handle before = Some handle
 declarator_by parts.Width handle before = None
 declarator_by parts.Other handle before = before
-
--- a width stands here, or later and before the next declarator
-abbrev pub has_width_by : MemberPart → (later : Bool) → Bool
-has_width_by parts.Declarator later = false
-has_width_by parts.Width later = true
-has_width_by parts.Other later = later
 
 -- the last declarator before a place, but for the first part, unless a width stands between
 abbrev pub declarator_before : UnitNodes → (handles : List ℕ) → (place : ℕ) → Option ℕ

@@ -4,3 +4,4 @@ pub mod Flexible
 pub mod Members
 pub mod Seen
 pub mod Widths
+pub mod OpenArrays

@@ -11,6 +11,6 @@ abbrev pub list_around : List Surrounding → (declarator : ℕ) → ℕ
 list_around surroundings declarator = (surrounding_at surroundings (surrounding_at surroundings declarator).parent).parent
 
 -- of what isn't known nothing is told
-abbrev pub type_broken : Told → (token : ℕ) → (is_field may_be_flexible : Bool) → Option TypeTree → List Broken
-type_broken told token is_field may_be_flexible None = []
-type_broken told token is_field may_be_flexible (Some type_) = member_broken told token is_field may_be_flexible type_
+abbrev pub type_broken : Told → (token : ℕ) → (is_named may_be_flexible : Bool) → Option TypeTree → List Broken
+type_broken told token is_named may_be_flexible None = []
+type_broken told token is_named may_be_flexible (Some type_) = member_broken told token is_named may_be_flexible type_

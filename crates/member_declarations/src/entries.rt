@@ -1,10 +1,10 @@
-// Members among the parts of their declaration (C11 6.7.2.1): a width or a declarator in, to which declarator the width belongs and
-// whether the declarator has a width out. What stands between the two is passed over; types and names aren't known here.
-ghost use Rattle.std.specs.Prelude.{◌≡◌, ◌<◌, ◌≤◌, ◌+◌, drop, is_some, length, option_map};
+// Members among the parts of their declaration (C11 6.7.2.1): a width in, to which declarator it belongs out. What stands between the
+// two is passed over; types and names aren't known here.
+ghost use Rattle.std.specs.Prelude.{◌≡◌, ◌<◌, ◌≤◌, ◌+◌, length, option_map};
 ghost use Rattle.meaning_tree.specs.Laid.{IsLaid};
 ghost use Rattle.meaning_tree.specs.Nodes.{end_of};
-ghost use Rattle.vocabulary.specs.declared.node_kind.NodeKind.TheVariants.{BitFieldWidth, Declarator};
-ghost use Rattle.meaning_typing.specs.MemberDeclarations.{member_entries, pending_from};
+ghost use Rattle.vocabulary.specs.declared.node_kind.NodeKind.TheVariants.{BitFieldWidth};
+ghost use Rattle.meaning_typing.specs.MemberDeclarations.{member_entries};
 ghost use Rattle.meaning_typing.specs.MemberRows as meaning;
 ghost use Rattle.meaning_typing.specs.Surroundings.{surrounding_at};
 ghost use Rattle.meaning_typing.specs.Units.{children_at, kind_at as kind_of};
@@ -56,21 +56,6 @@ fn declarator_before(unit: &Unit, parts: &TagList, place: u32) -> Option<Handle>
     None
 }
 
-// Whether a width stands behind a place, before the next declarator.
-fn has_width_behind(unit: &Unit, parts: &TagList, place: u32) -> bool
-    requires { unit.now.first ≡ 0 }
-    ensures { result ≡ is_some (pending_from (nodes_of unit.now) (drop (place + 1) (handles_of parts.now))).width }
-{
-    for next in place.saturating_add(1)..parts.len() {
-        match member_part(kind_at(unit, parts.get(next).0)) {
-            MemberPart::Declarator => return false,
-            MemberPart::Width => return true,
-            MemberPart::Other => {}
-        }
-    }
-    false
-}
-
 fn declarator_before_place(unit: &Unit, declaration: Handle, place: u32) -> Option<Handle>
     requires whole { unit.now.first ≡ 0 }
     requires place { place < length (children_at (nodes_of unit.now) declaration) }
@@ -79,16 +64,6 @@ fn declarator_before_place(unit: &Unit, declaration: Handle, place: u32) -> Opti
     match node_at(unit, declaration) {
         Some(node) => declarator_before(unit, &node.children, place),
         None => None,
-    }
-}
-
-fn has_width_behind_place(unit: &Unit, declaration: Handle, place: u32) -> bool
-    requires { unit.now.first ≡ 0 }
-    ensures { result ≡ is_some (pending_from (nodes_of unit.now) (drop (place + 1) (children_at (nodes_of unit.now) declaration))).width }
-{
-    match node_at(unit, declaration) {
-        Some(node) => has_width_behind(unit, &node.children, place),
-        None => false,
     }
 }
 
@@ -107,21 +82,4 @@ pub fn declarator_of_width(
 {
     let standing = surroundings.get(width);
     declarator_before_place(unit, standing.parent, standing.place)
-}
-
-/// Whether a member that is declared by this declarator is a bit-field. It takes a step for each part between the declarator and
-/// its width, or the next declarator.
-pub fn has_width(unit: &Unit, surroundings: &Surroundings, declarator: Handle) -> bool
-    requires whole { unit.now.first ≡ 0 }
-    requires laid { IsLaid unit.now }
-    requires surroundings { AreSurroundingsOf unit.now surroundings.now }
-    requires part { declarator + 1 < end_of unit.now }
-    requires kind { kind_of (nodes_of unit.now) declarator ≡ Declarator }
-    ensures { result ≡ meaning.has_width (meaning.entry_with_declarator declarator (member_entries (nodes_of unit.now) (surrounding_at (surroundings_seen surroundings.now) declarator).parent)) }
-{
-    let standing = surroundings.get(declarator);
-    if standing.place == 0 {
-        return false;
-    }
-    has_width_behind_place(unit, standing.parent, standing.place)
 }

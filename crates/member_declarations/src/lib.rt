@@ -16,11 +16,12 @@ mod fact;
 mod flexible;
 mod members;
 mod numbers;
+mod open_arrays;
 mod row;
 mod widths;
 
 pub use bit_fields::bit_field_row;
-pub use entries::{declarator_of_width, has_width};
+pub use entries::declarator_of_width;
 pub use fact::member_fact;
 pub use flexible::{FlexiblePlace, LastMember, NamedMembers, may_be_flexible};
 pub use members::{judge_member, member_row};

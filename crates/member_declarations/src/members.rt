@@ -21,14 +21,15 @@ ghost use Rattle.member_declarations.specs.Flexible.{IsToldOf};
 ghost use Rattle.member_declarations.specs.Members.{list_around, type_broken};
 ghost use Rattle.member_declarations.specs.Seen.{row_seen};
 
-use crate::entries::has_width;
+use crate::bit_fields::has_name;
 use crate::fact::member_fact;
 use crate::flexible::{FlexiblePlace, may_be_flexible};
+use crate::open_arrays::is_flexible;
 use crate::row::MemberRow;
 use c_tree::{Handle, Unit};
 use c_types::Types;
 use decl_judge::token_at;
-use declaration_rows::{incomplete_name, is_no_object, is_unbounded};
+use declaration_rows::{incomplete_name, is_no_object};
 use expression_rows::Broken;
 use node_facts::{NodeFact, NodeFacts};
 use node_surroundings::Surroundings;
@@ -39,14 +40,14 @@ use std::alloc::{AllocError, Global};
 fn member_broken(
     types: &Types,
     token: u32,
-    is_field: bool,
+    is_named: bool,
     may_be_flexible: bool,
     of: TypeId,
 ) -> Option<Broken>
     requires { IsTypeId types.now of }
-    ensures { option_map broken_seen result ≡ least_broken (meaning.member_broken (told_in types.now) token is_field may_be_flexible (type_at types.now of)) }
+    ensures { option_map broken_seen result ≡ least_broken (meaning.member_broken (told_in types.now) token is_named may_be_flexible (type_at types.now of)) }
 {
-    if is_field || (is_unbounded(types, of) && may_be_flexible) {
+    if !is_named || (may_be_flexible && is_flexible(types, of)) {
         None
     } else {
         incomplete_name(token, is_no_object(types, of))
@@ -57,16 +58,16 @@ fn member_broken(
 fn fact_broken(
     types: &Types,
     token: u32,
-    is_field: bool,
+    is_named: bool,
     may_be_flexible: bool,
     fact: NodeFact,
 ) -> Option<Broken>
     requires { IsKnownNodeFact types.now fact }
-    ensures { option_map broken_seen result ≡ least_broken (type_broken (told_in types.now) token is_field may_be_flexible (type_declared (node_seen types.now fact))) }
+    ensures { option_map broken_seen result ≡ least_broken (type_broken (told_in types.now) token is_named may_be_flexible (type_declared (node_seen types.now fact))) }
 {
     match fact {
         NodeFact::Declared(declaration) => {
-            member_broken(types, token, is_field, may_be_flexible, declaration.of)
+            member_broken(types, token, is_named, may_be_flexible, declaration.of)
         }
         _ => None,
     }
@@ -74,9 +75,8 @@ fn fact_broken(
 
 /// The row of the declarator with this handle, which stands in a declaration of members and of which this is known, where what is
 /// kept is that of its body and this is broken by its name, if something is. `IncompleteType` is broken at its token where its type
-/// is void, a function, or not complete, unless it is a bit-field, or is an array without a length that may be flexible. What its
-/// name breaks leaves it its type. It takes a few steps, and one for each part between the declarator and its width, or the next
-/// declarator.
+/// is void, a function, or not complete, unless it has no name, or is an array without a length that may be flexible. What its
+/// name breaks leaves it its type. It takes a few steps.
 pub fn member_row(
     unit: &Unit,
     surroundings: &Surroundings,
@@ -100,9 +100,9 @@ pub fn member_row(
     ensures known { IsKnownNodeFact types.now result.fact }
 {
     let declaration = surroundings.get(handle).parent;
-    let is_field = has_width(unit, surroundings, handle);
+    let is_named = has_name(unit, handle);
     let flexible = may_be_flexible(unit, surroundings, body, handle, declaration);
-    let broken = fact_broken(types, token_at(unit, handle), is_field, flexible, fact);
+    let broken = fact_broken(types, token_at(unit, handle), is_named, flexible, fact);
     MemberRow::unless(broken, fact, None).breaking(declared_twice)
 }
 

@@ -11,25 +11,26 @@ use Rattle.meaning_operands.specs.Failures as meaning
 use Rattle.meaning_rules.specs.Rules.{least_broken, least_token}
 use Rattle.meaning_types.specs.Conversions.{is_signed}
 use Rattle.meaning_types.specs.Types.{TypeTree, Typed, VoidTree, IntegerTree, RestrictedTree, PointerTree, ArrayTree, FunctionTree, AggregateTree}
-use Rattle.meaning_typing.specs.DeclarationRows.{declarator_parts_broken}
+use Rattle.meaning_typing.specs.DeclarationRows.{declarator_parts_broken, defined_name_broken}
 use Rattle.meaning_typing.specs.Declarators.{declarator_fact, specifiers_of, type_declared}
 use Rattle.meaning_typing.specs.Facts.{Fact, SpecifiedFact, fact_at}
 use Rattle.meaning_typing.specs.MemberDeclarations.{MemberEntry, member_entries}
-use Rattle.meaning_typing.specs.MemberRows.{bit_field_row, entry_with_width, is_member_declaration, is_one, member_declarator_row, one_bit_failures, width_of_entry, width_row}
+use Rattle.meaning_typing.specs.MemberRows.{bit_field_row, entry_with_width, is_member_declaration, is_one, member_declarator_row, name_broken, one_bit_failures, width_of_entry, width_row}
 use Rattle.meaning_typing.specs.Rows.{Row, fails_with}
 use Rattle.meaning_typing.specs.Surroundings.{Surrounding}
 use Rattle.meaning_typing.specs.Units.{UnitNodes, child_at, children_at, kind_at}
-use Rattle.meaning_typing.specs.WholeTyping.{declaration_row_by, declared_row, large_by, whole_declarator_row}
+use Rattle.meaning_typing.specs.WholeTyping.{declaration_row_by, declared_row, large_by, own_name_broken, whole_declarator_row}
 use Rattle.c_types.specs.Layouts.{told_in}
 use Rattle.c_types.specs.Table.{TypeTable, IsTypeId, type_at}
 use Rattle.declaration_rows.specs.declared.declarator.DeclaratorParts.{DeclaratorParts}
-use Rattle.declaration_judge.specs.Rows.{kept_and}
-use Rattle.declaration_judge.proofs.RowLemmas.{and_kept}
+use Rattle.declaration_judge.specs.Rows.{row_without_type}
+use Rattle.declaration_judge.proofs.RowLemmas.{declarator_row, row_typed, row_untyped, untyped_silent}
+use Rattle.expression_rows.specs.declared.row.Broken.{Broken}
 use Rattle.expression_rows.specs.Arguments.{Appends, listed_failure}
 use Rattle.expression_rows.specs.Rows.{IsKnownFailure, Told, broken_seen, failure_listed, failure_seen, told}
 use Rattle.expr_judge.specs.declared.row.NodeRow.{NodeRow}
-use Rattle.expr_judge.specs.Rows.{KeptRow, Tells, row_kept, row_seen}
-use Rattle.expr_judge.proofs.TellingLemmas.{one_known, one_listed}
+use Rattle.expr_judge.specs.Rows.{Tells, row_kept, row_seen}
+use Rattle.expr_judge.proofs.TellingLemmas.{one_known, one_listed, tells_only}
 use Rattle.member_declarations.specs.declared.row.MemberRow.{MemberRow}
 use Rattle.member_declarations.specs.Seen as members
 use Rattle.node_facts.specs.Facts.{IsKnownNodeFact}
@@ -119,25 +120,60 @@ module _ (nodes : UnitNodes) (surroundings : List Surrounding) (handle : ℕ) (s
       else declaration_row_by (told_in old) nodes surroundings facts handle surrounding (declarator_fact nodes surrounding facts handle specifiers))
       (sym declares)
 
-  -- the row, with what the parts break and pass
+  abbrev parts_broken : List meaning.Broken
+  parts_broken = declarator_parts_broken (told_in old) nodes facts handle surrounding specifiers
+
+  abbrev names_broken : List meaning.Broken
+  names_broken = own_name_broken nodes surroundings facts handle surrounding
+
+  abbrev large : List ℕ
+  large = large_by (told_in old) nodes facts surrounding.parent (children_at nodes handle) specifiers
+
+  abbrev declared_so : Row
+  declared_so = declared_row (told_in old) nodes surroundings facts handle surrounding
+
+  names-are : name_broken nodes surroundings handle ≡ names_broken
+  names-are =
+      ap
+      (λ test. if test then name_broken nodes surroundings handle
+      else defined_name_broken nodes surroundings facts handle (declarator_fact nodes surrounding facts handle specifiers))
+      (sym declares)
+
+  -- the row, where the parts break nothing
   pub tells_member :
       (before after : List Failure) (row said : NodeRow) (parts : DeclaratorParts)
       → Tells new new before after row (member_declarator_row nodes surroundings (told_in old) facts handle surrounding)
-      → option_map broken_seen parts.broken ≡ least_broken (declarator_parts_broken (told_in old) nodes facts handle surrounding specifiers)
-      → parts.passed ≡ least_token (large_by (told_in old) nodes facts surrounding.parent (children_at nodes handle) specifiers)
-      → row_seen new said ≡ record (kept_and (row_seen new row) (option_map broken_seen parts.broken)) { passed = parts.passed }
+      → parts.broken ≡ None → option_map broken_seen parts.broken ≡ least_broken parts_broken → parts.passed ≡ least_token large
+      → row_seen new said ≡ record (row_seen new row) { passed = parts.passed }
       → IsKnownNodeFact new said.fact
       → Tells old new before after said (whole_declarator_row (told_in old) nodes surroundings facts handle surrounding)
-  tells_member before after row said parts tells least large made id =
-      let broken = declarator_parts_broken (told_in old) nodes facts handle surrounding specifiers in
-      let passed = large_by (told_in old) nodes facts surrounding.parent (children_at nodes handle) specifiers in
-      let declared = declared_row (told_in old) nodes surroundings facts handle surrounding in
-      record {
-        row =
-            made
-            ∙ (λ i. record (kept_and ((tells.row ∙ ap row_kept declared-is) i) (least i)) { passed = large i })
-            ∙ ap (λ (one : KeptRow). record one { passed = least_token passed }) (and_kept declared broken);
+  tells_member before after row said parts tells none least passed made id =
+      subst (Tells old new before after said)
+      (sym (row_typed parts_broken names_broken declared_so large (sym (ap (option_map broken_seen) none) ∙ least)))
+      (record {
+        row = made ∙ (λ i. record ((tells.row ∙ ap row_kept declared-is) i) { passed = passed i });
         ids = id;
         failures = subst (λ (one : Row). Appends new before after one.failures) declared-is tells.failures;
         keeps = join;
-      }
+      })
+
+  -- and where they do
+  pub tells_untyped :
+      (found : List Failure) (said : NodeRow) (parts : DeclaratorParts) (broken : Broken) (name : Option Broken)
+      → parts.broken ≡ Some broken → option_map broken_seen parts.broken ≡ least_broken parts_broken → parts.passed ≡ least_token large
+      → option_map broken_seen name ≡ least_broken (name_broken nodes surroundings handle)
+      → row_seen new said ≡ row_without_type (Some (broken_seen broken)) (option_map broken_seen name) parts.passed
+      → IsKnownNodeFact new said.fact
+      → Tells old new found found said (whole_declarator_row (told_in old) nodes surroundings facts handle surrounding)
+  tells_untyped found said parts broken name some least passed names made id =
+      let there : Some (broken_seen broken) ≡ least_broken parts_broken = sym (ap (option_map broken_seen) some) ∙ least in
+      tells_only old new found said (declarator_row parts_broken names_broken declared_so large)
+      (record {
+        row =
+            made
+            ∙ (λ i. row_without_type (there i) ((names ∙ ap least_broken names-are) i) (passed i))
+            ∙ sym (row_untyped parts_broken names_broken declared_so large (broken_seen broken) there);
+        ids = id;
+        silent = untyped_silent parts_broken names_broken declared_so large (broken_seen broken) there;
+      })
+      join

@@ -19,7 +19,7 @@ use Rattle.meaning_typing.specs.Surroundings.{Surrounding, Want, ForValue, surro
 use Rattle.meaning_typing.specs.Typing.{first_fact, part_fact, row_with_constant, token_at, with_constant}
 use Rattle.meaning_typing.specs.Units.{UnitNodes, child_at, children_at, kind_at, node_at}
 use Rattle.meaning_typing.specs.Wholes.{loaded_broken, row_loaded}
-use Rattle.meaning_typing.specs.WholeTyping.{assertion_row, declaration_broken, declaration_row_by, declared_row, holds_number, keeps_constant, whole_constant_at, whole_row_by, whole_row_of}
+use Rattle.meaning_typing.specs.WholeTyping.{assertion_row, declaration_broken, declaration_row_by, declared_row, declared_unless, holds_number, keeps_constant, own_name_broken, whole_constant_at, whole_row_by, whole_row_of}
 
 -- it is nothing that is known of an expression
 abbrev pub IsNoExpression : Fact → Type 0
@@ -122,12 +122,17 @@ module _ (aggregates : KnownAggregates) (nodes : UnitNodes) (surroundings : List
       (test_none (is_void (type_of_value expression)) nothing (breaks (breaks_at ValueReturnedFromVoid token)) tt tt) tt
   return_none token value (Some fact) (Some result) = tt
 
+  typed_none : (parts names : List Broken) (row : Row) → IsNoExpression row.fact → IsNoExpression (declared_unless parts names row).fact
+  typed_none [] names row none = none
+  typed_none (broken ∷ others) names row none = tt
+
   pub declarator_by : whole_row_of aggregates nodes surroundings facts handle kinds.Declarator ≡ whole_row_by aggregates nodes surroundings facts handle kinds.Declarator
   declarator_by =
       let surrounding = surrounding_at surroundings handle in
       plain_by kinds.Declarator refl
-      (unless_none (declarator_parts_broken aggregates.told nodes facts handle surrounding (specifiers_of nodes facts surrounding.parent))
-      (declared_row aggregates.told nodes surroundings facts handle surrounding).fact (declared_none surrounding))
+      (typed_none (declarator_parts_broken aggregates.told nodes facts handle surrounding (specifiers_of nodes facts surrounding.parent))
+      (own_name_broken nodes surroundings facts handle surrounding) (declared_row aggregates.told nodes surroundings facts handle surrounding)
+      (declared_none surrounding))
 
   pub parameter_by : whole_row_of aggregates nodes surroundings facts handle kinds.Parameter ≡ whole_row_by aggregates nodes surroundings facts handle kinds.Parameter
   parameter_by =

@@ -7,7 +7,7 @@ use Rattle.vocabulary.specs.declared.node_kind.NodeKind.TheVariants as kinds
 use Rattle.meaning_typing.specs.Declarators.{length_said, specifiers_of, specified_by, type_declared}
 use Rattle.meaning_typing.specs.EnumRows.{enumerators_among, enumerators_of, expression_among, is_enumerator, is_expression_part}
 use Rattle.meaning_typing.specs.Facts.{Fact, Unknown, SpecifiedFact, fact_at}
-use Rattle.meaning_typing.specs.MemberDeclarations.{MemberEntry, PendingMembers, attributes_behind, bodies_at, bodies_before, body_member, declared_body, entry_member, is_tagless_among, member_alignment, member_entries, member_list, member_lists, members_by, members_of_list, members_of_part, name_said, nameless_member, pending_from, pending_with, specified_type, specifier_bodies, width_said}
+use Rattle.meaning_typing.specs.MemberDeclarations.{MemberEntry, PendingMembers, attributes_behind, bodies_at, bodies_before, body_member, declared_body, entry_member, member_alignment, member_entries, member_list, member_lists, members_by, members_of_list, members_of_part, name_said, nameless_member, nameless_of_type, pending_from, pending_with, specified_type, specifier_bodies, type_of_entry, width_said}
 use Rattle.meaning_typing.specs.Surroundings.{Surrounding, surrounding_at}
 use Rattle.meaning_typing.specs.Units.{UnitNodes, child_at, children_at, children_from, kind_at, node_at}
 use Rattle.node_judge.specs.Bodies.{BodiesStay, PartsStandBefore}
@@ -113,15 +113,14 @@ module _ (nodes : UnitNodes) (facts others : List Fact) (bound : ℕ) (before : 
       → entry_member nodes others declaration entry ≡ entry_member nodes facts declaration entry
   entry-same declaration entry below =
       ap₂
-      (λ (width : Option ℕ) (fact : Fact). body_member (name_said (node_at nodes entry.declarator).name) width (member_alignment nodes declaration entry.lists) (type_declared fact))
+      (λ (width : Option ℕ) (fact : Fact). body_member (name_said (node_at nodes entry.declarator).name) width (member_alignment nodes declaration entry.lists)
+      (type_of_entry (node_at nodes entry.declarator).name (type_declared fact)))
       (width-same entry.width below.width) (same entry.declarator below.declarator)
 
   nameless-same : (declaration : ℕ) → declaration ≤ bound → nameless_member nodes others declaration ≡ nameless_member nodes facts declaration
   nameless-same declaration within =
       ap
-      (λ (specifiers : Option SpecifiedFact).
-      if is_tagless_among nodes (children_at nodes (child_at nodes declaration 0))
-      then body_member None None (member_alignment nodes declaration []) (specified_type specifiers) else [])
+      (λ (specifiers : Option SpecifiedFact). nameless_of_type nodes declaration (specified_type specifiers))
       (specifiers-same declaration within)
 
   members-same : (declaration : ℕ) → declaration ≤ bound → (entries : List MemberEntry) → All (IsEntryBelow bound) entries

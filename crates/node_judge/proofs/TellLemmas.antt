@@ -13,12 +13,12 @@ use Rattle.meaning_layout.proofs.TellingLemmas.{told_in_order-found}
 use Rattle.meaning_types.specs.Types.{TypeTree}
 use Rattle.meaning_typing.specs.Aggregates.{Bodies, KnownAggregates, aggregates_of}
 use Rattle.meaning_typing.specs.Facts.{Fact}
-use Rattle.meaning_typing.specs.MemberDeclarations.{bodies_at, bodies_before, member_list}
+use Rattle.meaning_typing.specs.MemberDeclarations.{bodies_at, bodies_before, is_member_list, member_list}
 use Rattle.meaning_typing.specs.MemberRows.{aggregates_before}
 use Rattle.meaning_typing.specs.Surroundings.{Surrounding}
 use Rattle.meaning_typing.specs.Units.{UnitNodes, kind_at}
 use Rattle.aggregate_rows.specs.Bodies.{is_aggregate}
-use Rattle.body_members.specs.Seen.{body_seen, is_member_list, member_seen}
+use Rattle.body_members.specs.Seen.{body_seen, member_seen}
 use Rattle.c_types.specs.declared.bodies.AggregateBody.{AggregateBody}
 use Rattle.c_types.specs.declared.bodies.Member.{Member}
 use Rattle.c_types.specs.Layouts as layouts

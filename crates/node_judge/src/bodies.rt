@@ -2,11 +2,11 @@
 // whether it has a const member is kept. What its row says isn't known here.
 ghost use Rattle.std.specs.Prelude.{◌≡◌, ◌<◌, ◌++◌, ◌∷◌, [], All, IfOk, OnOk, length, nat_le, true};
 ghost use Rattle.meaning_tree.specs.Nodes.{end_of};
-ghost use Rattle.meaning_typing.specs.MemberDeclarations.{bodies_before};
+ghost use Rattle.meaning_typing.specs.MemberDeclarations.{bodies_before, is_member_list};
 ghost use Rattle.meaning_typing.specs.MemberRows.{aggregates_before};
 ghost use Rattle.meaning_typing.specs.Units.{kind_at as kind_of};
 ghost use Rattle.aggregate_rows.specs.Bodies.{is_aggregate};
-ghost use Rattle.body_members.specs.Seen.{body_seen, is_member_list};
+ghost use Rattle.body_members.specs.Seen.{body_seen};
 ghost use Rattle.c_types.specs.Table.{IsBodyOver, types_in};
 ghost use Rattle.decl_judge.specs.Units.{handles_of, nodes_of};
 ghost use Rattle.member_rows.specs.Aggregates.{aggregates_in, bodies_in};

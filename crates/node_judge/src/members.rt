@@ -16,7 +16,7 @@ use crate::known::Known;
 use crate::widths::{is_part, take_member_row};
 use c_tree::{Handle, Unit};
 use decl_judge::kind_at;
-use declaration_judge::{Declarations, declarator as other_declarator, with_parts};
+use declaration_judge::{Declarations, declarator as other_declarator, with_passed, without_type};
 use declaration_rows::declarator_parts;
 use expr_judge::NodeRow;
 use member_declarations::judge_member;
@@ -69,9 +69,14 @@ fn member_declarator(
     let body = places.of(unit, list)?;
     let parts = declarator_parts(alloc, unit, facts, types, surrounding, handle)?;
     let twice = name_broken(unit, names, handle);
-    let row = judge_member(alloc, unit, surroundings, facts, types, body, handle, twice)?;
-    let taken = take_member_row(row, found)?;
-    Ok(with_parts(taken, parts))
+    match parts.broken {
+        None => {
+            let row = judge_member(alloc, unit, surroundings, facts, types, body, handle, twice)?;
+            let taken = take_member_row(row, found)?;
+            Ok(with_passed(taken, parts.passed))
+        }
+        Some(broken) => Ok(without_type(broken, twice, parts.passed)),
+    }
 }
 
 /// The row of the declarator with this handle. The rules that fail are appended. It takes the steps of its parts, one for each

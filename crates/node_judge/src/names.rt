@@ -1,19 +1,18 @@
 // Names that are used (C11 6.5.1 p2, 6.7.2.2 p3): a node in, what it stands for is looked up, and its row comes out.
-ghost use Rattle.std.specs.Prelude.{◌≡◌, ◌≤◌, ◌<◌, ◌^◌, false, true, All, IfNone, IfOk, IfSome, List, length};
+ghost use Rattle.std.specs.Prelude.{◌≡◌, ◌≤◌, ◌<◌, ◌^◌, false, true, All, IfNone, IfOk, IfSome, List, length, option_map};
 ghost use Rattle.sparse_model.specs.declared.failure.Failure.{Failure as Found};
 ghost use Rattle.vocabulary.specs.declared.node_kind.NodeKind.TheVariants as kinds;
 ghost use Rattle.meaning_tree.specs.Nodes.{end_of};
 ghost use Rattle.meaning_typing.specs.EnumRows.{is_enumerator};
-ghost use Rattle.meaning_typing.specs.Facts.{fact_at};
+ghost use Rattle.meaning_typing.specs.Names as meaning;
 ghost use Rattle.meaning_typing.specs.Surroundings.{surrounding_at};
 ghost use Rattle.meaning_typing.specs.Units.{kind_at as kind_of, node_at as node_of_unit};
 ghost use Rattle.c_types.specs.Table.{Extends, IsTypeId};
 ghost use Rattle.decl_judge.specs.Units.{nodes_of};
 ghost use Rattle.declaration_rows.specs.Kept.{AreLinked};
-ghost use Rattle.expr_judge.specs.Parts.{declaration_in, kept_at};
 ghost use Rattle.expr_judge.specs.Rows.{Tells};
-ghost use Rattle.expression_rows.specs.Names.{IsNamed};
-ghost use Rattle.node_facts.specs.Facts.{IsKnownNodeFact, nodes_seen};
+ghost use Rattle.expression_rows.specs.Names.{IsNamed, declared_by};
+ghost use Rattle.node_facts.specs.Facts.{IsKnownNodeFact, declared_seen, nodes_seen};
 ghost use Rattle.node_surroundings.specs.Seen.{surroundings_seen};
 ghost use Rattle.specifier_judge.specs.Kept.{IsKeptOf};
 ghost use Rattle.whole_rows.specs.Rows.{is_for_value};
@@ -23,7 +22,7 @@ use crate::loaded::{as_loaded, is_for_value};
 use c_tree::{Handle, Unit};
 use c_types::Types;
 use decl_judge::{kind_at, token_at};
-use declaration_rows::type_of_name;
+use declaration_rows::{declared_behind, type_of_name};
 use expr_judge::{NodeRow, declaration_of};
 use expression_rows::DeclaredName;
 use linked_names::LinkedNames;
@@ -34,33 +33,84 @@ use specifier_judge::Enumerations;
 use std::alloc::AllocError;
 use whole_judge::{row_of_declared_name, row_of_enumerator_name};
 
-// What is known of the declarator with this handle, if it is one.
-fn declaration_at(facts: &NodeFacts, handle: u64) -> Option<DeclaredFact>
-    requires { length facts.now ≤ 2 ^ 32 }
-    ensures { result ≡ declaration_in (kept_at facts.now handle) }
+fn handle_of(number: u64) -> Option<Handle>
+    ensures none { IfNone result (2 ^ 32 ≤ number) }
+    ensures one { IfSome result (λ handle. handle ≡ number) }
 {
-    match Handle::try_from(handle) {
-        Ok(handle) => declaration_of(facts.at(handle)),
+    match Handle::try_from(number) {
+        Ok(handle) => Some(handle),
         Err(_) => None,
+    }
+}
+
+// What the node with this handle declares behind the others, if it is a declarator.
+fn declaration_behind(
+    unit: &Unit,
+    surroundings: &Surroundings,
+    types: &Types,
+    facts: &NodeFacts,
+    handle: Handle,
+) -> Option<DeclaredFact>
+    requires whole { unit.now.first ≡ 0 }
+    requires surroundings { length surroundings.now ≡ length unit.now.nodes }
+    requires ids { All (IsKnownNodeFact types.now) facts.now }
+    ensures found { option_map (declared_seen types.now) result ≡ declared_by (meaning.declared_behind (nodes_of unit.now) (surroundings_seen surroundings.now) (nodes_seen types.now facts.now) handle) }
+    ensures known { IfSome result (λ declaration. IsTypeId types.now declaration.of) }
+{
+    match declaration_of(facts.at(handle)) {
+        Some(declaration) => Some(declared_behind(
+            unit,
+            surroundings,
+            types,
+            facts,
+            handle,
+            declaration,
+        )),
+        None => None,
+    }
+}
+
+// The same by the number of a name.
+fn declaration_at(
+    unit: &Unit,
+    surroundings: &Surroundings,
+    types: &Types,
+    facts: &NodeFacts,
+    number: u64,
+) -> Option<DeclaredFact>
+    requires whole { unit.now.first ≡ 0 }
+    requires surroundings { length surroundings.now ≡ length unit.now.nodes }
+    requires ids { All (IsKnownNodeFact types.now) facts.now }
+    requires few { length facts.now ≤ 2 ^ 32 }
+    ensures found { option_map (declared_seen types.now) result ≡ declared_by (meaning.declared_behind (nodes_of unit.now) (surroundings_seen surroundings.now) (nodes_seen types.now facts.now) number) }
+    ensures known { IfSome result (λ declaration. IsTypeId types.now declaration.of) }
+{
+    match handle_of(number) {
+        Some(handle) => declaration_behind(unit, surroundings, types, facts, handle),
+        None => None,
     }
 }
 
 // What a name stands for that the declarator with this handle declares, if something is known of one. Declarations of a name with
 // linkage are kept by name, so no walk goes over them.
 fn declared_name(
+    unit: &Unit,
+    surroundings: &Surroundings,
     types: &Types,
     facts: &NodeFacts,
     linked: &LinkedNames,
     handle: u64,
 ) -> Option<DeclaredName>
+    requires whole { unit.now.first ≡ 0 }
+    requires surroundings { length surroundings.now ≡ length unit.now.nodes }
     requires ids { All (IsKnownNodeFact types.now) facts.now }
     requires few { length facts.now ≤ 2 ^ 32 }
     requires over { Extends linked.now.over types.now }
     requires linked { AreLinked types.now facts.now linked.now }
-    ensures named { IsNamed types.now result (nodes_seen types.now facts.now) (fact_at (nodes_seen types.now facts.now) handle) }
+    ensures named { IsNamed types.now result (nodes_seen types.now facts.now) (meaning.declared_behind (nodes_of unit.now) (surroundings_seen surroundings.now) (nodes_seen types.now facts.now) handle) }
     ensures known { IfSome result (λ named. IsTypeId types.now named.of) }
 {
-    let declaration = declaration_at(facts, handle)?;
+    let declaration = declaration_at(unit, surroundings, types, facts, handle)?;
     Some(DeclaredName {
         of: type_of_name(types, facts, linked, declaration),
         is_typedef: declaration.is_typedef,
@@ -166,7 +216,7 @@ pub fn name(
             enumerator,
         ),
         None => {
-            let named = declared_name(types, facts, linked, number);
+            let named = declared_name(unit, surroundings, types, facts, linked, number);
             row_of_declared_name(types, token_at(unit, handle), is_valued, named, found)
         }
     }

@@ -6,7 +6,7 @@ use Rattle.sparse_model.specs.declared.failure.Failure.{Failure}
 use Rattle.meaning_judgements.specs.UnitRows.{row_by_statement, unit_row_at, with_statement}
 use Rattle.meaning_rules.specs.Rules.{lesser}
 use Rattle.meaning_statements.specs.StatementRows.{statement_row_at}
-use Rattle.meaning_typing.specs.Facts.{Fact, Unknown}
+use Rattle.meaning_typing.specs.Facts.{Fact}
 use Rattle.meaning_layout.specs.Sizes.{Told}
 use Rattle.meaning_initialized.specs.Initialized.{Initialized, NoObject, initialized_by}
 use Rattle.meaning_initialized.specs.Rows.{IsInitializingRow, IsRowOf}
@@ -25,7 +25,7 @@ use Rattle.expression_rows.specs.Rows.{broken_seen}
 use Rattle.expr_judge.specs.declared.row.NodeRow.{NodeRow}
 use Rattle.expr_judge.specs.Rows.{KeptRow, Tells}
 use Rattle.expr_judge.proofs.GrowthLemmas.{appended_both, appended_later}
-use Rattle.type_judge.specs.Rows.{accessed, nothing_known, row_with_statement}
+use Rattle.type_judge.specs.Rows.{accessed, row_with_statement}
 use Rattle.type_judge.proofs.LeastLemmas.{least_both}
 
 -- By kinds
@@ -93,19 +93,8 @@ module _ (nodes : UnitNodes) (surroundings : List Surrounding) (earlier : List F
   literal_row kind same is row initializes = (row, initializes, ap (λ (k : NodeKind). row_by_initializer k own row) (sym (same ∙ is)))
 
   pub initializer_row : (kind : NodeKind) → kind_at nodes handle ≡ kind → kind ≡ kinds.Initializer → (row : Row)
-      → IsInitializingRow told nodes surroundings earlier handle row → IsUnitRow nodes surroundings earlier handle (record row { fact = Unknown })
+      → IsInitializingRow told nodes surroundings earlier handle row → IsUnitRow nodes surroundings earlier handle row
   initializer_row kind same is row initializes = (row, initializes, ap (λ (k : NodeKind). row_by_initializer k own row) (sym (same ∙ is)))
-
--- A row of which nothing is known
-pub tells_unknown : (old new : TypeTable) (before after : List Failure) (said : NodeRow) (meant : Row) → Tells old new before after said meant
-    → Tells old new before after (nothing_known said) (record meant { fact = Unknown })
-tells_unknown old new before after said meant tells =
-    record {
-      row = ap (λ (r : KeptRow). record r { fact = Unknown }) tells.row;
-      ids = tt;
-      failures = tells.failures;
-      keeps = tells.keeps;
-    }
 
 -- A row, and what a statement breaks and which rules fail there besides
 module _ (first second third : TypeTable) (before between after : List Failure) (row statement both : NodeRow) (meant also : Row)

@@ -14,7 +14,6 @@ use Rattle.meaning_typing.specs.WholeTyping.{whole_row_at}
 use Rattle.meaning_units.specs.UnitRows.{IsUnitRow}
 use Rattle.expr_judge.specs.declared.row.NodeRow.{NodeRow}
 use Rattle.expr_judge.specs.Rows.{Tells}
-use Rattle.node_facts.specs.declared.fact.NodeFact.TheVariants as facts
 use Rattle.node_judge.specs.declared.known.Known.{Known}
 use Rattle.node_judge.specs.Known.{facts_seen, table_of}
 
@@ -27,10 +26,6 @@ row_with_statement nodes surroundings earlier handle =
 abbrev pub accessed : UnitNodes → List Surrounding → (handle : ℕ) → Row → Row
 accessed nodes surroundings handle row =
     record row { failures = row.failures ++ access_failures (token_at nodes handle) (surrounding_at surroundings handle) row.fact }
-
--- what a row says, but for what is known
-abbrev pub nothing_known : NodeRow → NodeRow
-nothing_known row = record row { fact = facts.Unknown }
 
 -- What is answered of a node, over what was known of those before it
 

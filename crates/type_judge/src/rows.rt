@@ -10,7 +10,7 @@ ghost use Rattle.expression_rows.specs.Rows.{broken_seen};
 ghost use Rattle.node_judge.specs.Known.{IsKnownOf, facts_seen, table_of};
 ghost use Rattle.node_surroundings.specs.Seen.{AreSurroundingsOf, surroundings_seen};
 ghost use Rattle.statement_judge.specs.Statements.{IsKeptOf};
-ghost use Rattle.type_judge.specs.Rows.{TellsAccessedRow, TellsInitializing, TellsUnitRow, nothing_known, row_with_statement};
+ghost use Rattle.type_judge.specs.Rows.{TellsAccessedRow, TellsInitializing, TellsUnitRow, row_with_statement};
 
 use crate::access::access_node;
 use c_tree::{Handle, Unit};
@@ -19,7 +19,6 @@ use expr_judge::NodeRow;
 use expression_rows::lesser;
 use init_judge::tables_know_aggregates;
 use initialized_judge::judge_initialized;
-use node_facts::NodeFact;
 use node_judge::{Known, judge_node};
 use node_surroundings::Surroundings;
 use sparse_model::{FailureList, NodeKind};
@@ -84,17 +83,6 @@ fn initialized_row(
     judge_initialized(alloc, unit, surroundings, declarations, found, handle)
 }
 
-// What an initializer completes isn't looked for at it.
-fn without_fact(row: NodeRow) -> NodeRow
-    ensures { result ≡ nothing_known row }
-{
-    NodeRow {
-        fact: NodeFact::Unknown,
-        broken: row.broken,
-        passed: row.passed,
-    }
-}
-
 // The row of a node that neither is `return` nor initializes something.
 fn row_besides(
     alloc: Global,
@@ -148,8 +136,7 @@ fn row_of_node(
             initialized_row(alloc, unit, surroundings, known, found, handle)
         }
         NodeKind::Initializer => {
-            let row = initialized_row(alloc, unit, surroundings, known, found, handle)?;
-            Ok(without_fact(row))
+            initialized_row(alloc, unit, surroundings, known, found, handle)
         }
         _ => row_besides(alloc, unit, surroundings, known, statements, found, handle),
     }

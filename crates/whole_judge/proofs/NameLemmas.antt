@@ -9,8 +9,8 @@ use Rattle.meaning_constants.specs.Sizes.{sizes_by}
 use Rattle.meaning_typing.specs.Aggregates.{KnownAggregates}
 use Rattle.meaning_typing.specs.EnumRows.{enumerator_name_fact, is_enumerator}
 use Rattle.meaning_typing.specs.Facts as meaning
-use Rattle.meaning_typing.specs.Facts.{Fact, fact_at}
-use Rattle.meaning_typing.specs.Names.{name_row}
+use Rattle.meaning_typing.specs.Facts.{Fact}
+use Rattle.meaning_typing.specs.Names.{declared_behind, name_row}
 use Rattle.meaning_typing.specs.Rows.{Row, known}
 use Rattle.meaning_typing.specs.Surroundings.{Surrounding, surrounding_at}
 use Rattle.meaning_typing.specs.Typing.{part_seen, row_with_constant, token_at, with_constant}
@@ -57,7 +57,7 @@ module _ (aggregates : KnownAggregates) (nodes : UnitNodes) (surroundings : List
   abbrev named_row : (enumerates : Bool) → Row
   named_row enumerates =
       row_with_constant (number_if (of_one own_constant ((if enumerates then part_seen enumerator else None) ∷ [])))
-      (if enumerates then known enumerator else name_row list (fact_at list declaration))
+      (if enumerates then known enumerator else name_row list (declared_behind nodes surroundings list declaration))
 
   abbrev loaded : Row → Row
   loaded row = row_loaded aggregates.told (token_at nodes handle) (surrounding_at surroundings handle).want row
@@ -69,13 +69,13 @@ module _ (aggregates : KnownAggregates) (nodes : UnitNodes) (surroundings : List
       ∙ ap
       (λ (kind : NodeKind). loaded
       (row_with_constant (number_if (folded (sizes_by aggregates.told) (fold_of kind) (whole_facts_for_constant aggregates nodes surroundings list handle)))
-      (if is_enumerator (kind_at nodes declaration) then known enumerator else name_row list (fact_at list declaration))))
+      (if is_enumerator (kind_at nodes declaration) then known enumerator else name_row list (declared_behind nodes surroundings list declaration))))
       (sym is)
 
   pub declared_named : is_enumerator (kind_at nodes declaration) ≡ false
-      → loaded (name_row list (fact_at list declaration)) ≡ whole_row_by aggregates nodes surroundings list handle kinds.Name
+      → loaded (name_row list (declared_behind nodes surroundings list declaration)) ≡ whole_row_by aggregates nodes surroundings list handle kinds.Name
   declared_named same =
-      ap (λ fact. loaded (record (name_row list (fact_at list declaration)) { fact = fact })) (sym (name_none list (fact_at list declaration)))
+      ap (λ fact. loaded (record (name_row list (declared_behind nodes surroundings list declaration)) { fact = fact })) (sym (name_none list (declared_behind nodes surroundings list declaration)))
       ∙ named_by false same
 
   pub enumerator_named : is_enumerator (kind_at nodes declaration) ≡ true → (table : TypeTable) (fact : NodeFact) → node_seen table fact ≡ enumerator

@@ -3,6 +3,7 @@ use Rattle.std.specs.Prelude.{◌≡◌, ℕ, nat_lt, Bool, true, false, List, l
 use Rattle.vocabulary.specs.declared.node_kind.NodeKind.TheVariants as kinds
 use Rattle.meaning_typing.specs.EnumRows.{enumerators_of, is_enumerator}
 use Rattle.meaning_typing.specs.Facts.{Fact, fact_at}
+use Rattle.meaning_typing.specs.Names.{declared_behind}
 use Rattle.meaning_typing.specs.Surroundings.{Surrounding, surrounding_at}
 use Rattle.meaning_typing.specs.Typing.{token_at}
 use Rattle.meaning_typing.specs.Units.{UnitNodes, kind_at, node_at}
@@ -25,7 +26,7 @@ pub record IsNameAt (nodes : UnitNodes) (surroundings : List Surrounding) (handl
 pub record IsNameOfDeclaration (types : TypeTable) (nodes : UnitNodes) (surroundings : List Surrounding) (facts : List Fact) (handle token : ℕ) (is_valued : Bool) (named : Option DeclaredName) : Type 0 where
   pub at : IsNameAt nodes surroundings handle token is_valued
   pub declares : is_enumerator (kind_at nodes (node_at nodes handle).number) ≡ false
-  pub stands_for : IsNamed types named facts (fact_at facts (node_at nodes handle).number)
+  pub stands_for : IsNamed types named facts (declared_behind nodes surroundings facts (node_at nodes handle).number)
 
 -- it stands for an enumerator of which this is known, and whose enumeration says that of all
 pub record IsNameOfEnumerator (types : TypeTable) (nodes : UnitNodes) (surroundings : List Surrounding) (facts : List Fact) (handle token : ℕ) (is_valued is_behind : Bool) (sharing : Sharing) (fact : NodeFact) : Type 0 where

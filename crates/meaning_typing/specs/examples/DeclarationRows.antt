@@ -1,5 +1,5 @@
 -- Worked examples: declarations, by what they break and what fails at them. Units are drawn as trees, and tokens are counted from 0.
-use Rattle.std.specs.Prelude.{◌≡◌, ℕ, ◌+◌, pos, negsuc, List, [], ◌∷◌, ◌++◌, map, replicate, codes, Some, None}
+use Rattle.std.specs.Prelude.{◌≡◌, ℕ, ◌+◌, pos, negsuc, true, false, List, [], ◌∷◌, ◌++◌, map, replicate, codes, Option, Some, None}
 use Rattle.vocabulary.specs.declared.error_kind.ErrorKind.TheVariants.{BadElementType, BadResultType, BitwiseOnNoInteger, DefinedTwice, IncompleteType, NegativeArraySize, VariableLengthArray, VoidValueUsed}
 use Rattle.vocabulary.specs.declared.int_kind.IntKind.TheVariants as integers
 use Rattle.vocabulary.specs.declared.node_kind.NodeKind.TheVariants as kinds
@@ -9,12 +9,18 @@ use Rattle.vocabulary.specs.declared.rule.RuleCode.TheVariants.{A7, S1, S2, S6}
 use Rattle.meaning_tree.specs.Trees.{SyntaxTree, Node, parts_of}
 use Rattle.meaning_operands.specs.Failures.{Failure}
 use Rattle.meaning_typing.specs.Units.{UnitNodes}
-use Rattle.meaning_typing.specs.Facts.{Unknown, Expression, value}
+use Rattle.meaning_typing.specs.Surroundings.{surrounding_at}
+use Rattle.meaning_typing.specs.Building.{surroundings_of}
+use Rattle.meaning_typing.specs.Facts.{Fact, Unknown, Declared, Expression, value}
+use Rattle.meaning_typing.specs.Declarators.{array_type}
+use Rattle.meaning_typing.specs.Names.{declared_behind, linked_types}
+use Rattle.meaning_typing.specs.ContextSums.{ContextSums, contexts_of}
+use Rattle.meaning_typing.specs.WholeTyping.{first_whole_facts}
 use Rattle.meaning_typing.specs.Rows.{breaks_at, breaks_named, fails_with}
-use Rattle.meaning_typing.specs.DeclarationRows.{size_broken}
-use Rattle.meaning_typing.specs.examples.Drawn.{array, declaration, declarator, function, int, leaf, nodes_of, over, parameter, type_over}
+use Rattle.meaning_typing.specs.DeclarationRows.{fact_of_declarator, size_broken}
+use Rattle.meaning_typing.specs.examples.Drawn.{array, declaration, declarator, function, int, leaf, nodes_of, number as one_number, over, parameter, type_over}
 use Rattle.meaning_typing.specs.examples.Values.{i, nothing_from_nothing, number, void_value, zero}
-use Rattle.meaning_typing.specs.examples.Declared.{aggregate, breaking, called, failing, int_at, ints, tagged, word}
+use Rattle.meaning_typing.specs.examples.Declared.{aggregate, breaking, called, failing, int_at, ints, long_array, passing, tagged, word}
 
 -- Sizes, at token 4
 
@@ -69,6 +75,17 @@ pub record PartExamples : Type 0 where
       (static_one (int_at 1) (array 7 3 ∷ void_list 4 ∷ []) ∷ static_one (int_at 1) (void_list 7 ∷ void_list 4 ∷ [])
       ∷ static_one (int_at 1) (array 9 3 ∷ leaf kinds.PointerDeclarator 2 ∷ void_list 4 ∷ []) ∷ [])
       ≡ breaks_at BadResultType 4 ∷ breaks_at BadResultType 4 ∷ [] ∷ []
+  -- `int k(void)(void)[3]` and `int k[3](void)[2]`, of which the part behind the one that is told makes no type
+  pub behind_bad_ones :
+      map breaking
+      (static_one (int_at 1) (array 10 3 ∷ void_list 7 ∷ void_list 4 ∷ []) ∷ static_one (int_at 1) (array 10 2 ∷ void_list 7 ∷ array 4 3 ∷ []) ∷ [])
+      ≡ replicate 2 (breaks_at BadResultType 7)
+  -- `void k[3] BITWISE`, and `int (*k[1099511627776])(void)[3]`, whose array isn't measured
+  pub no_type_behind :
+      breaking (nodes_of (declaration 0 (leaf kinds.StaticSpecifier 0 ∷ void_at 1) (declarator 3 k (array 4 3 ∷ []) ∷ word kinds.BitwiseAttribute 7 0 ∷ []) ∷ []))
+      ≡ breaks_at BadElementType 4
+  pub unmeasured :
+      passing (static_one (int_at 1) (array 13 3 ∷ void_list 9 ∷ leaf kinds.PointerDeclarator 2 ∷ long_array 4 1099511627776 ∷ [])) ≡ []
   -- `int *BITWISE k`, `int k[2] BITWISE`, `unsigned int k BITWISE`
   pub bitwise :
       map breaking
@@ -96,6 +113,9 @@ pub record CompletenessExamples : Type 0 where
       (in_function (declaration 7 (unknown_at 7) (called 9 k ∷ []) ∷ []) ∷ in_function (declaration 7 (void_at 7) (called 9 k ∷ []) ∷ [])
       ∷ in_function (declaration 7 (int_at 7) (declarator 9 k (no_length 10 ∷ []) ∷ []) ∷ []) ∷ in_function (declaration 7 (extern_at 7 (unknown_at 8)) (called 10 k ∷ []) ∷ []) ∷ [])
       ≡ breaks_at IncompleteType 9 ∷ breaks_at IncompleteType 9 ∷ breaks_at IncompleteType 9 ∷ [] ∷ []
+  -- in a block: `void k[2];`, which has no type that could be incomplete
+  pub array_in_block :
+      breaking (in_function (declaration 7 (void_at 7) (declarator 8 k (array 9 2 ∷ []) ∷ []) ∷ [])) ≡ breaks_at BadElementType 9
   -- at file scope: `static struct unknown k;`, `static void k;`, `static int k[];`
   pub in_file : map breaking (static_one (unknown_at 1) [] ∷ static_one (void_at 1) [] ∷ static_one (int_at 1) (no_length 4 ∷ []) ∷ []) ≡ breaks_at IncompleteType 3 ∷ breaks_at IncompleteType 3 ∷ [] ∷ []
   -- `extern void k;`, and `struct later k; struct later { int a; };`
@@ -131,6 +151,13 @@ pub record CompletenessExamples : Type 0 where
       (function 0 (leaf kinds.StaticSpecifier 0 ∷ void_at 1) (declarator 2 (codes "f") (void_list 3 ∷ [])) (over kinds.CompoundStatement 6 [])
       ∷ function 8 (leaf kinds.StaticSpecifier 8 ∷ void_at 9) (declarator 10 (codes "f") (void_list 11 ∷ [])) (over kinds.CompoundStatement 14 []) ∷ []))
       ≡ breaks_named DefinedTwice 10 (codes "f")
+  -- `static void f(void) { } static int f(void)(void) { }`, whose name is asked though it has no type
+  pub twice_without_type :
+      breaking
+      (nodes_of
+      (function 0 (leaf kinds.StaticSpecifier 0 ∷ void_at 1) (declarator 2 (codes "f") (void_list 3 ∷ [])) (over kinds.CompoundStatement 6 [])
+      ∷ function 8 (leaf kinds.StaticSpecifier 8 ∷ int_at 9) (declarator 10 (codes "f") (void_list 14 ∷ void_list 11 ∷ [])) (over kinds.CompoundStatement 17 []) ∷ []))
+      ≡ breaks_at BadResultType 11 ++ breaks_named DefinedTwice 10 (codes "f")
 
 -- Rules at names
 
@@ -186,3 +213,39 @@ pub record DeclarationFailures : Type 0 where
   pub among_specifiers :
       failing (nodes_of (void_function 20 (context 0 0 1 ∷ void_at 20) [] ∷ void_function 30 (void_at 30) (context 36 1 0 ∷ []) ∷ []))
       ≡ fails_with A7 31 0 (Some nothing_from_nothing) (Some nothing_from_nothing) k ∷ []
+
+-- Initializers
+
+-- `CONTEXT(0, 1) static int k[] = 1;`, whose declarator is node 8, and its initializer node 10
+abbrev pub initialized : UnitNodes
+initialized =
+    nodes_of
+    (declaration 0 (context 0 0 1 ∷ leaf kinds.StaticSpecifier 10 ∷ int_at 11) (declarator 12 k (no_length 13 ∷ []) ∷ over kinds.Initializer 15 (one_number 16 1 ∷ []) ∷ []) ∷ [])
+
+abbrev pub array_declared : (length : Option ℕ) → Fact
+array_declared length =
+    Declared
+    (record { name = k; type_ = array_type int length; is_typedef = false; has_linkage = true; is_static = true; is_register = false })
+
+-- before its initializer, and with it
+abbrev pub facts_within : List Fact
+facts_within = first_whole_facts initialized (surroundings_of initialized) 10
+
+abbrev pub facts_behind : List Fact
+facts_behind = facts_within ++ array_declared (Some 2) ∷ []
+
+abbrev pub declared_at : List Fact → Fact
+declared_at facts = declared_behind initialized (surroundings_of initialized) facts 8
+
+abbrev pub contexts_at : (handle : ℕ) → Option ContextSums
+contexts_at handle = contexts_of initialized handle (surrounding_at (surroundings_of initialized) handle)
+
+pub record InitializerExamples : Type 0 where
+  -- a name within it has the declared type, one behind it the completed type
+  pub within : declared_at facts_within ≡ array_declared None
+  pub behind : declared_at facts_behind ≡ array_declared (Some 2)
+  -- what is linked has the completed length, and that is no declaration with contexts of its own
+  pub linked : linked_types k facts_behind ≡ array_type int None ∷ array_type int (Some 2) ∷ []
+  pub contexts : map contexts_at (8 ∷ 10 ∷ []) ≡ Some (record { enters = 0; leaves = 1 }) ∷ None ∷ []
+  -- nor does it define an object at file scope
+  pub declarators : map (fact_of_declarator initialized facts_behind) (8 ∷ 10 ∷ []) ≡ array_declared None ∷ Unknown ∷ []

@@ -1,6 +1,6 @@
 -- Worked examples: what bodies declare, and what is broken in them. Units are drawn as trees, and tokens are counted from 0.
 use Rattle.std.specs.Prelude.{◌≡◌, ℕ, zero, suc, ◌+◌, pos, negsuc, Bool, true, false, List, [], ◌∷◌, ◌++◌, map, replicate, length, codes, Option, Some, None, Result, Ok}
-use Rattle.vocabulary.specs.declared.error_kind.ErrorKind.TheVariants.{BadBitField, BitwiseOnNoInteger, IncompleteType, MemberDeclaredTwice, NoSuchMember, RestrictedBitField, StaticAssertionFailed, TagRedeclared}
+use Rattle.vocabulary.specs.declared.error_kind.ErrorKind.TheVariants.{BadBitField, BadElementType, BitwiseOnNoInteger, IncompleteType, MemberDeclaredTwice, NoSuchMember, RestrictedBitField, StaticAssertionFailed, TagRedeclared}
 use Rattle.vocabulary.specs.declared.int_kind.IntKind.TheVariants as integers
 use Rattle.vocabulary.specs.declared.node_kind.NodeKind.{NodeKind}
 use Rattle.vocabulary.specs.declared.node_kind.NodeKind.TheVariants as kinds
@@ -17,9 +17,10 @@ use Rattle.meaning_typing.specs.Declarators.{array_type}
 use Rattle.meaning_typing.specs.Rows.{Row, breaks_at, breaks_named, fails_with}
 use Rattle.meaning_typing.specs.Operators.{integer}
 use Rattle.meaning_typing.specs.Building.{surroundings_of}
+use Rattle.meaning_typing.specs.MemberDeclarations.{type_of_entry}
 use Rattle.meaning_typing.specs.MemberRows.{aggregates_before, member_broken, width_row}
 use Rattle.meaning_typing.specs.WholeTyping.{assertion_row, whole_facts_of, whole_row_at}
-use Rattle.meaning_typing.specs.examples.Drawn.{declaration, declarator, function, int, leaf, named, nodes_of, number as number_tree, over, parameter, type_over}
+use Rattle.meaning_typing.specs.examples.Drawn.{array, declaration, declarator, function, int, leaf, named, nodes_of, number as number_tree, over, parameter, type_over}
 use Rattle.meaning_typing.specs.examples.Typing.{type_in}
 use Rattle.meaning_typing.specs.examples.Values.{char, i, le32, long, number, nothing_from_nothing, to_int, unknown_length, unsigned_int, void}
 use Rattle.meaning_typing.specs.examples.Told.{known, structure_at}
@@ -68,9 +69,16 @@ pub record WidthExamples : Type 0 where
 pub record CompleteMemberExamples : Type 0 where
   -- `struct unknown k`, `void k`, `int k(void)`, `int k[]`, which isn't the last
   pub incomplete :
-      map (member_broken known.told 4 false false) (structure_at 11 ∷ void ∷ nothing_from_nothing ∷ unknown_length ∷ []) ≡ replicate 4 (breaks_at IncompleteType 4)
-  pub complete : map (member_broken known.told 4 false false) (structure_at 9 ∷ array_type int (Some 2) ∷ pointer_to (structure_at 11) ∷ []) ≡ replicate 3 []
-  pub flexible : member_broken known.told 4 false true unknown_length ≡ []
+      map (member_broken known.told 4 true false) (structure_at 11 ∷ void ∷ nothing_from_nothing ∷ unknown_length ∷ []) ≡ replicate 4 (breaks_at IncompleteType 4)
+  pub complete : map (member_broken known.told 4 true false) (structure_at 9 ∷ array_type int (Some 2) ∷ pointer_to (structure_at 11) ∷ []) ≡ replicate 3 []
+  pub flexible : member_broken known.told 4 true true unknown_length ≡ []
+  -- `struct unknown k[]`, and the last
+  pub flexible_incomplete : member_broken known.told 4 true true (array_type (structure_at 11) None) ≡ breaks_at IncompleteType 4
+  -- `struct unknown : 3`
+  pub nameless : member_broken known.told 4 false false (structure_at 11) ≡ []
+  -- with a name, and without one
+  pub named_type : map (type_of_entry (codes "k")) (Some int ∷ Some (structure_at 9) ∷ None ∷ []) ≡ Some int ∷ Some (structure_at 9) ∷ None ∷ []
+  pub nameless_type : map (type_of_entry []) (Some int ∷ Some (structure_at 9) ∷ None ∷ []) ≡ Some int ∷ None ∷ None ∷ []
 
 -- Units
 
@@ -214,6 +222,19 @@ pub record MemberListExamples : Type 0 where
   -- `{ int a, : 3; }`, whose width is none of a's, and `{ int : 3, : 3; }`, whose members have no name twice
   pub width_of_another : breaking (structure_of (members 3 (leaf kinds.CharSpecifier 3 ∷ []) (called 4 (codes "a") ∷ called 6 [] ∷ bits 6 9 ∷ []) ∷ [])) ≡ breaks_at BadBitField 6
   pub nameless_twice : breaking (structure_of (ints 3 (called 4 [] ∷ bits 4 3 ∷ called 7 [] ∷ bits 7 3 ∷ []) ∷ [])) ≡ []
+  -- `{ struct m k : 3; }`, `{ void k : 3; }`, `{ int k[] : 3; int n; }`
+  pub incomplete_fields :
+      breaking (structure_of (members 3 (tagged kinds.StructSpecifier 3 (codes "m") 0 ∷ []) (called 5 (codes "k") ∷ bits 6 3 ∷ []) ∷ []))
+      ∷ breaking (structure_of (members 3 (leaf kinds.VoidSpecifier 3 ∷ []) (called 4 (codes "k") ∷ bits 6 3 ∷ []) ∷ []))
+      ∷ breaking (structure_of (ints 3 (declarator 4 (codes "k") (unbounded ∷ []) ∷ bits 7 3 ∷ []) ∷ ints 10 (called 11 (codes "n") ∷ []) ∷ [])) ∷ []
+      ≡ breaks_at IncompleteType 5 ∷ breaks_at IncompleteType 4 ∷ breaks_at IncompleteType 4 ∷ []
+  -- `{ void k[2]; }`, `{ struct m k[2]; }`, and `{ int k; void k[2]; }`, whose name is asked though it has no type
+  pub bad_elements :
+      breaking (structure_of (members 3 (leaf kinds.VoidSpecifier 3 ∷ []) (declarator 4 (codes "k") (array 5 2 ∷ []) ∷ []) ∷ []))
+      ∷ breaking (structure_of (members 3 (tagged kinds.StructSpecifier 3 (codes "m") 0 ∷ []) (declarator 5 (codes "k") (array 6 2 ∷ []) ∷ []) ∷ []))
+      ∷ breaking
+      (structure_of (ints 3 (called 4 (codes "k") ∷ []) ∷ members 6 (leaf kinds.VoidSpecifier 6 ∷ []) (declarator 7 (codes "k") (array 8 2 ∷ []) ∷ []) ∷ [])) ∷ []
+      ≡ breaks_at BadElementType 5 ∷ breaks_at BadElementType 6 ∷ (breaks_at BadElementType 8 ++ breaks_named MemberDeclaredTwice 7 (codes "k")) ∷ []
   -- `{ struct m : 3; }`, where no member is incomplete
   pub nameless_structure :
       breaking (structure_of (members 3 (tagged kinds.StructSpecifier 3 (codes "m") 0 ∷ []) (called 5 [] ∷ bits 5 3 ∷ []) ∷ [])) ≡ breaks_at BadBitField 5
@@ -232,6 +253,18 @@ pub record BodyExamples : Type 0 where
   pub aligned_field :
       layout_in (structure_of (members 3 (leaf kinds.CharSpecifier 3 ∷ []) (called 4 (codes "c") ∷ []) ∷ ints 6 (called 7 (codes "a") ∷ bits 8 3 ∷ numbered_word kinds.AlignedAttribute 10 8 ∷ []) ∷ [])) 0 false
       ≡ laid (0 ∷ 64 ∷ []) 16 8
+  -- `struct s { char a; }; struct m { char c; struct __attribute__((aligned(8))) s k; };`
+  pub aligned_before_tag :
+      layout_in
+      (nodes_of
+      (declaration 0 (aggregate kinds.StructSpecifier 0 (codes "s") 0 2 (members 3 (leaf kinds.CharSpecifier 3 ∷ []) (called 4 (codes "a") ∷ []) ∷ []) ∷ []) []
+      ∷ declaration 8
+      (aggregate kinds.StructSpecifier 8 (codes "m") 8 10
+      (members 11 (leaf kinds.CharSpecifier 11 ∷ []) (called 12 (codes "c") ∷ [])
+      ∷ members 14 (Node kinds.StructSpecifier 14 (codes "s") 0 (parts_of TypePart (numbered_word kinds.AlignedAttribute 15 8 ∷ [])) ∷ []) (called 25 (codes "k") ∷ []) ∷ []) ∷ []) []
+      ∷ []))
+      8 false
+      ≡ laid (0 ∷ 8 ∷ []) 2 1
   -- `struct m { char c; int a; } __attribute__((packed));`, and `struct __attribute__((packed)) m { char c; int a; };`
   pub packed_behind :
       layout_in

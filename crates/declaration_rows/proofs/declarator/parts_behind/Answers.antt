@@ -1,7 +1,6 @@
 use Rattle.std.proofs.Common.{Some, ◌++◌, ap, ◌∙◌}
 use Rattle.meaning_rules.specs.Rules.{least_broken, least_token, lesser}
-use Rattle.meaning_typing.specs.DeclarationRows.{large_parts_of, own_bitwise_broken, parts_broken}
-use Rattle.meaning_typing.specs.Declarators.{derived_by}
+use Rattle.meaning_typing.specs.DeclarationRows.{large_parts_of, made_by_parts, own_bitwise_broken, parts_broken}
 use Rattle.c_types.specs.Layouts.{told_in}
 use Rattle.c_types.specs.Table.{type_at}
 use Rattle.decl_judge.specs.Units.{handles_of, nodes_of}
@@ -23,10 +22,10 @@ returns-clause-broken c =
     c.lesser.ensures
     ∙ (λ i. lesser (c.in_ok-judged.ensures.broken i) (c.own_bitwise_broken-own.ensures i))
     ∙ ap (λ made. lesser (least_broken broken) (least_broken (own_bitwise_broken nodes parent place made))) c.in_ok-judged.ensures.made
-    ∙ least_two broken (own_bitwise_broken nodes parent place (derived_by nodes facts token parts of))
+    ∙ least_two broken (own_bitwise_broken nodes parent place (made_by_parts (told_in old) nodes facts token parts (Some of)))
     ∙ ap
     (λ token. least_broken
-    (parts_broken (told_in old) nodes facts token parts (Some of) ++ own_bitwise_broken nodes parent place (derived_by nodes facts token parts of)))
+    (parts_broken (told_in old) nodes facts token parts (Some of) ++ own_bitwise_broken nodes parent place (made_by_parts (told_in old) nodes facts token parts (Some of))))
     c.token_at-token.ensures
 
 pub returns-clause-passed : goal.returns-clause-passed

@@ -3,7 +3,6 @@
 use Rattle.std.proofs.Common.{◌≡◌, Some, option_map}
 use Rattle.meaning_rules.specs.Rules.{least_broken, least_token, lesser}
 use Rattle.meaning_typing.specs.DeclarationRows as meaning
-use Rattle.meaning_typing.specs.Declarators.{derived_by}
 use Rattle.c_types.specs.Layouts.{told_in}
 use Rattle.c_types.specs.Table.{IsTypeId, type_at}
 use Rattle.decl_judge.specs.Units.{handles_of, nodes_of}
@@ -18,8 +17,11 @@ invariant-loop-part l =
     record {
       known : IsTypeId l.types l.of;
       keeps : TypesJoin l.fn.types l.types;
-      made : derived_by (nodes_of l.unit) (nodes_seen l.fn.types l.facts) l.token (handles_of l.part-iterator) (type_at l.types l.of)
-          ≡ derived_by (nodes_of l.unit) (nodes_seen l.fn.types l.facts) l.token (handles_of l.parts) (type_at l.fn.types l.fn.of);
+      made :
+          meaning.made_by_parts (told_in l.fn.types) (nodes_of l.unit) (nodes_seen l.fn.types l.facts) l.token (handles_of l.part-iterator)
+          (Some (type_at l.types l.of))
+          ≡ meaning.made_by_parts (told_in l.fn.types) (nodes_of l.unit) (nodes_seen l.fn.types l.facts) l.token (handles_of l.parts)
+          (Some (type_at l.fn.types l.fn.of));
       broken :
           lesser (option_map broken_seen l.broken)
           (least_broken

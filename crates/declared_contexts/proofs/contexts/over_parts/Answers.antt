@@ -1,7 +1,7 @@
 -- One more of the parts.
 use Rattle.std.proofs.Common.{option_map, sym, ap, ◌∙◌}
 use Rattle.meaning_typing.specs.ContextSums.{part_attributes}
-use Rattle.meaning_typing.specs.Units.{children_at, kind_at}
+use Rattle.meaning_typing.specs.Units.{kind_at}
 use Rattle.decl_judge.specs.Units.{handles_of, nodes_of}
 use Rattle.linked_names.specs.Contexts.{sums_of}
 use Rattle.declared_contexts.specs.Sums.{attributes_of_parts, sums_over}

@@ -17,6 +17,10 @@ returns-clause-complete c = record {
   incomplete = refl;
   complete = refl;
   flexible = refl;
+  flexible_incomplete = refl;
+  nameless = refl;
+  named_type = refl;
+  nameless_type = refl;
 }
 
 pub returns-clause-members : goal.returns-clause-members
@@ -36,6 +40,8 @@ returns-clause-members c = record {
   width_of_twice = refl;
   width_of_another = refl;
   nameless_twice = refl;
+  incomplete_fields = refl;
+  bad_elements = refl;
   nameless_structure = refl;
 }
 
@@ -44,6 +50,7 @@ returns-clause-layouts c = record {
   fields = refl;
   aligned_member = refl;
   aligned_field = refl;
+  aligned_before_tag = refl;
   packed_behind = refl;
   packed_before = refl;
   nameless = refl;

@@ -12,6 +12,9 @@ returns-clause-parts c = record {
   elements = refl;
   good_elements = refl;
   results = refl;
+  behind_bad_ones = refl;
+  no_type_behind = refl;
+  unmeasured = refl;
   bitwise = refl;
   empty_list = refl;
 }
@@ -19,12 +22,14 @@ returns-clause-parts c = record {
 pub returns-clause-completeness : goal.returns-clause-completeness
 returns-clause-completeness c = record {
   in_block = refl;
+  array_in_block = refl;
   in_file = refl;
   told_later = refl;
   behind_function = refl;
   definitions = refl;
   void_parameter = refl;
   twice = refl;
+  twice_without_type = refl;
 }
 
 pub returns-clause-failures : goal.returns-clause-failures
@@ -38,4 +43,13 @@ returns-clause-failures c = record {
   other_contexts = refl;
   same_sums = refl;
   among_specifiers = refl;
+}
+
+pub returns-clause-initializers : goal.returns-clause-initializers
+returns-clause-initializers c = record {
+  within = refl;
+  behind = refl;
+  linked = refl;
+  contexts = refl;
+  declarators = refl;
 }

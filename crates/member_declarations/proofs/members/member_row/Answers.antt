@@ -49,7 +49,7 @@ returns-clause-row c = λ names twice.
     let flexible = c.may_be_flexible-flexible.ensures ∙ ap (λ (standing : Surrounding). may_be_flexible nodes seen handle standing.parent) c.get-declaration.ensures.seen in
     let broken =
     c.fact_broken-broken.ensures
-    ∙ (λ i. least_broken (type_broken (told_in table) (c.token_at.ensures i) (c.has_width-is_field.ensures i) (flexible i) of))
+    ∙ (λ i. least_broken (type_broken (told_in table) (c.token_at.ensures i) (c.has_name-is_named.ensures i) (flexible i) of))
     ∙ ap least_broken (typed_told nodes seen (told_in table) handle declaration of) in
     let by_type : Row = record nothing { fact = unless_broken typed (node_seen table c.args.fact); broken = typed } in
     let known : row_seen table c.unless.result ≡ told by_type =

@@ -1,7 +1,7 @@
 -- A name stands for an enumerator, or for what is declared.
 use Rattle.std.proofs.Common.{◌≡◌, ℕ, sym, ap, subst, ◌∙◌}
 use Rattle.meaning_typing.specs.EnumRows.{is_enumerator}
-use Rattle.meaning_typing.specs.Facts.{fact_at}
+use Rattle.meaning_typing.specs.Names.{declared_behind}
 use Rattle.meaning_typing.specs.Surroundings.{Surrounding}
 use Rattle.meaning_typing.specs.Units.{kind_at, node_at}
 use Rattle.c_tree.specs.Seen.{node_of}
@@ -42,5 +42,5 @@ returns-in-None c =
         want = ap (λ (at : Surrounding). is_for_value at.want) (sym c.get.ensures.seen) ∙ sym c.is_for_value-is_valued.ensures;
       };
       declares = ap (λ n. is_enumerator (kind_at nodes n)) number ∙ c.in-None.ensures.none;
-      stands_for = subst (λ (n : ℕ). IsNamed table c.declared_name-named.result facts (fact_at facts n)) (sym number) c.declared_name-named.ensures.named;
+      stands_for = subst (λ (n : ℕ). IsNamed table c.declared_name-named.result facts (declared_behind nodes surroundings facts n)) (sym number) c.declared_name-named.ensures.named;
     })

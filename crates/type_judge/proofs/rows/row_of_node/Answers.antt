@@ -1,12 +1,10 @@
 -- By the kind of the node.
-use Rattle.std.proofs.Common.{sym, subst}
 use Rattle.std.proofs.lemmas.Result.{IfOk-weaker}
 use Rattle.decl_judge.specs.Units.{nodes_of}
 use Rattle.expr_judge.proofs.NodeLemmas.{kind-is}
-use Rattle.node_judge.specs.Known.{facts_seen, table_of}
+use Rattle.node_judge.specs.Known.{facts_seen}
 use Rattle.node_surroundings.specs.Seen.{surroundings_seen}
-use Rattle.type_judge.specs.Rows.{TellsUnitRow}
-use Rattle.type_judge.proofs.RowLemmas.{both_rows, initializer_row, literal_row, return_alone, tells_unknown}
+use Rattle.type_judge.proofs.RowLemmas.{both_rows, initializer_row, literal_row, return_alone}
 use Rattle.type_judge.proofs.rows.row_of_node.Goals as goal
 
 pub returns-in-ReturnStatement-clause-says : goal.returns-in-ReturnStatement-clause-says
@@ -33,19 +31,17 @@ returns-in-CompoundLiteral-clause-says c =
     ))
     c.initialized_row.ensures.says
 
-pub returns-in_ok-row-in-Initializer-clause-says : goal.returns-in_ok-row-in-Initializer-clause-says
-returns-in_ok-row-in-Initializer-clause-says c =
+pub returns-in-Initializer-clause-says : goal.returns-in-Initializer-clause-says
+returns-in-Initializer-clause-says c =
     let kind = kind-is c.args.unit.now c.requires.whole c.args.handle c.kind.ensures.0 c.kind.result c.kind.ensures.1 c.kind.ensures.2 in
-    let nodes = nodes_of c.args.unit.now in
-    let surroundings = surroundings_seen c.args.surroundings.now in
-    let old = c.args.known.now in
-    let new = c.initialized_row-in-Initializer.new.known in
-    let tells = c.in_ok-row-in-Initializer.ensures.says in
-    subst (TellsUnitRow nodes surroundings old new c.args.handle c.args.found.now c.initialized_row-in-Initializer.new.found) (sym c.without_fact.ensures) (
-      _,
-      initializer_row nodes surroundings (facts_seen old) c.args.handle c.kind.result kind c.in-Initializer.is tells.0 tells.1,
-      tells_unknown (table_of old) (table_of new) c.args.found.now c.initialized_row-in-Initializer.new.found c.in_ok-row-in-Initializer.row tells.0 tells.2,
-    )
+    IfOk-weaker c.initialized_row-in-Initializer.result _ _
+    (λ row tells. (
+      tells.0,
+      initializer_row (nodes_of c.args.unit.now) (surroundings_seen c.args.surroundings.now) (facts_seen c.args.known.now) c.args.handle c.kind.result kind
+          c.in-Initializer.is tells.0 tells.1,
+      tells.2,
+    ))
+    c.initialized_row-in-Initializer.ensures.says
 
 pub returns-in_default-clause-says : goal.returns-in_default-clause-says
 returns-in_default-clause-says c =

@@ -1,7 +1,6 @@
 use Rattle.std.proofs.Common.{sym, ap, ◌∙◌}
 use Rattle.meaning_layout.specs.Sizes.{Told}
-use Rattle.meaning_typing.specs.Facts.{fact_at}
-use Rattle.meaning_typing.specs.Names.{name_row}
+use Rattle.meaning_typing.specs.Names.{declared_behind, name_row}
 use Rattle.meaning_typing.specs.Surroundings.{surrounding_at}
 use Rattle.meaning_typing.specs.Units.{node_at}
 use Rattle.meaning_typing.specs.Wholes.{row_loaded}
@@ -19,7 +18,7 @@ judge_loaded-row-requires c = c.judge_name.ensures.known c.args.types.now c.requ
 pub returns : goal.returns
 returns c nodes surroundings facts handle is =
     let types = c.args.types.now in
-    let declaration = fact_at facts (node_at nodes handle).number in
+    let declaration = declared_behind nodes surroundings facts (node_at nodes handle).number in
     let meant = name_row facts declaration in
     let want = (surrounding_at surroundings handle).want in
     let row = c.judge_loaded-row in

@@ -1,0 +1,4 @@
+pub mod Written
+pub mod Numbered
+pub mod Laws
+pub mod examples

@@ -1,0 +1,20 @@
+// What is proved of the nodes of units.
+ghost use Rattle.meaning_unit_nodes.specs.Laws.{NodesAreLaid, NodesStandForTheirTree, NumbersTellApart, OnlyNamesChange};
+ghost use Rattle.meaning_unit_nodes.specs.examples.Units.{UnitExamples};
+
+/// The nodes of a tree stand for it, each tree in it has one run of them, and numbers stand for names alone.
+pub fn nodes_stand_for_their_tree()
+    ensures stand { NodesStandForTheirTree }
+    ensures laid { NodesAreLaid }
+    ensures named { OnlyNamesChange }
+{}
+
+/// Different spellings of a unit's tokens have different numbers.
+pub fn numbers_tell_spellings_apart()
+    ensures { NumbersTellApart }
+{}
+
+/// The nodes of a declaration and of a declarator that one can list by eye, and the numbers of a few names.
+pub fn worked_examples()
+    ensures { UnitExamples }
+{}

@@ -1,0 +1,4 @@
+mod KeptLemmas
+mod ListLemmas
+mod UnitLemmas
+pub mod NodeLemmas

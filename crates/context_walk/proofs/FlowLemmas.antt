@@ -6,10 +6,10 @@ use Rattle.meaning_paths.specs.Graphs.{BasicBlock, empty_block, steps_at, succes
 use Rattle.control_flow.specs.declared.step.Step.{Step}
 use Rattle.control_flow.specs.declared.flow.Block.{Block}
 use Rattle.control_flow.specs.Seen.{block_of, graph_of_blocks, step_of, targets, the_key}
-use Rattle.context_walk.specs.declared.counts.Counts.{Counts}
-use Rattle.context_walk.specs.declared.counts.Counts.TheVariants.{Never}
+use Rattle.step_counts.specs.declared.counts.Counts.{Counts}
+use Rattle.step_counts.specs.declared.counts.Counts.TheVariants.{Never}
 use Rattle.context_walk.specs.declared.passed.PassedStep.{PassedStep}
-use Rattle.context_walk.specs.Counts.{counts_at, shifted}
+use Rattle.step_counts.specs.Counts.{counts_at, shifted}
 use Rattle.context_walk.specs.Passed.{Passed, passed_as, passed_from, passed_of, passed_seen}
 
 pub block-read : (blocks : List Block) (number : ℕ) (block : Block) → number < length blocks → block ≡ get_or blocks number block → get_or (graph_of_blocks blocks) number empty_block ≡ block_of block

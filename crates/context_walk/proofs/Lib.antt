@@ -1,5 +1,4 @@
 pub mod LeastLemmas
-pub mod CountLemmas
 pub mod SpreadLemmas
 pub mod ReachLemmas
 pub mod PassedLemmas

@@ -8,8 +8,8 @@ use Rattle.meaning_paths.specs.Steps.{Step, Point, Add, Call, End}
 use Rattle.meaning_paths.specs.Walks.{IsIn}
 use Rattle.meaning_paths.specs.ContextRules.{IsLeast}
 use Rattle.meaning_paths.proofs.RuleLemmas.{equal_or_apart}
-use Rattle.context_walk.specs.declared.counts.Counts.{Counts}
-use Rattle.context_walk.specs.declared.counts.Counts.TheVariants.{Never, One, Several}
+use Rattle.step_counts.specs.declared.counts.Counts.{Counts}
+use Rattle.step_counts.specs.declared.counts.Counts.TheVariants.{Never, One, Several}
 use Rattle.context_walk.specs.declared.different.Met.{Met}
 use Rattle.context_walk.specs.Passed.{Has, Passed}
 use Rattle.context_walk.specs.Scans.{ConflictIn}

@@ -6,9 +6,9 @@ use Rattle.meaning_paths.specs.Walks.{IsIn, Walk, begins, passes, turns}
 use Rattle.meaning_paths.specs.Graphs.{BasicBlock, BeginsWithPoint, EachBeginsWithPoint, IsPathOf, steps_at, successors_at}
 use Rattle.meaning_paths.specs.ContextRules.{Comes}
 use Rattle.meaning_paths.proofs.WalkLemmas.{walk-before}
-use Rattle.context_walk.specs.declared.counts.Counts.{Counts}
-use Rattle.context_walk.specs.declared.counts.Counts.TheVariants.{Never, One, Several}
-use Rattle.context_walk.specs.Counts.{counts_at, shifted, total}
+use Rattle.step_counts.specs.declared.counts.Counts.{Counts}
+use Rattle.step_counts.specs.declared.counts.Counts.TheVariants.{Never, One, Several}
+use Rattle.step_counts.specs.Counts.{counts_at, shifted, total}
 use Rattle.context_walk.specs.Reached.{Arrives, first, next, Covers, IsExact, IsShown}
 use Rattle.context_walk.specs.Passed.{Has, Passed, passed_from, passed_of}
 use Rattle.context_walk.proofs.SpreadLemmas.{in-append_cases, in-append_left, in-append_right}

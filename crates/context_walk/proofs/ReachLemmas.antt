@@ -5,12 +5,12 @@ use Rattle.std.proofs.lemmas.List.{get_or-set_same, get_or-set_other, get_or-rep
 use Rattle.std.proofs.lemmas.Int.{ints}
 use Rattle.meaning_paths.specs.Walks.{IsIn}
 use Rattle.meaning_paths.specs.Graphs.{BasicBlock, steps_at, successors_at, size_of_steps, size_of_graph}
-use Rattle.context_walk.specs.declared.counts.Counts.{Counts}
-use Rattle.context_walk.specs.declared.counts.Counts.TheVariants.{Never, One, Several}
-use Rattle.context_walk.specs.Counts.{IsWithin, counts_at, grown, shifted, total}
+use Rattle.step_counts.specs.declared.counts.Counts.{Counts}
+use Rattle.step_counts.specs.declared.counts.Counts.TheVariants.{Never, One, Several}
+use Rattle.step_counts.specs.Counts.{IsWithin, counts_at, grown, shifted, total}
 use Rattle.context_walk.specs.Spread.{AllBelow, put, spread_counts, spread_worklist}
 use Rattle.context_walk.specs.Reached.{Arrives, first, next, Covers, IsExact, IsShown}
-use Rattle.context_walk.proofs.CountLemmas.{abs_of_size, total_of_size, within-shifted, within-weaker}
+use Rattle.step_counts.proofs.CountLemmas.{abs_of_size, total_of_size, within-shifted, within-weaker}
 use Rattle.context_walk.proofs.SpreadLemmas.{IsAtMost, all-below, all-cover, all-grow, all-kept, all-length, all-noted, at_most-trans, in-append_cases, more, more-several, one, put-length, put-other, put-same, worklist-keeps}
 
 -- what comes from a block goes to its successors

@@ -9,8 +9,8 @@ use Rattle.meaning_paths.specs.Steps.{Step, Point, Add, Call, End, token_of}
 use Rattle.meaning_paths.specs.Walks.{IsIn}
 use Rattle.meaning_paths.specs.Graphs.{BasicBlock, IsPathOf}
 use Rattle.meaning_paths.specs.ContextRules.{Comes, Differ, Falls, IsAnswer, IsLeast, IsTooLow, LeavesWrong}
-use Rattle.context_walk.specs.declared.counts.Counts.{Counts}
-use Rattle.context_walk.specs.declared.counts.Counts.TheVariants.{Never, One, Several}
+use Rattle.step_counts.specs.declared.counts.Counts.{Counts}
+use Rattle.step_counts.specs.declared.counts.Counts.TheVariants.{Never, One, Several}
 use Rattle.context_walk.specs.Reached.{Covers}
 use Rattle.context_walk.specs.Passed.{Has, Passed}
 use Rattle.context_walk.specs.Scans.{DifferIn, IsLeastExit, IsNoLater, Leaving, LowIn, SeveralIn, WrongIn, answered, is_too_low, lower, lower_end, several_at, several_of, too_low_at, too_low_of, wrong_end_at, wrong_end_of}

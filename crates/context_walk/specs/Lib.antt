@@ -1,4 +1,3 @@
-pub mod Counts
 pub mod Spread
 pub mod Reached
 pub mod Passed

@@ -2,8 +2,8 @@
 use Rattle.std.specs.Prelude.{◌≡◌, ◌≢◌, ℕ, ◌+◌, ◌*◌, List, [], ◌∷◌, ◌++◌, if◌then◌else◌}
 use Rattle.meaning_paths.specs.Steps.{Step, Point, Add, Call, End}
 use Rattle.meaning_paths.specs.Walks.{IsIn}
-use Rattle.context_walk.specs.declared.counts.Counts.{Counts}
-use Rattle.context_walk.specs.declared.counts.Counts.TheVariants.{Never, One, Several}
+use Rattle.step_counts.specs.declared.counts.Counts.{Counts}
+use Rattle.step_counts.specs.declared.counts.Counts.TheVariants.{Never, One, Several}
 use Rattle.context_walk.specs.declared.different.Met.{Met}
 use Rattle.context_walk.specs.Passed.{Passed}
 

@@ -4,9 +4,9 @@ use Rattle.meaning_paths.specs.Steps.{Step, change}
 use Rattle.meaning_paths.specs.Walks.{IsIn}
 use Rattle.meaning_paths.specs.Graphs.{BasicBlock}
 use Rattle.control_flow.specs.Seen.{step_of}
-use Rattle.context_walk.specs.declared.counts.Counts.{Counts}
+use Rattle.step_counts.specs.declared.counts.Counts.{Counts}
 use Rattle.context_walk.specs.declared.passed.PassedStep.{PassedStep}
-use Rattle.context_walk.specs.Counts.{shifted}
+use Rattle.step_counts.specs.Counts.{shifted}
 
 pub record Passed : Type 0 where
   pub step : Step

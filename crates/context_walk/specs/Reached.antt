@@ -2,9 +2,9 @@
 use Rattle.std.specs.Prelude.{◌≡◌, ◌≢◌, ℕ, ℤ, ◌+ℤ◌, List, length}
 use Rattle.meaning_paths.specs.Walks.{IsIn}
 use Rattle.meaning_paths.specs.Graphs.{BasicBlock, steps_at, successors_at}
-use Rattle.context_walk.specs.declared.counts.Counts.{Counts}
-use Rattle.context_walk.specs.declared.counts.Counts.TheVariants.{Never, One, Several}
-use Rattle.context_walk.specs.Counts.{counts_at, total}
+use Rattle.step_counts.specs.declared.counts.Counts.{Counts}
+use Rattle.step_counts.specs.declared.counts.Counts.TheVariants.{Never, One, Several}
+use Rattle.step_counts.specs.Counts.{counts_at, total}
 
 -- paths come to the start of a block with this count
 pub data Arrives (graph : List BasicBlock) (key : ℕ) (start : ℤ) : ℕ → ℤ → Type 0 where

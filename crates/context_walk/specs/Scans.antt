@@ -4,8 +4,8 @@ use Rattle.std.specs.Ordering.{int_eq}
 use Rattle.meaning_paths.specs.Steps.{Step, Point, Add, Call, End, token_of}
 use Rattle.meaning_paths.specs.ContextRules as rules
 use Rattle.meaning_paths.specs.ContextRules.{IsTooLow}
-use Rattle.context_walk.specs.declared.counts.Counts.{Counts}
-use Rattle.context_walk.specs.declared.counts.Counts.TheVariants.{Never, One, Several}
+use Rattle.step_counts.specs.declared.counts.Counts.{Counts}
+use Rattle.step_counts.specs.declared.counts.Counts.TheVariants.{Never, One, Several}
 use Rattle.context_walk.specs.declared.scan.Exit.{Exit}
 use Rattle.context_walk.specs.Passed.{Passed, Has}
 

@@ -1,7 +1,7 @@
 -- Counts that are brought to blocks.
 use Rattle.std.specs.Prelude.{ℕ, ◌<◌, Option, Some, None, List, [], ◌∷◌, ◌++◌, slice_set}
-use Rattle.context_walk.specs.declared.counts.Counts.{Counts}
-use Rattle.context_walk.specs.Counts.{counts_at, grown}
+use Rattle.step_counts.specs.declared.counts.Counts.{Counts}
+use Rattle.step_counts.specs.Counts.{counts_at, grown}
 
 -- all of these are numbers of blocks
 abbrev pub AllBelow : ℕ → List ℕ → Type 0

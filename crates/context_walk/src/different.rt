@@ -6,11 +6,11 @@ ghost use Rattle.context_walk.specs.Passed.{passed_seen};
 ghost use Rattle.context_walk.specs.Scans.{DifferIn};
 ghost use Rattle.context_walk.specs.Met.{ConflictAmong, IsConflict, mets_of, place_of};
 
-use crate::counts::Counts;
 use crate::passed::PassedStep;
 use crate::scan::{least_several, lower};
 use control_flow::Step;
 use std::alloc::{AllocError, Global};
+use step_counts::Counts;
 
 /// A point, and the one count with which paths come to it in a block.
 #[derive(Clone, Copy, Drop)]

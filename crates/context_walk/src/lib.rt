@@ -5,13 +5,11 @@
 #![tactic(auto)]
 
 mod answer;
-mod counts;
 mod different;
 mod passed;
 mod reach;
 mod scan;
 mod spread;
-mod steps;
 
 pub use answer::walk;
 pub use control_flow::{ContextAnswer, ContextNote};

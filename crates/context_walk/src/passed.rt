@@ -2,13 +2,12 @@
 ghost use Rattle.std.specs.Prelude.{◌≡◌, ℕ, ◌<◌, ◌-◌, ◌++◌, ◌^◌, IfOk, OnOk, length, map};
 ghost use Rattle.meaning_paths.specs.Graphs.{size_of_graph, size_of_steps, steps_at};
 ghost use Rattle.control_flow.specs.Seen.{graph_of_blocks, step_of, the_key};
-ghost use Rattle.context_walk.specs.Counts.{IsWithin, counts_at};
+ghost use Rattle.step_counts.specs.Counts.{IsWithin, counts_at};
 ghost use Rattle.context_walk.specs.Passed.{passed_from, passed_of, passed_seen};
 
-use crate::counts::Counts;
-use crate::steps::change;
 use control_flow::{Block, Step};
 use std::alloc::{AllocError, Global};
+use step_counts::{Counts, change};
 
 /// A step of a block, and the counts with which paths come to it.
 #[derive(Clone, Copy)]

@@ -2,14 +2,13 @@
 ghost use Rattle.std.specs.Prelude.{◌≡◌, ℕ, ◌<◌, ◌+◌, ◌-◌, ◌^◌, IfOk, length, unsigned_abs};
 ghost use Rattle.meaning_paths.specs.Graphs.{IsClosed, size_of_graph, size_of_steps, steps_at};
 ghost use Rattle.control_flow.specs.Seen.{graph_of_blocks, the_key};
-ghost use Rattle.context_walk.specs.Counts.{IsWithin, counts_at};
+ghost use Rattle.step_counts.specs.Counts.{IsWithin, counts_at};
 ghost use Rattle.context_walk.specs.Reached.{IsExact};
 
-use crate::counts::Counts;
 use crate::spread::spread;
-use crate::steps::behind;
 use control_flow::Block;
 use std::alloc::{AllocError, Global};
+use step_counts::{Counts, behind};
 
 /// The counts with which paths come to each block. What is known of a block grows at most twice, so each is read at most twice.
 pub fn reach(alloc: Global, blocks: &[Block], enters: i64) -> Result<Vec<Counts>, AllocError>

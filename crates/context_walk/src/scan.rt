@@ -5,9 +5,9 @@ ghost use Rattle.control_flow.specs.Seen.{step_of, the_key};
 ghost use Rattle.context_walk.specs.Passed.{passed_as, passed_seen};
 ghost use Rattle.context_walk.specs.Scans.{IsLeastExit, LowIn, SeveralIn, WrongIn, lower, lower_end, seen_end, several_at, too_low_at, too_low_of, wrong_end_at};
 
-use crate::counts::Counts;
 use crate::passed::PassedStep;
 use control_flow::Step;
+use step_counts::Counts;
 
 /// A leaving: its token, and the count with which a path leaves.
 #[derive(Clone, Copy)]

@@ -3,8 +3,8 @@ ghost use Rattle.std.specs.Prelude.{◌≡◌, OnOk, length};
 ghost use Rattle.control_flow.specs.Seen.{targets};
 ghost use Rattle.context_walk.specs.Spread.{AllBelow, spread_counts, spread_worklist};
 
-use crate::counts::Counts;
 use std::alloc::AllocError;
+use step_counts::Counts;
 use tag_list::TagList;
 
 /// Brings the counts to each successor, and notes those at which more stands now.

@@ -6,7 +6,7 @@ use Rattle.meaning_paths.specs.Graphs.{EachBeginsWithPoint, IsClosed, IsPathOf}
 use Rattle.meaning_paths.specs.ContextRules.{IsAnswer, IsLeast}
 use Rattle.control_flow.specs.declared.flow.Block.{Block}
 use Rattle.control_flow.specs.Seen.{graph_of, graph_of_blocks, the_key}
-use Rattle.context_walk.specs.declared.counts.Counts.{Counts}
+use Rattle.step_counts.specs.declared.counts.Counts.{Counts}
 use Rattle.context_walk.specs.declared.passed.PassedStep.{PassedStep}
 use Rattle.context_walk.specs.Reached.{IsExact}
 use Rattle.context_walk.specs.Passed.{passed_of, passed_seen}

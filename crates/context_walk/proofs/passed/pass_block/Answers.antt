@@ -7,9 +7,9 @@ use Rattle.meaning_paths.specs.Graphs.{size_of_step, size_of_steps}
 use Rattle.control_flow.specs.declared.step.Step.{Step}
 use Rattle.control_flow.specs.Seen.{step_of, the_key}
 use Rattle.context_walk.specs.declared.passed.PassedStep.{PassedStep}
-use Rattle.context_walk.specs.Counts.{IsWithin, shifted}
+use Rattle.step_counts.specs.Counts.{IsWithin, shifted}
 use Rattle.context_walk.specs.Passed.{passed_from, passed_seen}
-use Rattle.context_walk.proofs.CountLemmas.{change_of_size, within-room, within-shifted}
+use Rattle.step_counts.proofs.CountLemmas.{change_of_size, within-room, within-shifted}
 use Rattle.context_walk.proofs.FlowLemmas.{pass-step}
 use Rattle.context_walk.proofs.passed.pass_block.Goals as goal
 

@@ -2,7 +2,7 @@
 use Rattle.std.proofs.Common.{◌≡◌, ◌<◌, ◌-◌, ◌^◌, ◌++◌, map, length}
 use Rattle.meaning_paths.specs.Graphs.{size_of_steps}
 use Rattle.control_flow.specs.Seen.{step_of, the_key}
-use Rattle.context_walk.specs.Counts.{IsWithin}
+use Rattle.step_counts.specs.Counts.{IsWithin}
 use Rattle.context_walk.specs.Passed.{passed_from, passed_seen}
 use Rattle.context_walk.proofs.passed.pass_block.Given as goal
 

@@ -3,7 +3,7 @@ use Rattle.std.proofs.Common.{List, ◌+◌, ◌++◌, drop, sym, ap, ◌∙◌,
 use Rattle.meaning_paths.specs.Steps as steps
 use Rattle.meaning_paths.specs.Graphs.{size_of_steps, steps_at}
 use Rattle.control_flow.specs.Seen.{graph_of_blocks, the_key}
-use Rattle.context_walk.specs.Counts.{counts_at}
+use Rattle.step_counts.specs.Counts.{counts_at}
 use Rattle.context_walk.specs.Passed.{Passed, passed_from, passed_of, passed_seen}
 use Rattle.context_walk.proofs.FlowLemmas.{length-graph, pass-one, slice-read}
 use Rattle.context_walk.proofs.ReachLemmas.{size_at-le}

@@ -7,9 +7,9 @@ use Rattle.meaning_paths.specs.Graphs.{BasicBlock, size_of_steps, steps_at, succ
 use Rattle.control_flow.specs.declared.flow.Block.{Block}
 use Rattle.control_flow.specs.declared.step.Step.{Step}
 use Rattle.control_flow.specs.Seen.{graph_of_blocks, step_of, the_key}
-use Rattle.context_walk.specs.declared.counts.Counts.{Counts}
-use Rattle.context_walk.specs.declared.counts.Counts.TheVariants.{Never, One}
-use Rattle.context_walk.specs.Counts.{IsWithin, counts_at, shifted, total}
+use Rattle.step_counts.specs.declared.counts.Counts.{Counts}
+use Rattle.step_counts.specs.declared.counts.Counts.TheVariants.{Never, One}
+use Rattle.step_counts.specs.Counts.{IsWithin, counts_at, shifted, total}
 use Rattle.context_walk.specs.Reached.{IsExact}
 use Rattle.context_walk.specs.Spread.{AllBelow, spread_counts, spread_worklist}
 use Rattle.context_walk.proofs.FlowLemmas.{length-graph, slice-read, successors-read}

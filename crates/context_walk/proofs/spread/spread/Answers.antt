@@ -2,7 +2,7 @@
 use Rattle.std.proofs.Common.{None, length, sym, ap, ◌∙◌, subst}
 use Rattle.std.proofs.lemmas.List.{get_or_default}
 use Rattle.control_flow.specs.Seen.{targets}
-use Rattle.context_walk.specs.declared.counts.Counts.TheVariants.{Never}
+use Rattle.step_counts.specs.declared.counts.Counts.TheVariants.{Never}
 use Rattle.context_walk.specs.Spread.{AllBelow}
 use Rattle.context_walk.proofs.SpreadLemmas.{spread-step}
 use Rattle.context_walk.proofs.spread.spread.Goals as goal

@@ -4,9 +4,9 @@ use Rattle.std.specs.Int.{w64}
 use Rattle.std.proofs.lemmas.Int.{fits_signed_from_abs, ints}
 use Rattle.meaning_paths.specs.Steps.{Step, Point, Add, Call, End, change}
 use Rattle.meaning_paths.specs.Graphs.{size_of_step, size_of_steps}
-use Rattle.context_walk.specs.declared.counts.Counts.{Counts}
-use Rattle.context_walk.specs.declared.counts.Counts.TheVariants.{Never, One, Several}
-use Rattle.context_walk.specs.Counts.{HasRoom, IsWithin, shifted, total}
+use Rattle.step_counts.specs.declared.counts.Counts.{Counts}
+use Rattle.step_counts.specs.declared.counts.Counts.TheVariants.{Never, One, Several}
+use Rattle.step_counts.specs.Counts.{HasRoom, IsWithin, shifted, total}
 
 -- a number is no further from 0 than a size
 pub record IsOfSize (number : ℤ) (size : ℕ) : Type 0 where

@@ -3,8 +3,8 @@ use Rattle.std.specs.Int.{w64}
 use Rattle.std.proofs.lemmas.Int.{ints}
 use Rattle.meaning_paths.specs.Graphs.{size_of_steps}
 use Rattle.control_flow.specs.Seen.{step_of, the_key}
-use Rattle.context_walk.proofs.CountLemmas.{total_of_size, within-room}
-use Rattle.context_walk.proofs.steps.behind.Goals as goal
+use Rattle.step_counts.proofs.CountLemmas.{total_of_size, within-room}
+use Rattle.step_counts.proofs.steps.behind.Goals as goal
 
 pub shifted-requires : goal.shifted-requires
 shifted-requires c =

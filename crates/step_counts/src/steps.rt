@@ -3,7 +3,7 @@ ghost use Rattle.std.specs.Prelude.{◌≡◌, ◌<◌, ◌-◌, ◌^◌, map};
 ghost use Rattle.meaning_paths.specs.Steps.{change};
 ghost use Rattle.meaning_paths.specs.Graphs.{size_of_step, size_of_steps};
 ghost use Rattle.control_flow.specs.Seen.{step_of, the_key};
-ghost use Rattle.context_walk.specs.Counts.{IsWithin, shifted, total};
+ghost use Rattle.step_counts.specs.Counts.{IsWithin, shifted, total};
 
 use crate::counts::Counts;
 use control_flow::Step;

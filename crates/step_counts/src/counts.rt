@@ -16,7 +16,7 @@ pub enum Counts {
 }
 
 impl Counts {
-    ghost use Rattle.context_walk.specs.Counts.{HasRoom, grown, shifted};
+    ghost use Rattle.step_counts.specs.Counts.{HasRoom, grown, shifted};
 
     /// The counts behind a change.
     pub fn shifted(self, by: i64) -> Counts

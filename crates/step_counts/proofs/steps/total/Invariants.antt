@@ -2,8 +2,8 @@
 use Rattle.std.proofs.Common.{◌≡◌, map, length, pos, ◌+ℤ◌, ◌≤ℤ◌}
 use Rattle.meaning_paths.specs.Graphs.{size_of_steps}
 use Rattle.control_flow.specs.Seen.{step_of, the_key}
-use Rattle.context_walk.specs.Counts.{total}
-use Rattle.context_walk.proofs.steps.total.Given as goal
+use Rattle.step_counts.specs.Counts.{total}
+use Rattle.step_counts.proofs.steps.total.Given as goal
 
 abbrev pub invariant-steps : goal.invariant-steps
 invariant-steps l =

@@ -4,9 +4,9 @@ use Rattle.std.proofs.lemmas.Int.{ints}
 use Rattle.meaning_paths.specs.Graphs.{size_of_steps}
 use Rattle.control_flow.specs.declared.step.Step.{Step}
 use Rattle.control_flow.specs.Seen.{step_of, the_key}
-use Rattle.context_walk.specs.Counts.{total}
-use Rattle.context_walk.proofs.CountLemmas.{change_of_size, fits-of-size}
-use Rattle.context_walk.proofs.steps.total.Goals as goal
+use Rattle.step_counts.specs.Counts.{total}
+use Rattle.step_counts.proofs.CountLemmas.{change_of_size, fits-of-size}
+use Rattle.step_counts.proofs.steps.total.Goals as goal
 
 pub steps-preserved : goal.steps-preserved
 steps-preserved c =

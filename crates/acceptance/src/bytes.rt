@@ -125,7 +125,7 @@ fn between_tokens(byte: u8) -> Answer {
         // A directive that does nothing.
         b'#' => Answer::Empty,
         b'\'' | b'"' => Answer::opens(1),
-        b';' => Answer::Refused(1, 1, Told::Line("error[29]: form not built")),
+        b';' => Answer::Empty,
         b'(' | b'*' | b'_' | b'A'..=b'Z' | b'a'..=b'z' => Answer::Refused(1, 1, BAD_DECLARATION),
         _ => Answer::Refused(1, 1, Told::Byte),
     }

@@ -1,5 +1,5 @@
 // The programs that a command can name.
-use judged::judged;
+use expression_types::show_types;
 use ksparse::{Exit, ksparse};
 use sparse_outside::{HonestFiles, MemorySink, Sink, Words};
 use std::alloc::{AllocError, Global};
@@ -13,8 +13,8 @@ pub enum Program {
     Ksparse,
     /// The tree of a file, as developers see it.
     Trees,
-    /// What the judge says of a file, as long as the checker doesn't ask it.
-    Judged,
+    /// The types of a file's expressions, as developers see them.
+    Types,
     /// Calls of libraries that no command of the checker makes yet. Why there is no text isn't written.
     Workbench,
 }
@@ -41,7 +41,7 @@ impl Program {
         match name {
             "ksparse" => Some(Program::Ksparse),
             "trees" => Some(Program::Trees),
-            "judged" => Some(Program::Judged),
+            "types" => Some(Program::Types),
             "workbench" => Some(Program::Workbench),
             _ => None,
         }
@@ -59,7 +59,7 @@ impl Program {
         let exit = match self {
             Program::Ksparse => ksparse(alloc, words, files, &mut out, &mut err),
             Program::Trees => trees(alloc, words, files, &mut out, &mut err),
-            Program::Judged => judged(alloc, words, files, &mut out, &mut err),
+            Program::Types => show_types(alloc, words, files, &mut out, &mut err),
             Program::Workbench => run_workbench(alloc, words, files, &mut out),
         };
         Ok(Ran {

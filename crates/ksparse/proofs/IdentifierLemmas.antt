@@ -1,5 +1,5 @@
 -- The digits of universal character names.
-use Rattle.std.proofs.Common.{◌≡◌, ℕ, zero, suc, ◌<◌, ◌-◌, ◌&&◌, true, false, List, [], ◌∷◌, sym, ◌∙◌, ap, arith}
+use Rattle.std.proofs.Common.{◌≡◌, ℕ, zero, suc, ◌<◌, ◌-◌, ◌&&◌, true, false, List, ◌∷◌, sym, ◌∙◌, ap, arith}
 use Rattle.std.specs.Char.{is_ascii_hexdigit}
 use Rattle.meaning_text.specs.Words.{begins_hexadecimal}
 

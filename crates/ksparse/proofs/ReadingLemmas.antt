@@ -6,7 +6,7 @@ use Rattle.std.proofs.lemmas.Result.{IfOk-weaker}
 use Rattle.std.proofs.lemmas.Option.{slice_get_within, get_or_from_slice_get}
 use Rattle.meaning_answer.specs.Options.{Switch, Word, AsksForTokens, AddsDirectory, AddsLine, Switches, IsOperand, IsStrange, word_of}
 use Rattle.vocabulary.specs.declared.class.Class.{Class}
-use Rattle.meaning_answer.specs.Requests.{classes_on, request_with, BadWord, MissingFile, Fault, request_of, request_without, is_bad, is_operand, is_expand, first_fault, asks_for_tokens, directories_of, directory_in, command_of, line_in, switches_of, switch_in, operand_in}
+use Rattle.meaning_answer.specs.Requests.{classes_on, request_with, BadWord, Fault, request_of, request_without, is_bad, is_operand, is_expand, first_fault, asks_for_tokens, directories_of, directory_in, command_of, line_in, switches_of, switch_in, operand_in}
 use Rattle.ksparse.specs.Reading.{Reading, empty_reading, has_file, taken, requested, reading_behind, request_by, request_behind, begins_with_command, first_file, IsMissing}
 use Rattle.ksparse.specs.Words.{IsFaultOf, request_seen}
 use Rattle.ksparse.specs.declared.command.Command.{Command}

@@ -1,6 +1,8 @@
 -- The reply to a request, by the unit that was preprocessed.
-use Rattle.std.proofs.Common.{◌≡◌, ◌≤◌, ℕ, List, ◌∷◌, Option, Some, None, IfSome, length, sym, subst, arith}
+use Rattle.std.proofs.Common.{◌≡◌, ◌≤◌, ℕ, List, Option, Some, None, IfSome, length, sym, subst, arith}
+use Rattle.vocabulary.specs.declared.class.Class.{Class}
 use Rattle.meaning_outside.specs.Files.{FileMap}
+use Rattle.meaning_text.specs.Tokens.{Tok}
 use Rattle.meaning_outside.specs.Loads.{Loaded, AgreesWith}
 use Rattle.meaning_preprocessing.specs.State.{Stop}
 use Rattle.meaning_preprocessing.specs.Unit.{UnitEnd, Ends, EndsEarly, PreprocessedUnit, IsPreprocessedUnit, unit_limits}
@@ -16,6 +18,16 @@ use Rattle.meaning_answer.specs.Answers.{IsCheckReply, IsCheckEnd, IsRequestRepl
 use Rattle.ksparse.specs.Stopping.{TellsStop}
 use Rattle.ksparse.specs.Written.{paths_of}
 use Rattle.ksparse.proofs.TokenLemmas.{length-toks_of}
+
+-- what is told of files and tokens is told of those that are spelled alike
+pub told-alike :
+    (classes : List Class) (reply : Reply) {files others : List (List ℕ)} {tokens other_tokens undefined other_undefined : List Tok} → files ≡ others
+    → tokens ≡ other_tokens → undefined ≡ other_undefined → IsCheckReply classes files tokens undefined reply
+    → IsCheckReply classes others other_tokens other_undefined reply
+told-alike classes reply {files} {others} {tokens} {other_tokens} {undefined} {other_undefined} same_files same_tokens same_undefined told =
+    subst (λ (paths : List (List ℕ)). IsCheckReply classes paths other_tokens other_undefined reply) same_files
+    (subst (λ (toks : List Tok). IsCheckReply classes files toks other_undefined reply) same_tokens
+    (subst (λ (toks : List Tok). IsCheckReply classes files tokens toks reply) same_undefined told))
 
 module _ (options : Options) (path : List ℕ) (names : List (List ℕ)) where
   module _ (unit : UnitTokens) where

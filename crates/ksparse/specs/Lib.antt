@@ -1,4 +1,5 @@
 pub mod Ending
+pub mod FirstForm
 pub mod Loading
 pub mod Judged
 pub mod Options

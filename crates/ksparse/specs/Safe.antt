@@ -1,4 +1,4 @@
--- What silence means: no run of the unit that the words name meets a fault.
+-- What silence means: no run of the unit that the words name meets a fault, where that is a unit of the first form.
 use Rattle.std.specs.Prelude.{◌≡◌, ℕ, true, List}
 use Rattle.vocabulary.specs.declared.class.Class.{Class}
 use Rattle.vocabulary.specs.declared.class.Class.TheVariants.{AddressSpace, Bitwise, Context}
@@ -8,10 +8,12 @@ use Rattle.meaning_text.specs.Tokens.{Tok}
 use Rattle.meaning_text.specs.Terminals.{terminals_of}
 use Rattle.meaning_tree.specs.Trees.{SyntaxTree}
 use Rattle.meaning_syntax.specs.Trees.{Derives}
+use Rattle.meaning_warnings.specs.Listing.{is_on}
+use Rattle.meaning_derivation.specs.Actions.{act}
+use Rattle.meaning_derivation.specs.Units.{DerivesTree}
 use Rattle.meaning_preprocessing.specs.Unit.{Ends, PreprocessedUnit, IsPreprocessedUnit}
 use Rattle.meaning_answer.specs.Reply.{Ending, Clean}
 use Rattle.meaning_answer.specs.Requests.{Request, BadWord, MissingFile, Check, Expand, request_of}
-use Rattle.meaning_answer.specs.Lines.{is_on}
 use Rattle.meaning_machine.specs.Runs.{IsSafe}
 
 -- the classes are on whose rules keep runs from faults
@@ -20,12 +22,15 @@ pub record AreGuarding (classes : List Class) : Type 0 where
   pub bitwise : is_on classes Bitwise ≡ true
   pub context : is_on classes Context ≡ true
 
--- Preprocessing comes to its end, its tokens derive a tree, and each tree that they derive is safe where those
--- classes are on.
+-- each tree that the tokens derive in the first form is safe where those classes are on
+abbrev pub AreSafeTokens : List Class → List Tok → Type 0
+AreSafeTokens classes tokens = AreGuarding classes → (tree : SyntaxTree) → Derives (terminals_of tokens) tree → IsSafe tree
+
+-- Preprocessing comes to its end, and its tokens derive a tree, by the whole grammar; and those of the first form are safe.
 pub record IsSafeUnit (classes : List Class) (unit : PreprocessedUnit) : Type 0 where
   pub ends : (undefined : List Tok) × (paths : List (List ℕ)) × (unit.end ≡ Ends undefined paths)
-  pub in_form : (tree : SyntaxTree) × Derives (terminals_of unit.tokens) tree
-  pub safe : AreGuarding classes → (tree : SyntaxTree) → Derives (terminals_of unit.tokens) tree → IsSafe tree
+  pub parsed : (tree : SyntaxTree) × DerivesTree act unit.tokens tree
+  pub safe : AreSafeTokens classes unit.tokens
 
 -- The words ask to check a safe unit. The question for tokens promises nothing of runs.
 abbrev pub NamesSafeUnit : Request → FileMap → Type 0

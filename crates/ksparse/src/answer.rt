@@ -1,12 +1,15 @@
 // The words of a command, and the unit that they name, to the reply.
-ghost use Rattle.std.specs.Prelude.{◌≡◌, ◌↔◌, IfErr, IfOk, IsErrOf};
+ghost use Rattle.std.specs.Prelude.{◌≡◌, ◌↔◌, IfErr, IfOk, IsErrOf, List};
 ghost use Rattle.meaning_outside.specs.Faults.{Told};
 ghost use Rattle.meaning_outside.specs.Files.{FileMap};
-ghost use Rattle.meaning_outside.specs.Loads.{AgreesWith, loads_since};
+ghost use Rattle.meaning_outside.specs.Loads.{AgreesWith, Loaded, loads_since};
 ghost use Rattle.meaning_answer.specs.Answers.{IsAnswer, IsRequestReply};
+ghost use Rattle.meaning_answer.specs.Reply.{Clean};
 ghost use Rattle.meaning_answer.specs.Requests.{Check, Expand};
 ghost use Rattle.c_preproc.specs.States.{IsKnownFault, stop_of};
+ghost use Rattle.ksparse.specs.Ending.{ending_seen};
 ghost use Rattle.ksparse.specs.Loading.{Loading};
+ghost use Rattle.ksparse.specs.Safe.{IsSafeIfClean, NamesSafeUnit};
 ghost use Rattle.ksparse.specs.Stopping.{TellsStop};
 ghost use Rattle.ksparse.specs.Words.{IsFaultOf, options_seen};
 ghost use Rattle.ksparse.specs.Written.{reply_seen};
@@ -47,6 +50,8 @@ pub fn answer<F: Files>(alloc: Global, words: &Words, files: &mut F) -> Result<W
     ensures right { IfOk result (λ written. (map : FileMap)
         → AgreesWith map (loads_since (F.loads files.old) (F.loads files.new))
         → IsAnswer words.now map (reply_seen written)) }
+    ensures safe { IfOk result (λ written. IsSafeIfClean words.now (loads_since (F.loads files.old) (F.loads files.new))
+        (ending_seen written.exit)) }
     ensures loading { Loading (F.holds files.old) (F.loads files.old) (F.loads files.new) }
     ensures cause { Told (F.faults files.old) (F.faults files.new) (IsErrOf result Stop.ReadFault) }
     ensures keeps { F.holds files.new ≡ F.holds files.old }
@@ -64,6 +69,7 @@ pub fn answer<F: Files>(alloc: Global, words: &Words, files: &mut F) -> Result<W
 fn usage(alloc: Global, words: &Words, fault: WordFault) -> Result<Written, Stop>
     requires { IsFaultOf words.now fault }
     ensures right { IfOk result (λ written. (map : FileMap) → IsAnswer words.now map (reply_seen written)) }
+    ensures safe { IfOk result (λ written. (loads : List Loaded) → IsSafeIfClean words.now loads (ending_seen written.exit)) }
     ensures memory { IfErr result (λ stop. stop ≡ Stop.NoMemory) }
 {
     match fault {
@@ -86,6 +92,9 @@ fn check_file<F: Files>(
     ensures right { IfOk result (λ written. (map : FileMap)
         → AgreesWith map (loads_since (F.loads files.old) (F.loads files.new))
         → IsRequestReply (Check (options_seen options.now) path.now) map (reply_seen written)) }
+    ensures safe { IfOk result (λ written. ending_seen written.exit ≡ Clean → (map : FileMap)
+        → AgreesWith map (loads_since (F.loads files.old) (F.loads files.new))
+        → NamesSafeUnit (Check (options_seen options.now) path.now) map) }
     ensures loading { Loading (F.holds files.old) (F.loads files.old) (F.loads files.new) }
     ensures cause { Told (F.faults files.old) (F.faults files.new) (IsErrOf result Stop.ReadFault) }
     ensures keeps { F.holds files.new ≡ F.holds files.old }
@@ -94,7 +103,7 @@ fn check_file<F: Files>(
     each_path_has_one_unit();
     let mut names = Names::new(alloc)?;
     match preprocess(alloc, options, files, &mut names, path) {
-        Ok(toks) => Ok(check_tokens(alloc, &names, &toks, &options.classes)?),
+        Ok(toks) => Ok(check_tokens(alloc, names, toks, &options.classes)?),
         Err(fault) => tell_stop(alloc, &names, fault),
     }
 }
@@ -127,13 +136,9 @@ pub fn tell_stop(alloc: Global, names: &Names, fault: PreFault) -> Result<Writte
     ensures read { IsErrOf result Stop.ReadFault ↔ (fault ≡ PreFault.ReadFault) }
 {
     match fault {
-        PreFault::Error(kind, place, word, path) => Ok(error(
-            alloc,
-            kind,
-            names.spelling(path),
-            place,
-            names.spelling(word),
-        )?),
+        PreFault::Error(kind, place, word, path) => {
+            Ok(error(alloc, names, kind, path, place, word)?)
+        }
         PreFault::Limit(kind) => Ok(limit(alloc, kind)?),
         PreFault::ReadFault => Err(Stop::ReadFault),
         PreFault::Memory => Err(Stop::NoMemory),

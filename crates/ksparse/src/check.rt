@@ -1,166 +1,250 @@
-// The check of preprocessed tokens: parsing, and then their items, their tree in the first form, its failures, their text.
-ghost use Rattle.std.specs.Prelude.{◌≡◌, ◌≤◌, ℕ, List, IfNone, IfOk, IfSome, None, length};
+// The check of preprocessed tokens: parsing, then the judgement of their tree, then its text.
+ghost use Rattle.std.specs.Prelude.{◌≡◌, ◌≤◌, false, true, IfOk, length};
+ghost use Rattle.meaning_answer.specs.Answers.{IsCheckReply, TellsUnit};
+ghost use Rattle.meaning_answer.specs.Reply.{Clean};
+ghost use Rattle.meaning_answer.specs.Units.{ending_behind, has_context, is_context, judged_reply, warned_reply};
+ghost use Rattle.meaning_rules.specs.Rules.{Holds};
+ghost use Rattle.meaning_tree.specs.Laid.{IsLaid};
+ghost use Rattle.meaning_warnings.specs.Listing.{AreOrdered, unit_lines};
+ghost use Rattle.meaning_unit_nodes.specs.Numbered.{spellings_told};
+ghost use Rattle.c_parse.specs.Answers.{DerivesUnit};
+ghost use Rattle.c_preproc.specs.Units.{IsKnownUnit, failures_from};
 ghost use Rattle.c_tokens.specs.Seen.{toks_of};
-ghost use Rattle.c_preproc.specs.Conditions.{AreKnown};
-ghost use Rattle.c_preproc.specs.Units.{IsKnownUnit};
-ghost use Rattle.first_form.specs.Known.{AreKnownFailures};
-ghost use Rattle.first_form.specs.Seen.{failures_of, spellings_of};
-ghost use Rattle.meaning_syntax.specs.plain.Reading.{read_unit};
-ghost use Rattle.meaning_answer.specs.Answers.{IsCheckReply, IsFormReply};
-ghost use Rattle.meaning_answer.specs.Lines.{checked_reply, failures_on, undefined_on, warned};
-ghost use Rattle.ksparse.specs.Judged.{IsJudged};
+ghost use Rattle.decl_judge.specs.Units.{nodes_of};
+ghost use Rattle.expr_judge.specs.Found.{found_seen};
+ghost use Rattle.parse_state.specs.Finished.{spelled};
+ghost use Rattle.type_judge.specs.Judging.{IsJudgedSo};
+ghost use Rattle.ksparse.specs.Ending.{ending_seen};
+ghost use Rattle.ksparse.specs.Judged.{IsNumberedUnit, IsWrittenTree, listing_shown, shown_over, unit_seen};
+ghost use Rattle.ksparse.specs.Safe.{AreGuarding, AreSafeTokens};
 ghost use Rattle.ksparse.specs.Written.{paths_of, reply_seen};
 
-use crate::class_names::is_on;
 use crate::exit::Exit;
-use crate::parsing::{parse_fault, tell_fault};
-use crate::refusal::not_built;
+use crate::parsing::tell_fault;
+use crate::refusal::{constraint, limit, not_built};
 use crate::reply::Written;
-use crate::warnings::write_undefined;
+use crate::silence::{are_guarding, is_silent_form};
+use c_parse::parse;
 use c_preproc::UnitTokens;
-use c_tokens::{Names, Token};
-use first_form::{Failure, build, judge, read_items, write_warnings};
-use sparse_model::{Class, ClassSet};
+use c_tokens::Names;
+use c_tree::Unit;
+use meaning_machine::silence_is_safe;
+use sparse_model::{ClassSet, NodeKind};
 use std::alloc::{AllocError, Global};
+use type_judge::{JudgeFault, Judged, judge};
+use unit_names::renumbered;
+use warn_print::{Show, print_all};
+use written_units::is_written;
 
-/// Checks the tokens of a unit, and answers for what parsing refuses them, or what the rules whose classes are on say of
-/// them.
+/// Checks the tokens of a unit, and answers for what parsing or a constraint refuses them, or what the rules whose classes are on
+/// say of them. It takes over the unit and its names, whose memory is free again before the unit is judged.
 pub fn check_tokens(
+    alloc: Global,
+    names: Names,
+    toks: UnitTokens,
+    classes: &ClassSet,
+) -> Result<Written, AllocError>
+    requires known { IsKnownUnit names toks }
+    requires few { length toks.tokens ≤ 2000000 }
+    requires failures { toks.undefs ≡ failures_from 0 toks.undef_tokens }
+    ensures right { IfOk result (λ written. IsCheckReply classes.now (paths_of names toks.files)
+        (toks_of names toks.tokens) (toks_of names toks.undef_tokens) (reply_seen written)) }
+
+    // Where nothing is told no run of a unit of the first form meets a fault.
+    ensures safe { IfOk result (λ written. ending_seen written.exit ≡ Clean → AreSafeTokens classes.now (toks_of names toks.tokens)) }
+{
+    silence_is_safe();
+    let silent = is_silent_form(alloc, &names, toks.tokens.as_slice())?;
+    let written = check_renumbered(alloc, names, toks, classes)?;
+    if misses_failure(silent, classes, written.exit) {
+        // No unit comes here: where a rule of the form fails, so does one of all units.
+        return Err(AllocError);
+    }
+    Ok(written)
+}
+
+// Whether nothing is told though a rule of the first form fails, whose classes are on.
+fn misses_failure(silent: bool, classes: &ClassSet, exit: Exit) -> bool
+    ensures { result ≡ false → ending_seen exit ≡ Clean → AreGuarding classes.now → silent ≡ true }
+{
+    if silent {
+        return false;
+    }
+    if are_guarding(classes) {
+        return is_clean(exit);
+    }
+    false
+}
+
+fn is_clean(exit: Exit) -> bool
+    ensures { ending_seen exit ≡ Clean → result ≡ true }
+{
+    matches!(exit, Exit::Clean)
+}
+
+// The check of tokens under names of their own.
+fn check_renumbered(
+    alloc: Global,
+    names: Names,
+    toks: UnitTokens,
+    classes: &ClassSet,
+) -> Result<Written, AllocError>
+    requires known { IsKnownUnit names toks }
+    requires failures { toks.undefs ≡ failures_from 0 toks.undef_tokens }
+    ensures { IfOk result (λ written. IsCheckReply classes.now (paths_of names toks.files)
+        (toks_of names toks.tokens) (toks_of names toks.undef_tokens) (reply_seen written)) }
+{
+    let found = renumbered(alloc, &names, &toks)?;
+    drop(names);
+    drop(toks);
+    found.names.apart();
+    check_unit(alloc, &found.names, &found.toks, found.told, classes)
+}
+
+// The check of tokens whose names are numbered.
+fn check_unit(
     alloc: Global,
     names: &Names,
     toks: &UnitTokens,
+    told: u32,
     classes: &ClassSet,
 ) -> Result<Written, AllocError>
-    requires known { IsKnownUnit names.now toks.now }
-    requires few { length toks.now.tokens ≤ 2000000 }
+    requires numbered { IsNumberedUnit names.now toks.now }
+    requires told { told ≡ length (spellings_told (toks_of names.now toks.now.tokens)) }
     ensures { IfOk result (λ written. IsCheckReply classes.now (paths_of names.now toks.now.files)
         (toks_of names.now toks.now.tokens) (toks_of names.now toks.now.undef_tokens) (reply_seen written)) }
 {
-    match parse_fault(alloc, names, toks.tokens.as_slice()) {
-        Some(fault) => tell_fault(alloc, names, toks, fault),
-        None => check_form(alloc, names, toks, classes),
+    match parse(alloc, names, toks.tokens.as_slice()) {
+        Ok(unit) => check_tree(alloc, names, toks, told, classes, &unit),
+        Err(fault) => tell_fault(alloc, names, toks, fault),
     }
 }
 
-// The reply to tokens that are parsed: they are judged in the first form.
-fn check_form(
+// The judgement of a tree, whose nodes stand as they are written.
+fn check_tree(
+    alloc: Global,
+    names: &Names,
+    toks: &UnitTokens,
+    told: u32,
+    classes: &ClassSet,
+    unit: &Unit,
+) -> Result<Written, AllocError>
+    requires numbered { IsNumberedUnit names.now toks.now }
+    requires told { told ≡ length (spellings_told (toks_of names.now toks.now.tokens)) }
+    requires tree { DerivesUnit (toks_of names.now toks.now.tokens) (spelled names.now unit.now) }
+    requires whole { unit.now.first ≡ 0 }
+    requires laid { IsLaid unit.now }
+    ensures { IfOk result (λ written. TellsUnit classes.now (paths_of names.now toks.now.files)
+        (toks_of names.now toks.now.tokens) (toks_of names.now toks.now.undef_tokens) (reply_seen written)) }
+{
+    names.apart();
+    if is_written(alloc, unit, told)? {
+        judge_unit(alloc, names, toks, classes, unit)
+    } else {
+        // No unit that was parsed comes here.
+        Err(AllocError)
+    }
+}
+
+// What the judge says of these nodes.
+fn judge_unit(
     alloc: Global,
     names: &Names,
     toks: &UnitTokens,
     classes: &ClassSet,
+    unit: &Unit,
 ) -> Result<Written, AllocError>
-    requires known { IsKnownUnit names.now toks.now }
-    requires few { length toks.now.tokens ≤ 2000000 }
-    ensures { IfOk result (λ written. IsFormReply classes.now (paths_of names.now toks.now.files)
+    requires numbered { IsNumberedUnit names.now toks.now }
+    requires tree { IsWrittenTree (toks_of names.now toks.now.tokens) unit.now }
+    requires whole { unit.now.first ≡ 0 }
+    requires laid { IsLaid unit.now }
+    ensures { IfOk result (λ written. TellsUnit classes.now (paths_of names.now toks.now.files)
         (toks_of names.now toks.now.tokens) (toks_of names.now toks.now.undef_tokens) (reply_seen written)) }
 {
-    match judge_tokens(alloc, names, toks.tokens.as_slice())? {
-        Some(failures) => tell(alloc, names, toks, classes, &failures),
-        None => not_built(alloc, names, &toks.files),
+    match judge(alloc, unit) {
+        Ok(judged) => tell(alloc, names, toks, classes, unit, &judged),
+        Err(JudgeFault::Constraint(broken)) => constraint(alloc, names, toks, broken),
+        Err(JudgeFault::Limit(kind)) => limit(alloc, kind),
+        Err(JudgeFault::Memory) => Err(AllocError),
     }
 }
 
-// The failures of the tree that the tokens derive in the form, or None where they derive none.
-fn judge_tokens(
-    alloc: Global,
-    names: &Names,
-    tokens: &[Token],
-) -> Result<Option<Vec<Failure>>, AllocError>
-    requires known { AreKnown names.now tokens.now }
-    requires few { length tokens.now ≤ 2000000 }
-    ensures judged { IfOk result (λ found. IfSome found (λ failures. IsJudged names.now tokens.now failures.items)) }
-    ensures none { IfOk result (λ found. IfNone found (read_unit (spellings_of names.now tokens.now) ≡ None)) }
-{
-    let Some(items) = read_items(alloc, names, tokens)? else {
-        return Ok(None);
-    };
-    let unit = build(alloc, names, &items)?;
-    // The tree has all of them: the memory is free for what comes.
-    drop(items);
-    judge(alloc, names, &unit)
-}
-
-// The reply that tells identifiers that were left in `#if` lines, and these failures, where their classes are on.
+// The warnings of a unit of which nothing is refused; one with contexts isn't built yet.
 fn tell(
     alloc: Global,
     names: &Names,
     toks: &UnitTokens,
     classes: &ClassSet,
-    failures: &[Failure],
+    unit: &Unit,
+    judged: &Judged,
 ) -> Result<Written, AllocError>
-    requires known { IsKnownUnit names.now toks.now }
-    requires judged { AreKnownFailures names.now (length toks.now.tokens) failures.now }
-    ensures { IfOk result (λ written. reply_seen written ≡ checked_reply classes.now (paths_of names.now toks.now.files)
-        (toks_of names.now toks.now.tokens) (toks_of names.now toks.now.undef_tokens) (failures_of names.now failures.now)) }
+    requires numbered { IsNumberedUnit names.now toks.now }
+    requires whole { unit.now.first ≡ 0 }
+    requires listing { AreOrdered (listing_shown names.now judged.now) }
+    ensures { (is : IsJudgedSo (nodes_of unit.now) judged.now) → IfOk result (λ written. reply_seen written
+        ≡ judged_reply classes.now (unit_seen names.now toks.now (nodes_of unit.now) is.surroundings) (Holds (found_seen judged.now.types judged.now.failures))) }
 {
-    let undefined = undefined_on(toks.undef_tokens.as_slice(), classes);
-    let failures = failures_on(alloc, names, failures, classes)?;
-    print(alloc, names, toks, undefined, &failures)
-}
-
-// The identifiers of which the rule for them warns.
-fn undefined_on<'t>(undefined: &'t [Token], classes: &ClassSet) -> &'t [Token]
-    ensures on { (names : List (List ℕ)) → toks_of names result.now ≡ undefined_on classes.now (toks_of names undefined.now) }
-    ensures known { (names : List (List ℕ)) → AreKnown names undefined.now → AreKnown names result.now }
-{
-    if is_on(classes, Class::Undef) {
-        undefined
-    } else {
-        &[]
+    if has_contexts(unit) {
+        return not_built(alloc, names, &toks.files);
     }
+    warn(alloc, names, toks, classes, judged)
 }
 
-// The failures whose classes are on.
-fn failures_on(
-    alloc: Global,
-    names: &Names,
-    failures: &[Failure],
-    classes: &ClassSet,
-) -> Result<Vec<Failure>, AllocError>
-    ensures on { IfOk result (λ on. failures_of names.now on.items ≡ failures_on classes.now (failures_of names.now failures.now)) }
-    ensures known { (count : ℕ) → AreKnownFailures names.now count failures.now → IfOk result (λ on. AreKnownFailures names.now count on.items) }
-{
-    let mut on = Vec::new(alloc);
-    let mut left = failures;
-    'failures: while let Some((failure, others)) = left.split_first() {
-        left = others;
-        if is_on(classes, failure.cause.rule().class()) {
-            on.push(*failure)?;
-            continue 'failures;
-        }
-    }
-    Ok(on)
-}
-
-// The reply that warns of these identifiers and these failures.
-fn print(
+// The warnings of a listing.
+fn warn(
     alloc: Global,
     names: &Names,
     toks: &UnitTokens,
-    undefined: &[Token],
-    failures: &[Failure],
+    classes: &ClassSet,
+    judged: &Judged,
 ) -> Result<Written, AllocError>
-    requires known { IsKnownUnit names.now toks.now }
-    requires undefined { AreKnown names.now undefined.now }
-    requires failures { AreKnownFailures names.now (length toks.now.tokens) failures.now }
-    ensures { IfOk result (λ written. reply_seen written ≡ warned (paths_of names.now toks.now.files)
-        (toks_of names.now toks.now.tokens) (toks_of names.now undefined.now) (failures_of names.now failures.now)) }
+    requires listing { AreOrdered (listing_shown names.now judged.now) }
+    ensures { IfOk result (λ written. reply_seen written
+        ≡ warned_reply (unit_lines (shown_over names.now toks.now judged.now.types) classes.now (listing_shown names.now judged.now))) }
 {
-    if undefined.is_empty() && failures.is_empty() {
-        return Ok(Written::silent(alloc));
-    }
-    let mut err = Vec::new(alloc);
-    write_undefined(&mut err, names, &toks.files, undefined)?;
-    write_warnings(
-        &mut err,
+    let show = Show {
         names,
-        &toks.files,
-        toks.tokens.as_slice(),
-        failures,
-    )?;
+        toks,
+        types: &judged.types,
+    };
+    let err = print_all(alloc, &judged.failures, classes, &show)?;
+    let exit = exit_of(err.as_slice());
     Ok(Written {
         out: Vec::new(alloc),
         err,
-        exit: Exit::Warned,
+        exit,
     })
+}
+
+// Whether some node of the unit is the attribute or the statement of a context.
+fn has_contexts(unit: &Unit) -> bool
+    requires { unit.now.first ≡ 0 }
+    ensures { result ≡ has_context (nodes_of unit.now) }
+{
+    for handle in 0..unit.len() {
+        if is_context(unit.kind(handle)) {
+            return true;
+        }
+    }
+    false
+}
+
+fn is_context(kind: NodeKind) -> bool
+    ensures { result ≡ is_context kind }
+{
+    matches!(
+        kind,
+        NodeKind::ContextAttribute | NodeKind::ContextStatement
+    )
+}
+
+// How a command ends that writes these warnings.
+fn exit_of(warnings: &[u8]) -> Exit
+    ensures { ending_seen result ≡ ending_behind warnings.now }
+{
+    if warnings.is_empty() {
+        Exit::Clean
+    } else {
+        Exit::Warned
+    }
 }

@@ -2,8 +2,8 @@
 ghost use Rattle.std.specs.Prelude.{◌≡◌};
 ghost use Rattle.std.specs.Str.{bytes_eq};
 ghost use Rattle.vocabulary.specs.Rules.{all_classes};
-ghost use Rattle.meaning_answer.specs.Lines.{is_on};
 ghost use Rattle.meaning_answer.specs.Options.{class_name, class_named, is_class};
+ghost use Rattle.meaning_warnings.specs.Listing.{class_index, is_on};
 
 use sparse_model::{Class, ClassSet};
 
@@ -84,10 +84,16 @@ pub(crate) fn is_on(classes: &ClassSet, class: Class) -> bool
 {
     let mut left = classes.as_slice();
     'classes: while let Some((on, others)) = left.split_first() {
-        if is_class(class, *on) {
+        if number_of(*on) == number_of(class) {
             return true;
         }
         left = others;
     }
     false
+}
+
+fn number_of(class: Class) -> u8
+    ensures { result ≡ class_index class }
+{
+    class as u8
 }

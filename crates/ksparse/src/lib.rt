@@ -17,8 +17,8 @@ mod parsing;
 mod reading;
 mod refusal;
 mod reply;
+mod silence;
 mod top;
-mod warnings;
 mod write;
 
 pub use answer::{Stop, tell_stop};

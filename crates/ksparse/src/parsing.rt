@@ -1,38 +1,21 @@
-// Whether parsing refuses the tokens of a unit, and the line that says for what.
-ghost use Rattle.std.specs.Prelude.{◌≡◌, ℕ, IfNone, IfOk, IfSome, List, slice_get};
+// The line that says for what parsing refuses the tokens of a unit.
+ghost use Rattle.std.specs.Prelude.{◌≡◌, [], ℕ, IfOk, List, Some, slice_get};
 ghost use Rattle.c_parse.specs.Answers.{IsFaultOf};
-ghost use Rattle.c_preproc.specs.Conditions.{AreKnown};
 ghost use Rattle.c_preproc.specs.Units.{IsKnownUnit};
-ghost use Rattle.c_tokens.specs.Seen.{at_of, toks_of};
-ghost use Rattle.meaning_answer.specs.Answers.{IsParsed, TellsRefusal};
+ghost use Rattle.c_tokens.specs.Seen.{at_of, text_of, toks_of};
+ghost use Rattle.meaning_answer.specs.Answers.{TellsRefusal};
 ghost use Rattle.meaning_answer.specs.Lines.{named_word, names_its_token, refusal_place, refusal_reply};
 ghost use Rattle.meaning_derivation.specs.State.{IsError};
 ghost use Rattle.meaning_warnings.specs.Places.{token_text};
 ghost use Rattle.ksparse.specs.Written.{paths_of, reply_seen};
 
-use crate::refusal::{START, error, limit};
+use crate::refusal::{NO_NAME, START, error, limit, path_in};
 use crate::reply::Written;
-use c_parse::{ParseFault, parse};
+use c_parse::ParseFault;
 use c_preproc::UnitTokens;
 use c_tokens::{Names, Token, TokenList};
-use first_form::path_in;
-use sparse_model::{ErrorKind, Place};
+use sparse_model::{ErrorKind, NameId, Place};
 use std::alloc::{AllocError, Global};
-
-/// Why parsing refuses these tokens, if it does. Nothing asks for their tree yet, and it isn't kept.
-pub(crate) fn parse_fault(alloc: Global, names: &Names, tokens: &[Token]) -> Option<ParseFault>
-    requires { AreKnown names.now tokens.now }
-    ensures parsed { IfNone result (IsParsed (toks_of names.now tokens.now)) }
-    ensures refused { IfSome result (IsFaultOf (toks_of names.now tokens.now)) }
-{
-    match parse(alloc, names, tokens) {
-        Ok(read) => {
-            drop(read);
-            None
-        }
-        Err(fault) => Some(fault),
-    }
-}
 
 /// The reply to tokens that parsing refuses for this.
 pub fn tell_fault(
@@ -61,14 +44,14 @@ fn tell_error(
     kind: ErrorKind,
     token: u32,
 ) -> Result<Written, AllocError>
-    requires { IsKnownUnit names.now toks.now }
     ensures { IfOk result (λ written. reply_seen written ≡ refusal_reply (paths_of names.now toks.now.files)
         (toks_of names.now toks.now.tokens) (IsError kind) token) }
 {
+    names.apart();
     let place = refusal_place(&toks.tokens, token);
-    let path = path_in(names, &toks.files, place.file);
-    let word = named_word(names, &toks.tokens, kind, token);
-    error(alloc, kind, path, place, word)
+    let path = path_in(&toks.files, place.file);
+    let word = named_word(&toks.tokens, kind, token);
+    error(alloc, names, kind, path, place, word)
 }
 
 // Where an error is told that stands at this index; a file that ends too early is told at its last token.
@@ -94,25 +77,23 @@ fn token_in(tokens: &TokenList, index: usize) -> Option<Token>
 }
 
 // The word that an error names which stands at this index.
-fn named_word<'n>(names: &'n Names, tokens: &TokenList, kind: ErrorKind, index: u32) -> &'n [u8]
-    requires { AreKnown names.now tokens.now }
-    ensures { result.now ≡ named_word kind (toks_of names.now tokens.now) index }
+fn named_word(tokens: &TokenList, kind: ErrorKind, index: u32) -> NameId
+    ensures { (names : List (List ℕ)) → slice_get names 0 ≡ Some [] → text_of names result ≡ named_word kind (toks_of names tokens.now) index }
 {
     if names_its_token(kind) {
-        spelled_at(names, tokens, index)
+        name_at(tokens, index)
     } else {
-        b""
+        NO_NAME
     }
 }
 
-// How the token with this index is spelled; one that isn't there is spelled as nothing.
-fn spelled_at<'n>(names: &'n Names, tokens: &TokenList, index: u32) -> &'n [u8]
-    requires { AreKnown names.now tokens.now }
-    ensures { result.now ≡ token_text (slice_get (toks_of names.now tokens.now) index) }
+// The name of the token with this index; one that isn't there has none.
+fn name_at(tokens: &TokenList, index: u32) -> NameId
+    ensures { (names : List (List ℕ)) → slice_get names 0 ≡ Some [] → text_of names result ≡ token_text (slice_get (toks_of names tokens.now) index) }
 {
     match token_in(tokens, index as usize) {
-        Some(token) => names.spelling(token.name),
-        None => b"",
+        Some(token) => token.name,
+        None => NO_NAME,
     }
 }
 

@@ -1,17 +1,19 @@
 // The line of each refusal, as a reply.
-ghost use Rattle.std.specs.Prelude.{◌≡◌, ◌++◌, All, IfOk, OnOk};
-ghost use Rattle.vocabulary.specs.Errors.{error_line};
-ghost use Rattle.meaning_warnings.specs.Errors.{error_front, told_word};
-ghost use Rattle.c_tokens.specs.Seen.{IsKnown, at_of};
+ghost use Rattle.std.specs.Prelude.{◌≡◌, [], ℕ, IfOk, List, Some, slice_get};
+ghost use Rattle.c_tokens.specs.Seen.{at_of, text_of, toks_of};
 ghost use Rattle.meaning_answer.specs.Lines.{bad_word_reply, error_reply, limit_reply, missing_file_reply, not_built_reply};
+ghost use Rattle.meaning_warnings.specs.Places.{begins_at, path_of};
+ghost use Rattle.ksparse.specs.Judged.{constraint_reply};
 ghost use Rattle.ksparse.specs.Written.{paths_of, reply_seen};
 
 use crate::exit::Exit;
 use crate::reply::Written;
-use c_tokens::Names;
-use first_form::{path_in, write_place};
-use sparse_model::{ErrorKind, FileNames, LimitKind, Place};
+use c_preproc::UnitTokens;
+use c_tokens::{Names, TokenList};
+use expression_rows::Broken;
+use sparse_model::{ErrorKind, FileNames, LimitKind, NameId, Place};
 use std::alloc::{AllocError, Global};
+use warn_print::error_text;
 
 /// The number of the checked file.
 const MAIN_FILE: u32 = 1;
@@ -22,6 +24,9 @@ pub(crate) const START: Place = Place {
     line: 1,
     column: 1,
 };
+
+/// The id of the empty spelling, which stands where there is no name.
+pub(crate) const NO_NAME: NameId = NameId(0);
 
 /// The first word that no rule allows.
 pub(crate) fn bad_word(alloc: Global, word: &[u8]) -> Result<Written, AllocError>
@@ -44,92 +49,72 @@ pub(crate) fn limit(alloc: Global, kind: LimitKind) -> Result<Written, AllocErro
     Written::line(alloc, Exit::Limit, b"ksparse: limit: ", kind.name())
 }
 
-/// The tokens of these files aren't in the form.
+/// A unit with contexts, which aren't judged yet.
 pub(crate) fn not_built(
     alloc: Global,
     names: &Names,
     files: &FileNames,
 ) -> Result<Written, AllocError>
-    requires { All (IsKnown names.now) files.now }
     ensures { IfOk result (λ written. reply_seen written ≡ not_built_reply (paths_of names.now files.now)) }
 {
-    let path = path_in(names, files, MAIN_FILE);
-    error(alloc, ErrorKind::FormNotBuilt, path, START, b"")
+    names.apart();
+    let path = path_in(files, MAIN_FILE);
+    error(alloc, names, ErrorKind::FormNotBuilt, path, START, NO_NAME)
+}
+
+/// The constraint that a unit breaks, at its token.
+pub(crate) fn constraint(
+    alloc: Global,
+    names: &Names,
+    toks: &UnitTokens,
+    broken: Broken,
+) -> Result<Written, AllocError>
+    ensures { IfOk result (λ written. reply_seen written ≡ constraint_reply names.now toks.now broken) }
+{
+    names.apart();
+    let place = place_of(&toks.tokens, broken.token);
+    let path = path_in(&toks.files, place.file);
+    error(alloc, names, broken.constraint, path, place, broken.name)
 }
 
 /// An error at this place of the file with this path, and the word that its text names, if it names one.
 pub(crate) fn error(
     alloc: Global,
+    names: &Names,
     kind: ErrorKind,
-    path: &[u8],
+    path: NameId,
     place: Place,
-    word: &[u8],
+    word: NameId,
 ) -> Result<Written, AllocError>
-    ensures { IfOk result (λ written. reply_seen written ≡ error_reply kind path.now (at_of place) word.now) }
+    ensures { IfOk result (λ written. reply_seen written ≡ error_reply kind (text_of names.now path) (at_of place) (text_of names.now word)) }
 {
-    let mut err = Vec::new(alloc);
-    write_error_front(&mut err, kind, path, place)?;
-    write_error(&mut err, kind, word)?;
-    err.push(b'\n')?;
     Ok(Written {
         out: Vec::new(alloc),
-        err,
+        err: error_text(alloc, names, path, kind, place, word)?,
         exit: Exit::Refused,
     })
 }
 
-// Where an error stands; a file that isn't there has no places.
-fn write_error_front(
-    text: &mut Vec<u8>,
-    kind: ErrorKind,
-    path: &[u8],
-    place: Place,
-) -> Result<(), AllocError>
-    ensures { OnOk result (text.new.items ≡ text.old.items ++ error_front kind path.now (at_of place)) }
+/// Where the token with this index begins; where there is none, the beginning of the checked file.
+pub(crate) fn place_of(tokens: &TokenList, index: u32) -> Place
+    ensures { (names : List (List ℕ)) → at_of result ≡ begins_at (slice_get (toks_of names tokens.now) index) }
 {
-    match kind {
-        ErrorKind::NoSuchFile => text.extend_from_slice(b"ksparse: "),
-        _ => {
-            write_place(text, path, place)?;
-            text.push(b' ')?;
-            Ok(())
-        }
+    let index = index as usize;
+    if index < tokens.len() {
+        tokens.get(index).place
+    } else {
+        START
     }
 }
 
-// Appends the number and the text of an error, with the word that the text names, if it names one.
-fn write_error(text: &mut Vec<u8>, kind: ErrorKind, word: &[u8]) -> Result<(), AllocError>
-    ensures { OnOk result (text.new.items ≡ text.old.items ++ error_line kind (told_word kind word.now)) }
+/// The path of the file with this number.
+pub(crate) fn path_in(files: &FileNames, file: u32) -> NameId
+    ensures { (names : List (List ℕ)) → slice_get names 0 ≡ Some [] → text_of names result ≡ path_of (paths_of names files.now) file }
 {
-    let mut number = itoa::Buffer::new();
-    text.extend_from_slice(b"error[")?;
-    text.extend_from_slice(number.format(kind.number()).as_bytes())?;
-    text.extend_from_slice(b"]: ")?;
-    text.extend_from_slice(kind.front())?;
-    write_word(text, kind, word)?;
-    text.extend_from_slice(kind.back())?;
-    Ok(())
-}
-
-// Appends the word that an error names.
-fn write_word(text: &mut Vec<u8>, kind: ErrorKind, word: &[u8]) -> Result<(), AllocError>
-    ensures { OnOk result (text.new.items ≡ text.old.items ++ told_word kind word.now) }
-{
-    match kind {
-        ErrorKind::SyntaxError => write_unexpected(text, word),
-        _ => text.extend_from_slice(word),
+    let file = file as usize;
+    if file < files.len() {
+        *files.get(file)
+    } else {
+        NO_NAME
     }
-}
-
-// Appends the token that isn't expected, or that the file ends.
-fn write_unexpected(text: &mut Vec<u8>, word: &[u8]) -> Result<(), AllocError>
-    ensures { OnOk result (text.new.items ≡ text.old.items ++ told_word ErrorKind.SyntaxError word.now) }
-{
-    if word.is_empty() {
-        return text.extend_from_slice(b"end of file");
-    }
-    text.push(b'\'')?;
-    text.extend_from_slice(word)?;
-    text.push(b'\'')?;
-    Ok(())
 }

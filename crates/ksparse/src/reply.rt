@@ -1,6 +1,6 @@
 // A reply, which stands whole in memory before any of it is written. Sinks aren't known here.
 ghost use Rattle.std.specs.Prelude.{◌≡◌, ◌++◌, IfOk, length};
-ghost use Rattle.meaning_answer.specs.Reply.{line, silence};
+ghost use Rattle.meaning_answer.specs.Reply.{line};
 ghost use Rattle.ksparse.specs.Ending.{ending_seen};
 ghost use Rattle.ksparse.specs.Written.{reply_seen};
 
@@ -16,17 +16,6 @@ pub struct Written {
 }
 
 impl Written {
-    /// Nothing, and a clean exit.
-    pub fn silent(alloc: Global) -> Self
-        ensures { reply_seen result ≡ silence }
-    {
-        Written {
-            out: Vec::new(alloc),
-            err: Vec::new(alloc),
-            exit: Exit::Clean,
-        }
-    }
-
     /// One line for `err`, of two parts.
     pub fn line(alloc: Global, exit: Exit, front: &[u8], back: &[u8]) -> Result<Self, AllocError>
         ensures { IfOk result

@@ -11,7 +11,6 @@ ghost use Rattle.ksparse.specs.Sinks.{TellsWhatItTook};
 use crate::answer::{Stop, answer};
 use crate::exit::Exit;
 use crate::write::deliver;
-use meaning_machine::silence_is_safe;
 use meaning_outside::loads_of_each_path_once_agree;
 use sparse_outside::{Files, Sink, Words};
 use std::alloc::Global;
@@ -70,7 +69,6 @@ pub fn ksparse<F: Files, O: Sink, E: Sink>(
     ensures told_out { TellsWhatItTook (O.written out.old) (O.written out.new) (O.taken out.old) (O.taken out.new) }
     ensures told_err { TellsWhatItTook (E.written err.old) (E.written err.new) (E.taken err.old) (E.taken err.new) }
 {
-    silence_is_safe();
     loads_of_each_path_once_agree();
     let written = match answer(alloc, words, files) {
         Ok(written) => written,

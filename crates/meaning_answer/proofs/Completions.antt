@@ -1,5 +1,5 @@
 -- A command is complete where the answer that the plain program computes was taken whole, and only there.
-use Rattle.std.proofs.Common.{◌≡◌, ◌≢◌, ℕ, List, [], ◌∷◌, ◌⊎◌, Option, Some, None, ◌∙◌, ap, subst, refl, inl, inr, codes, get_or, arith}
+use Rattle.std.proofs.Common.{◌≡◌, ◌≢◌, ℕ, List, [], ◌∷◌, ◌⊎◌, Option, Some, None, ap, subst, refl, inl, inr, codes, get_or, arith}
 use Rattle.std.specs.Cmp.Lexicographic.{slice_cmp}
 use Rattle.std.specs.FinMap as map
 use Rattle.std.specs.Fmt.{digits}

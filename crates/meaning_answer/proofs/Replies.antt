@@ -1,119 +1,139 @@
--- The reply to a command, by the laws of units, derivations, trees and failures.
-use Rattle.std.proofs.Common.{◌≡◌, ◌⊎◌, ℕ, List, [], Option, Some, None, option_map, ◌∙◌, ap, sym, subst, refl, inl, inr}
-use Rattle.std.proofs.lemmas.Option.{same_Some}
+-- There is at most one reply to a command, and what the plain program answers is it.
+use Rattle.std.proofs.Common.{◌≡◌, ℕ, List, [], ◌∷◌, Option, Some, None, option_map, ◌∙◌, ap, sym, subst, refl, inl, inr}
+use Rattle.std.specs.Option.{option_and_then}
+use Rattle.std.proofs.lemmas.Option.{none-some, same_Some}
 use Rattle.vocabulary.specs.declared.class.Class.{Class}
 use Rattle.meaning_outside.specs.Files.{FileMap}
 use Rattle.meaning_text.specs.Tokens.{Tok}
-use Rattle.meaning_text.specs.Terminals.{terminals_of}
 use Rattle.meaning_tree.specs.Trees.{SyntaxTree}
 use Rattle.meaning_grammar.specs.Terminals.{Terminal}
+use Rattle.meaning_derivation.specs.Values.{Value, WordValue, TreeValue, ListValue}
 use Rattle.meaning_derivation.specs.State.{State, Fault, Outcome, Done, Fails}
 use Rattle.meaning_derivation.specs.Actions.{act}
 use Rattle.meaning_derivation.specs.Units.{HasOutcome, DerivesTree, IsRefused}
 use Rattle.meaning_derivation.specs.plain.Deriving.{derived_outcome}
 use Rattle.meaning_derivation.proofs.Deriving.{answers_are_outcomes}
-use Rattle.meaning_derivation.proofs.Existence.{units_have_an_outcome}
 use Rattle.meaning_derivation.proofs.Uniqueness.{units_have_one_outcome}
-use Rattle.meaning_syntax.specs.Items.{Item}
-use Rattle.meaning_syntax.specs.Trees.{unit_tree, Derives}
-use Rattle.meaning_syntax.specs.plain.Reading.{read_unit}
-use Rattle.meaning_syntax.proofs.UnitReading.{IsUnit-read_unit}
-use Rattle.meaning_syntax.proofs.Derivations.{read_units_derive, derived_trees_are_those}
-use Rattle.meaning_first_rules.specs.Failures.{IsListing}
-use Rattle.meaning_first_rules.specs.plain.Judging.{failures_of}
-use Rattle.meaning_first_rules.proofs.Units.{listings_exist, listings_are_unique}
+use Rattle.meaning_typing.specs.Building.{surroundings_of}
+use Rattle.meaning_typing.specs.Surroundings.{Surrounding}
+use Rattle.meaning_typing.proofs.Surroundings.{surroundings_are_found, surroundings_are_unique}
+use Rattle.meaning_rules.specs.Rules.{Judgement}
+use Rattle.meaning_units.proofs.JudgementLemmas.{judgements_are_unique}
+use Rattle.meaning_unit_nodes.specs.Numbered.{unit_nodes}
 use Rattle.meaning_preprocessing.specs.Unit.{UnitEnd, Ends, EndsEarly, PreprocessedUnit}
 use Rattle.meaning_preprocessing.proofs.Uniqueness.{units_exist, units_are_unique}
 use Rattle.meaning_answer.specs.Reply.{Reply}
 use Rattle.meaning_answer.specs.Requests.{Request, BadWord, MissingFile, Check, Expand, request_of}
-use Rattle.meaning_answer.specs.Lines.{stop_reply, refusal_reply, checked_reply, bad_word_reply, missing_file_reply}
-use Rattle.meaning_answer.specs.Answers.{files_of, IsParsed, TellsFailures, TellsNotBuilt, IsFormReply, IsCheckReply, IsCheckEnd, IsRequestReply, expand_reply}
-use Rattle.meaning_answer.specs.plain.Replying.{items_reply, form_reply, outcome_reply, check_reply, end_reply, unit_of, request_reply}
-use Rattle.meaning_answer.specs.laws.Commands.{AnswersExist, AnswersAreUnique, PlainAnswersAreRight}
+use Rattle.meaning_answer.specs.Units.{ParsedUnit, judged_reply}
+use Rattle.meaning_answer.specs.Answers.{files_of, TellsRefusal, TellsJudgedTree, TellsUnit, IsCheckReply, IsCheckEnd, IsRequestReply, expand_reply}
+use Rattle.meaning_answer.specs.plain.Judging.{judgement_found}
+use Rattle.meaning_answer.specs.plain.Replying.{tree_reply, values_reply, outcome_reply, check_reply, end_reply, unit_of, request_reply}
+use Rattle.meaning_answer.specs.laws.Commands.{AnswersAreUnique, PlainAnswersAreRight}
+use Rattle.meaning_answer.proofs.Judgements.{found_is_judgement}
+use Rattle.meaning_answer.proofs.LaidLemmas.{nodes_are_laid}
 
--- tokens that aren't refused are parsed
-parsed_by : (tokens : List Tok) (last : State) (left : List Terminal) → HasOutcome act tokens (Done last left)
-    → ((tree : SyntaxTree) × DerivesTree act tokens tree) ⊎ ((fault : Fault) × (stands : ℕ) × IsRefused act tokens fault stands) → IsParsed tokens
-parsed_by tokens last left has (inl parsed) = parsed
-parsed_by tokens last left has (inr (fault, stands, refused)) =
-    let clash = units_have_one_outcome act tokens (Done last left) (Fails fault refused.0 stands) has refused.1 in absurd (cc clash)
+-- Trees
+
+values_in : Outcome → List Value
+values_in (Done last left) = last.values
+values_in (Fails fault decided stands) = []
+
+-- tokens derive one tree at most
+only_tree : (tokens : List Tok) (tree other : SyntaxTree) → DerivesTree act tokens tree → DerivesTree act tokens other → tree ≡ other
+unfolding values_in
+only_tree tokens tree other one another =
+    let same : one.0.values ≡ another.0.values =
+    ap values_in (units_have_one_outcome act tokens (Done one.0 []) (Done another.0 []) one.1 another.1) in
+    cc (one.2, another.2, same)
+
+-- and none where they are refused
+refused_or_parsed : (tokens : List Tok) (tree : SyntaxTree) (fault : Fault) (stands : ℕ) → DerivesTree act tokens tree → IsRefused act tokens fault stands → ⊥
+refused_or_parsed tokens tree fault stands parsed refused =
+    let clash = units_have_one_outcome act tokens (Done parsed.0 []) (Fails fault refused.0 stands) parsed.1 refused.1 in absurd (cc clash)
 
 -- Of tokens
 
 module _ (classes : List Class) (files : List (List ℕ)) (tokens undefined : List Tok) where
-  -- tokens that aren't read derive nothing in the form
-  pub underived : read_unit (terminals_of tokens) ≡ None → (tree : SyntaxTree) → Derives (terminals_of tokens) tree → ⊥
-  underived none tree derives = let read = derived_trees_are_those (terminals_of tokens) tree derives in cc
+  -- a tree has one reply, whatever tells its surroundings
+  abbrev TellsTree : SyntaxTree → List Surrounding → Reply → Type 0
+  TellsTree = TellsJudgedTree classes files tokens undefined
 
-  tokens_answered : (found : Option (List Item)) → read_unit (terminals_of tokens) ≡ found → IsFormReply classes files tokens undefined (items_reply classes files tokens undefined found)
-  tokens_answered None none = inr (underived none, refl)
-  tokens_answered (Some items) read =
-      inl
-      (unit_tree items, failures_of items, read_units_derive (terminals_of tokens) items read, listings_exist items (IsUnit-read_unit (terminals_of tokens) items read).bound, refl)
+  abbrev unit_over : SyntaxTree → List Surrounding → ParsedUnit
+  unit_over tree surroundings =
+      record { files = files; tokens = tokens; undefined = undefined; nodes = unit_nodes tokens tree; surroundings = surroundings }
 
-  pub form_answered : IsFormReply classes files tokens undefined (form_reply classes files tokens undefined)
-  form_answered = tokens_answered (read_unit (terminals_of tokens)) refl
+  in_same : (tree : SyntaxTree) (surroundings : List Surrounding) (first second : Reply) → TellsTree tree surroundings first
+      → TellsTree tree surroundings second → first ≡ second
+  in_same tree surroundings first second (are, (judgement, is, told)) (also, (other, so, said)) =
+      told
+      ∙ ap (judged_reply classes (unit_over tree surroundings))
+      (judgements_are_unique (unit_nodes tokens tree) judgement other (nodes_are_laid tokens tree) is so)
+      ∙ sym said
 
-  only_failures : (reply : Reply) → TellsFailures classes files tokens undefined reply → reply ≡ form_reply classes files tokens undefined
-  only_failures reply tells =
-      let derives = tells.2 in
-      let listing = subst (λ (tree : SyntaxTree). IsListing tree tells.1) derives.is_tree tells.3 in
-      let same = listings_are_unique (unit_tree derives.items) tells.1 (failures_of derives.items) listing (listings_exist derives.items derives.is_unit.bound) in
-      tells.4 ∙ ap (checked_reply classes files tokens undefined) same
-      ∙ sym (ap (items_reply classes files tokens undefined) (derived_trees_are_those (terminals_of tokens) tells.0 derives))
+  only_surroundings : (tree : SyntaxTree) (surroundings others : List Surrounding) (first second : Reply) → TellsTree tree surroundings first
+      → TellsTree tree others second → first ≡ second
+  only_surroundings tree surroundings others first second one other =
+      let same = surroundings_are_unique (unit_nodes tokens tree) surroundings others (nodes_are_laid tokens tree) one.0 other.0 in
+      in_same tree surroundings first second one (subst (λ (these : List Surrounding). TellsTree tree these second) (sym same) other)
 
-  only_unread :
-      (reply : Reply) → TellsNotBuilt files tokens reply → (found : Option (List Item)) → read_unit (terminals_of tokens) ≡ found
-      → reply ≡ items_reply classes files tokens undefined found
-  only_unread reply tells None none = tells.1
-  only_unread reply tells (Some items) read = absurd (tells.0 (unit_tree items) (read_units_derive (terminals_of tokens) items read))
+  only_unit : (first second : Reply) → TellsUnit classes files tokens undefined first → TellsUnit classes files tokens undefined second → first ≡ second
+  only_unit first second (tree, surroundings, derives, told) (another, others, also, said) =
+      let same = only_tree tokens tree another derives also in
+      only_surroundings tree surroundings others first second told (subst (λ (t : SyntaxTree). TellsTree t others second) (sym same) said)
 
-  only_form : (reply : Reply) → IsFormReply classes files tokens undefined reply → reply ≡ form_reply classes files tokens undefined
-  only_form reply (inl tells) = only_failures reply tells
-  only_form reply (inr tells) = only_unread reply tells (read_unit (terminals_of tokens)) refl
-
-  -- each outcome has its reply
-  outcome_answered : (outcome : Outcome) → HasOutcome act tokens outcome
-      → IsCheckReply classes files tokens undefined (outcome_reply classes files tokens undefined outcome)
-  outcome_answered (Done last left) has = inr (parsed_by tokens last left has (units_have_an_outcome tokens), form_answered)
-  outcome_answered (Fails fault decided stands) has = inl (fault, stands, (decided, has), refl)
-
-  -- and each reply is that to an outcome
-  outcome_told : (reply : Reply) → IsCheckReply classes files tokens undefined reply
-      → (outcome : Outcome) × HasOutcome act tokens outcome × (reply ≡ outcome_reply classes files tokens undefined outcome)
-  outcome_told reply (inl (fault, stands, refused, is)) = (Fails fault refused.0 stands, refused.1, is)
-  outcome_told reply (inr (parsed, told)) = (Done parsed.1.0 [], parsed.1.1, only_form reply told)
-
-  check_exists : (reply : Reply) × IsCheckReply classes files tokens undefined reply
-  check_exists = exists_by (units_have_an_outcome tokens)
-    where
-      exists_by : ((tree : SyntaxTree) × DerivesTree act tokens tree) ⊎ ((fault : Fault) × (stands : ℕ) × IsRefused act tokens fault stands)
-          → (reply : Reply) × IsCheckReply classes files tokens undefined reply
-      exists_by (inl parsed) = (form_reply classes files tokens undefined, inr (parsed, form_answered))
-      exists_by (inr (fault, stands, refused)) =
-          (refusal_reply files tokens fault stands, inl (fault, stands, refused, refl))
+  only_refusal : (first second : Reply) → TellsRefusal files tokens first → TellsRefusal files tokens second → first ≡ second
+  only_refusal first second (fault, stands, refused, told) (other, elsewhere, also, said) =
+      let same = units_have_one_outcome act tokens (Fails fault refused.0 stands) (Fails other also.0 elsewhere) refused.1 also.1 in
+      told ∙ cc same ∙ sym said
 
   only_check : (first second : Reply) → IsCheckReply classes files tokens undefined first → IsCheckReply classes files tokens undefined second → first ≡ second
-  only_check first second one other =
-      let here = outcome_told first one in
-      let there = outcome_told second other in
-      here.2 ∙ ap (outcome_reply classes files tokens undefined) (units_have_one_outcome act tokens here.0 there.0 here.1 there.1) ∙ sym there.2
+  only_check first second (inl one) (inl other) = only_refusal first second one other
+  only_check first second (inr one) (inr other) = only_unit first second one other
+  only_check first second (inl (fault, stands, refused, told)) (inr (tree, surroundings, derives, said)) =
+      absurd (refused_or_parsed tokens tree fault stands derives refused)
+  only_check first second (inr (tree, surroundings, derives, said)) (inl (fault, stands, refused, told)) =
+      absurd (refused_or_parsed tokens tree fault stands derives refused)
 
-  found_right : (depth : ℕ) (reply : Reply) (found : Option Outcome) → derived_outcome act depth tokens ≡ found
-      → option_map (outcome_reply classes files tokens undefined) found ≡ Some reply → IsCheckReply classes files tokens undefined reply
-  found_right depth reply None derived is = absurd (cc is)
-  found_right depth reply (Some outcome) derived is =
-      subst (IsCheckReply classes files tokens undefined) (same_Some _ _ is)
-      (outcome_answered outcome (answers_are_outcomes act depth tokens outcome derived))
+  -- What the plain program answers
 
-  check_right : (depth : ℕ) (reply : Reply) → check_reply depth classes files tokens undefined ≡ Some reply → IsCheckReply classes files tokens undefined reply
-  check_right depth reply is = found_right depth reply (derived_outcome act depth tokens) refl is
+  module _ (depth : ℕ) (reply : Reply) where
+    judged_by : (tree : SyntaxTree) (found : Option Judgement) → DerivesTree act tokens tree
+        → judgement_found depth (unit_nodes tokens tree) (surroundings_of (unit_nodes tokens tree)) ≡ found
+        → option_map (judged_reply classes (unit_over tree (surroundings_of (unit_nodes tokens tree)))) found ≡ Some reply
+        → TellsUnit classes files tokens undefined reply
+    judged_by tree None derives none is = absurd (none-some reply is)
+    judged_by tree (Some judgement) derives some is =
+        let nodes = unit_nodes tokens tree in
+        let are = surroundings_are_found nodes (nodes_are_laid tokens tree) in
+        (tree, surroundings_of nodes, derives, (are, (judgement, found_is_judgement depth nodes (surroundings_of nodes) judgement are some, sym (same_Some _ _ is))))
+
+    tree_right : (tree : SyntaxTree) → DerivesTree act tokens tree → tree_reply depth classes files tokens undefined tree ≡ Some reply
+        → TellsUnit classes files tokens undefined reply
+    tree_right tree derives is = judged_by tree _ derives refl is
+
+    values_right : (last : State) (values : List Value) (left : List Terminal) → last.values ≡ values → HasOutcome act tokens (Done last left)
+        → values_reply depth classes files tokens undefined values left ≡ Some reply → TellsUnit classes files tokens undefined reply
+    values_right last (TreeValue tree ∷ []) [] are has is = tree_right tree (last, has, are) is
+    values_right last (TreeValue tree ∷ []) (terminal ∷ left) are has is = absurd (none-some reply is)
+    values_right last (TreeValue tree ∷ value ∷ values) left are has is = absurd (none-some reply is)
+    values_right last (WordValue token text ∷ values) left are has is = absurd (none-some reply is)
+    values_right last (ListValue parts ∷ values) left are has is = absurd (none-some reply is)
+    values_right last [] left are has is = absurd (none-some reply is)
+
+    outcome_right : (outcome : Outcome) → HasOutcome act tokens outcome → outcome_reply depth classes files tokens undefined outcome ≡ Some reply
+        → IsCheckReply classes files tokens undefined reply
+    outcome_right (Done last left) has is = inr (values_right last last.values left refl has is)
+    outcome_right (Fails fault decided stands) has is = inl (fault, stands, (decided, has), sym (same_Some _ _ is))
+
+    found_right : (found : Option Outcome) → derived_outcome act depth tokens ≡ found
+        → option_and_then (outcome_reply depth classes files tokens undefined) found ≡ Some reply → IsCheckReply classes files tokens undefined reply
+    found_right None derived is = absurd (none-some reply is)
+    found_right (Some outcome) derived is = outcome_right outcome (answers_are_outcomes act depth tokens outcome derived) is
+
+    check_right : check_reply depth classes files tokens undefined ≡ Some reply → IsCheckReply classes files tokens undefined reply
+    check_right is = found_right (derived_outcome act depth tokens) refl is
 
 -- Of a unit, however it ends
-
-end_exists : (classes : List Class) (tokens : List Tok) (end : UnitEnd) → (reply : Reply) × IsCheckEnd classes tokens end reply
-end_exists classes tokens (Ends undefined paths) = check_exists classes (files_of paths) tokens undefined
-end_exists classes tokens (EndsEarly stop) = (stop_reply stop, refl)
 
 only_end : (classes : List Class) (tokens : List Tok) (end : UnitEnd) (first second : Reply) → IsCheckEnd classes tokens end first
     → IsCheckEnd classes tokens end second → first ≡ second
@@ -126,17 +146,6 @@ end_right depth classes tokens (Ends undefined paths) reply is = check_right cla
 end_right depth classes tokens (EndsEarly stop) reply is = sym (same_Some _ _ is)
 
 -- Of a command
-
-request_exists : (request : Request) (files : FileMap) → (reply : Reply) × IsRequestReply request files reply
-request_exists (BadWord position word) files = (bad_word_reply word, refl)
-request_exists MissingFile files = (missing_file_reply, refl)
-request_exists (Check options path) files =
-    let unit = unit_of options path files in
-    let found = end_exists options.classes unit.tokens unit.end in
-    (found.0, (unit, units_exist options.preprocessing files path, found.1))
-request_exists (Expand options path) files =
-    let unit = unit_of options path files in
-    (expand_reply unit.tokens unit.end, (unit, units_exist options.preprocessing files path, refl))
 
 only_request : (request : Request) (files : FileMap) (first second : Reply) → IsRequestReply request files first → IsRequestReply request files second
     → first ≡ second
@@ -158,9 +167,6 @@ request_right depth (Check options path) files reply is =
     (unit, units_exist options.preprocessing files path, end_right depth options.classes unit.tokens unit.end reply is)
 request_right depth (Expand options path) files reply is =
     (unit_of options path files, units_exist options.preprocessing files path, sym (same_Some _ _ is))
-
-pub answers_exist : AnswersExist
-answers_exist words files = request_exists (request_of words) files
 
 pub answers_are_unique : AnswersAreUnique
 answers_are_unique words files first second one other = only_request (request_of words) files first second one other

@@ -1,26 +1,32 @@
 -- Each answer has the shape of what was asked and of its ending.
-use Rattle.std.proofs.Common.{◌≡◌, ℕ, List, [], ◌∷◌, ◌++◌, codes, sym, ◌∙◌, ap, subst, refl, inl, inr, append_assoc, append-nil}
+use Rattle.std.proofs.Common.{ℕ, Bool, true, false, cond, List, [], ◌∷◌, ◌++◌, map, slice_get, Option, Some, None, codes, sym, ◌∙◌, ap, subst, refl, inl, inr, append_assoc, append-nil}
 use Rattle.vocabulary.specs.declared.class.Class.{Class}
+use Rattle.vocabulary.specs.declared.error_kind.ErrorKind.{ErrorKind}
+use Rattle.vocabulary.specs.declared.error_kind.ErrorKind.TheVariants.{FormNotBuilt}
+use Rattle.vocabulary.specs.declared.limit.LimitKind.TheVariants.{ObjectSize}
+use Rattle.vocabulary.specs.Errors.{error_line}
 use Rattle.meaning_outside.specs.Files.{FileMap}
 use Rattle.meaning_text.specs.Places.{At, main_file, start_of}
 use Rattle.meaning_text.specs.Tokens.{Tok}
-use Rattle.meaning_types.specs.Types.{flags_of}
+use Rattle.meaning_types.specs.Types.{TypeTree}
+use Rattle.meaning_operands.specs.Failures.{Failure}
 use Rattle.meaning_warnings.specs.Errors.{error_front, error_lines, told_word}
+use Rattle.meaning_warnings.specs.Listing.{lines_on, listing_lines, undefined_lines, unit_lines}
+use Rattle.meaning_warnings.specs.Places.{ShownUnit, begins_at, line_front, path_of, type_spelling}
+use Rattle.meaning_warnings.specs.Warnings.{TypeLines, NoTypeLines, ExpectedGot, LeftRight, Warning, line_of_type, lines_below, of_type, told_lines, two_types, warning_line}
 use Rattle.meaning_derivation.specs.State.{Fault, IsError, PassesLimit}
-use Rattle.vocabulary.specs.declared.error_kind.ErrorKind.{ErrorKind}
-use Rattle.vocabulary.specs.declared.error_kind.ErrorKind.TheVariants.{FormNotBuilt}
-use Rattle.vocabulary.specs.Errors.{error_line}
-use Rattle.meaning_types.specs.Spelling.{spelling}
-use Rattle.meaning_first_rules.specs.Failures.{Cause, SpacesMixed, FlaggedAccess, Failure}
-use Rattle.meaning_first_rules.specs.Text.{place_text, place_of, cause_text, access_text, path_in, unit_failure_text, unit_warnings_text}
+use Rattle.meaning_rules.specs.Rules.{Judgement, Holds, BreaksConstraint, PassesObjectSize}
 use Rattle.meaning_preprocessing.specs.State.{Stop, Refuses, Passes}
 use Rattle.meaning_preprocessing.specs.Unit.{UnitEnd, Ends, EndsEarly}
+use Rattle.meaning_unit_nodes.specs.Numbered.{unit_nodes}
+use Rattle.meaning_names.specs.Spelled.{spelled_failure}
 use Rattle.meaning_answer.specs.Reply.{Reply, IsLine}
 use Rattle.meaning_answer.specs.Requests.{Request, BadWord, MissingFile, Check, Expand, request_of}
 use Rattle.meaning_answer.specs.Tokens.{token_behind, tokens_behind, tokens_text}
-use Rattle.meaning_answer.specs.Lines.{undefined_line, warnings_in, warned, undefined_on, failures_on, limit_text, named_word, refusal_place, refusal_reply, stop_reply}
+use Rattle.meaning_answer.specs.Lines.{limit_text, named_word, not_built_reply, refusal_place, refusal_reply, stop_reply}
+use Rattle.meaning_answer.specs.Units.{ParsedUnit, has_context, judged_reply, name_in, shown_unit, spellings_in, warned_reply, warnings_of}
 use Rattle.meaning_answer.specs.Shapes.{HasCheckShape, HasExpandShape, IsShapedFor, IsText}
-use Rattle.meaning_answer.specs.Answers.{files_of, IsFormReply, IsCheckReply, IsCheckEnd, IsRequestReply, expand_reply}
+use Rattle.meaning_answer.specs.Answers.{files_of, TellsJudgement, IsCheckReply, IsCheckEnd, IsRequestReply, expand_reply}
 use Rattle.meaning_answer.specs.laws.Commands.{AnswersAreShaped, AnswersTellFaults, TellsFault}
 
 -- the shapes of replies
@@ -34,35 +40,67 @@ IsExpandShaped reply = HasExpandShape reply.ending reply.out reply.err
 IsLine-append : (text line : List ℕ) → IsLine line → IsLine (text ++ line)
 IsLine-append text line is = (text ++ is.0, ap (λ (t : List ℕ). text ++ t) is.1 ∙ sym (append_assoc text is.0 (codes "\n")))
 
-IsLine-cause_text : (path : List ℕ) (at : At) (cause : Cause) → IsLine (cause_text path at cause)
-IsLine-cause_text path at (SpacesMixed position expected got) =
-    IsLine-append _ _ (place_text path at ++ codes "    " ++ codes "got" ++ codes " " ++ spelling got, refl)
-IsLine-cause_text path at (FlaggedAccess place) =
-    (place_text path at ++ codes " warning: " ++ access_text (flags_of place), refl)
+IsLine-behind : (line text : List ℕ) → IsLine line → IsText text → IsLine (line ++ text)
+IsLine-behind line text is (inl none) = subst (λ (t : List ℕ). IsLine (line ++ t)) (sym none) (subst IsLine (sym (append-nil line)) is)
+IsLine-behind line text is (inr also) = IsLine-append line text also
 
--- warnings end with a new-line
-IsLine-warnings : (files : List (List ℕ)) (tokens : List Tok) (failure : Failure) (failures : List Failure) → IsLine (unit_warnings_text files tokens (failure ∷ failures))
-IsLine-warnings files tokens failure [] =
-    let at = place_of tokens failure.token in
-    let is = IsLine-cause_text (path_in files at.file) at failure.cause in
-    simp append-nil is
-IsLine-warnings files tokens failure (next ∷ failures) =
-    IsLine-append (unit_failure_text files tokens failure) _ (IsLine-warnings files tokens next failures)
+IsText-append : (text other : List ℕ) → IsText text → IsText other → IsText (text ++ other)
+IsText-append text other (inl none) is = subst (λ (t : List ℕ). IsText (t ++ other)) (sym none) is
+IsText-append text other (inr line) is = inr (IsLine-behind text other line is)
 
-IsLine-undefined : (files : List (List ℕ)) (t : Tok) → IsLine (undefined_line files t)
-IsLine-undefined files t =
-    (place_text (path_in files t.at.file) t.at ++ codes " warning: " ++ (codes "undefined preprocessor identifier '" ++ t.text ++ codes "'"), refl)
+-- Warnings
 
-IsLine-all : (files : List (List ℕ)) (tokens : List Tok) (t : Tok) (undefined : List Tok) (failures : List Failure) → IsLine (warnings_in files tokens (t ∷ undefined) failures)
-IsLine-all files tokens t [] [] = let is = IsLine-undefined files t in simp append-nil is
-IsLine-all files tokens t [] (failure ∷ failures) = IsLine-append _ _ (IsLine-warnings files tokens failure failures)
-IsLine-all files tokens t (next ∷ undefined) failures =
-    subst IsLine (sym (append_assoc (undefined_line files t) _ _)) (IsLine-append (undefined_line files t) _ (IsLine-all files tokens next undefined failures))
+module _ (shown : ShownUnit) where
+  IsLine-type : (path : List ℕ) (at : At) (word : List ℕ) (type_ : TypeTree) → IsLine (line_of_type shown path at word type_)
+  IsLine-type path at word type_ = (line_front path at ++ codes "   " ++ word ++ codes " " ++ type_spelling shown type_, refl)
 
-shaped_warned : (files : List (List ℕ)) (tokens undefined : List Tok) (failures : List Failure) → IsCheckShaped (warned files tokens undefined failures)
-shaped_warned files tokens [] [] = (refl, refl)
-shaped_warned files tokens [] (failure ∷ failures) = (refl, IsLine-warnings files tokens failure failures)
-shaped_warned files tokens (t ∷ undefined) failures = (refl, IsLine-all files tokens t undefined failures)
+  IsText-type : (path : List ℕ) (at : At) (word : List ℕ) (type_ : Option TypeTree) → IsText (of_type (line_of_type shown path at word) type_)
+  IsText-type path at word None = inl refl
+  IsText-type path at word (Some type_) = inr (IsLine-type path at word type_)
+
+  IsText-types : (path : List ℕ) (at : At) (word other : List ℕ) (failure : Failure) → IsText (two_types shown path at word other failure)
+  IsText-types path at word other failure =
+      IsText-append _ _ (IsText-type path at word failure.first) (IsText-type path at other failure.second)
+
+  IsText-below : (path : List ℕ) (at : At) (failure : Failure) (below : TypeLines) → IsText (lines_below shown path at failure below)
+  IsText-below path at failure NoTypeLines = inl refl
+  IsText-below path at failure ExpectedGot = IsText-types path at (codes "expected") (codes "got") failure
+  IsText-below path at failure LeftRight = IsText-types path at (codes "left") (codes "right") failure
+
+  IsLine-warning : (path : List ℕ) (at : At) (text : List ℕ) → IsLine (warning_line path at text)
+  IsLine-warning path at text = (line_front path at ++ codes "warning: " ++ text, refl)
+
+  IsLine-told : (at : At) (failure : Failure) (warning : Warning) → IsLine (told_lines shown at failure warning)
+  IsLine-told at failure warning =
+      let path = path_of shown.files at.file in
+      IsLine-behind _ _ (IsLine-warning path at warning.text) (IsText-below path at failure warning.below)
+
+  IsText-if : (on : Bool) (text : List ℕ) → IsLine text → IsText (cond on text [])
+  IsText-if true text is = inr is
+  IsText-if false text is = inl refl
+
+  module _ (classes : List Class) where
+    IsText-on : (token : Option Tok) (failure : Failure) → IsText (lines_on shown classes token failure)
+    IsText-on token failure = IsText-if _ _ (IsLine-told (begins_at token) failure _)
+
+    IsText-undefined : (failures : List Failure) (tokens : List Tok) → IsText (undefined_lines shown classes failures tokens)
+    IsText-undefined [] tokens = inl refl
+    IsText-undefined (failure ∷ failures) [] = IsText-append _ _ (IsText-on None failure) (IsText-undefined failures [])
+    IsText-undefined (failure ∷ failures) (token ∷ tokens) =
+        IsText-append _ _ (IsText-on (Some token) failure) (IsText-undefined failures tokens)
+
+    IsText-listing : (failures : List Failure) → IsText (listing_lines shown classes failures)
+    IsText-listing [] = inl refl
+    IsText-listing (failure ∷ failures) =
+        IsText-append _ _ (IsText-on (slice_get shown.tokens failure.token) failure) (IsText-listing failures)
+
+    IsText-unit : (failures : List Failure) → IsText (unit_lines shown classes failures)
+    IsText-unit failures = IsText-append _ _ (IsText-undefined shown.undefined shown.undefined_tokens) (IsText-listing failures)
+
+shaped_warned : (warnings : List ℕ) → IsText warnings → IsCheckShaped (warned_reply warnings)
+shaped_warned [] is = (refl, refl)
+shaped_warned (byte ∷ bytes) (inl none) = absurd (cc none)
+shaped_warned (byte ∷ bytes) (inr line) = (refl, line)
 
 -- tokens end with a new-line
 IsLine-tokens_behind : (at : At) (tokens : List Tok) → IsLine (tokens_behind at tokens)
@@ -86,21 +124,36 @@ expand_stopped : (stop : Stop) → IsExpandShaped (stop_reply stop)
 expand_stopped (Refuses refusal) = (refl, IsLine-error refusal.kind refusal.path refusal.place refusal.word)
 expand_stopped (Passes kind) = (refl, (limit_text kind, refl))
 
-form_shaped : (classes : List Class) (files : List (List ℕ)) (tokens undefined : List Tok) (reply : Reply) → IsFormReply classes files tokens undefined reply → IsCheckShaped reply
-form_shaped classes files tokens undefined reply (inl tells) =
-    subst IsCheckShaped (sym tells.4) (shaped_warned files tokens (undefined_on classes undefined) (failures_on classes tells.1))
-form_shaped classes files tokens undefined reply (inr tells) =
-    subst IsCheckShaped (sym tells.1) (refl, IsLine-error FormNotBuilt (path_in files main_file) (start_of main_file) [])
+-- so is a unit that is refused, and the warnings of another one
+
+holding_shaped : (classes : List Class) (unit : ParsedUnit) (listing : List Failure) (in_context : Bool)
+    → IsCheckShaped (cond in_context (not_built_reply unit.files) (warned_reply (warnings_of classes unit listing)))
+holding_shaped classes unit listing true = (refl, IsLine-error FormNotBuilt (path_of unit.files main_file) (start_of main_file) [])
+holding_shaped classes unit listing false =
+    shaped_warned (warnings_of classes unit listing) (IsText-unit (shown_unit unit) classes (map (spelled_failure (spellings_in unit)) listing))
+
+judged_shaped : (classes : List Class) (unit : ParsedUnit) (judgement : Judgement) → IsCheckShaped (judged_reply classes unit judgement)
+judged_shaped classes unit (BreaksConstraint broken) =
+    let at = begins_at (slice_get unit.tokens broken.token) in
+    (refl, IsLine-error broken.constraint (path_of unit.files at.file) at (name_in unit broken.name))
+judged_shaped classes unit PassesObjectSize = (refl, (limit_text ObjectSize, refl))
+judged_shaped classes unit (Holds listing) = holding_shaped classes unit listing (has_context unit.nodes)
 
 refusal_shaped : (files : List (List ℕ)) (tokens : List Tok) (fault : Fault) (stands : ℕ) → IsCheckShaped (refusal_reply files tokens fault stands)
 refusal_shaped files tokens (IsError kind) stands =
     let at = refusal_place tokens stands in
-    (refl, IsLine-error kind (path_in files at.file) at (named_word kind tokens stands))
+    (refl, IsLine-error kind (path_of files at.file) at (named_word kind tokens stands))
 refusal_shaped files tokens (PassesLimit limit) stands = (refl, (limit_text limit, refl))
+
+told_shaped : (classes : List Class) (unit : ParsedUnit) (reply : Reply) → TellsJudgement classes unit reply → IsCheckShaped reply
+told_shaped classes unit reply (judgement, judges, told) = subst IsCheckShaped (sym told) (judged_shaped classes unit judgement)
 
 check_shaped : (classes : List Class) (files : List (List ℕ)) (tokens undefined : List Tok) (reply : Reply) → IsCheckReply classes files tokens undefined reply → IsCheckShaped reply
 check_shaped classes files tokens undefined reply (inl (fault, stands, refused, is)) = subst IsCheckShaped (sym is) (refusal_shaped files tokens fault stands)
-check_shaped classes files tokens undefined reply (inr (parsed, told)) = form_shaped classes files tokens undefined reply told
+check_shaped classes files tokens undefined reply (inr (tree, surroundings, derives, (are, judged))) =
+    let unit : ParsedUnit =
+    record { files = files; tokens = tokens; undefined = undefined; nodes = unit_nodes tokens tree; surroundings = surroundings } in
+    told_shaped classes unit reply judged
 
 end_shaped : (classes : List Class) (tokens : List Tok) (end : UnitEnd) (reply : Reply) → IsCheckEnd classes tokens end reply → IsCheckShaped reply
 end_shaped classes tokens (Ends undefined paths) reply is = check_shaped classes (files_of paths) tokens undefined reply is

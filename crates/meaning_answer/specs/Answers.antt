@@ -1,22 +1,24 @@
 -- The answer of a command, as a relation of its words, the files and the reply, in the order in which a
--- refusal goes before another: usage, preprocessing with all that it reads, and for a check parsing and the form; and
--- behind them the rules.
+-- refusal goes before another: usage, preprocessing with all that it reads, and for a check parsing and the judgement of what is
+-- parsed; and behind them the rules.
 use Rattle.std.specs.Prelude.{◌≡◌, ℕ, List, [], ◌∷◌, ◌⊎◌, codes}
 use Rattle.vocabulary.specs.declared.class.Class.{Class}
 use Rattle.meaning_outside.specs.Files.{FileMap}
 use Rattle.meaning_text.specs.Tokens.{Tok}
-use Rattle.meaning_text.specs.Terminals.{terminals_of}
 use Rattle.meaning_tree.specs.Trees.{SyntaxTree}
 use Rattle.meaning_derivation.specs.State.{Fault}
 use Rattle.meaning_derivation.specs.Actions.{act}
 use Rattle.meaning_derivation.specs.Units.{DerivesTree, IsRefused}
-use Rattle.meaning_syntax.specs.Trees.{Derives}
-use Rattle.meaning_first_rules.specs.Failures.{Failure, IsListing}
+use Rattle.meaning_typing.specs.Surroundings.{Surrounding, AreSurroundings}
+use Rattle.meaning_rules.specs.Rules.{Judgement}
+use Rattle.meaning_units.specs.WholeRules.{IsJudgement}
+use Rattle.meaning_unit_nodes.specs.Numbered.{unit_nodes}
 use Rattle.meaning_preprocessing.specs.Unit.{UnitEnd, Ends, EndsEarly, PreprocessedUnit, IsPreprocessedUnit}
 use Rattle.meaning_answer.specs.Reply.{Reply, Clean}
 use Rattle.meaning_answer.specs.Requests.{Request, BadWord, MissingFile, Check, Expand, request_of}
 use Rattle.meaning_answer.specs.Tokens.{tokens_text}
-use Rattle.meaning_answer.specs.Lines.{bad_word_reply, missing_file_reply, stop_reply, refusal_reply, not_built_reply, checked_reply}
+use Rattle.meaning_answer.specs.Lines.{bad_word_reply, missing_file_reply, stop_reply, refusal_reply}
+use Rattle.meaning_answer.specs.Units.{ParsedUnit, judged_reply}
 
 -- the paths of a unit's files by their numbers
 abbrev pub files_of : List (List ℕ) → List (List ℕ)
@@ -24,34 +26,34 @@ files_of paths = codes "<command>" ∷ paths
 
 -- Parsing by the whole grammar of C (C11 6.5 to 6.9)
 
--- the tokens derive a tree
-abbrev pub IsParsed : List Tok → Type 0
-IsParsed tokens = (tree : SyntaxTree) × DerivesTree act tokens tree
-
 -- the reply tells for what the tokens are refused
 abbrev pub TellsRefusal : List (List ℕ) → List Tok → Reply → Type 0
 TellsRefusal files tokens reply =
     (fault : Fault) × (stands : ℕ) × IsRefused act tokens fault stands × (reply ≡ refusal_reply files tokens fault stands)
 
--- The first form, in which tokens have a tree of their own
+-- Judging the tree that they derive
 
--- the reply tells the failures of the tree that the tokens derive in the form
-abbrev pub TellsFailures : List Class → List (List ℕ) → List Tok → List Tok → Reply → Type 0
-TellsFailures classes files tokens undefined reply =
-    (tree : SyntaxTree) × (failures : List Failure) × Derives (terminals_of tokens) tree × IsListing tree failures
-    × (reply ≡ checked_reply classes files tokens undefined failures)
+-- the reply tells the judgement of a unit that is parsed
+abbrev pub TellsJudgement : List Class → ParsedUnit → Reply → Type 0
+TellsJudgement classes unit reply = (judgement : Judgement) × IsJudgement unit.nodes judgement × (reply ≡ judged_reply classes unit judgement)
 
--- or says that they derive none in it
-abbrev pub TellsNotBuilt : List (List ℕ) → List Tok → Reply → Type 0
-TellsNotBuilt files tokens reply = ((tree : SyntaxTree) → Derives (terminals_of tokens) tree → ⊥) × (reply ≡ not_built_reply files)
+-- the nodes of this tree stand in these surroundings, and the reply tells their judgement
+abbrev pub TellsJudgedTree : List Class → List (List ℕ) → List Tok → List Tok → SyntaxTree → List Surrounding → Reply → Type 0
+TellsJudgedTree classes files tokens undefined tree surroundings reply =
+    let nodes = unit_nodes tokens tree in
+    AreSurroundings nodes surroundings
+    × TellsJudgement classes
+    (record { files = files; tokens = tokens; undefined = undefined; nodes = nodes; surroundings = surroundings }) reply
 
-abbrev pub IsFormReply : List Class → List (List ℕ) → List Tok → List Tok → Reply → Type 0
-IsFormReply classes files tokens undefined reply = TellsFailures classes files tokens undefined reply ⊎ TellsNotBuilt files tokens reply
+-- of the tree that the tokens derive
+abbrev pub TellsUnit : List Class → List (List ℕ) → List Tok → List Tok → Reply → Type 0
+TellsUnit classes files tokens undefined reply =
+    (tree : SyntaxTree) × (surroundings : List Surrounding)
+    × DerivesTree act tokens tree × TellsJudgedTree classes files tokens undefined tree surroundings reply
 
--- the reply to a check of these tokens: they are refused, or they are parsed and then judged by the form
+-- the reply to a check of these tokens: they are refused, or they are parsed and then judged
 abbrev pub IsCheckReply : List Class → List (List ℕ) → List Tok → List Tok → Reply → Type 0
-IsCheckReply classes files tokens undefined reply =
-    TellsRefusal files tokens reply ⊎ (IsParsed tokens × IsFormReply classes files tokens undefined reply)
+IsCheckReply classes files tokens undefined reply = TellsRefusal files tokens reply ⊎ TellsUnit classes files tokens undefined reply
 
 -- to a check of a unit, however that ends
 abbrev pub IsCheckEnd : List Class → List Tok → UnitEnd → Reply → Type 0

@@ -4,6 +4,7 @@ pub mod Options
 pub mod Requests
 pub mod Tokens
 pub mod Lines
+pub mod Units
 pub mod Shapes
 pub mod Answers
 pub mod plain

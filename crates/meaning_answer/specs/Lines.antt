@@ -1,23 +1,16 @@
--- The line of each refusal, and the lines of warnings.
-use Rattle.std.specs.Prelude.{ℕ, ◌-◌, Bool, true, false, List, [], ◌∷◌, ◌++◌, codes, length, min, slice_get, if◌then◌else◌}
-use Rattle.std.specs.List.{filter, flat_map, list_any}
-use Rattle.vocabulary.specs.declared.class.Class.{Class}
+-- The line of each refusal.
+use Rattle.std.specs.Prelude.{ℕ, ◌-◌, Bool, true, false, List, [], ◌++◌, codes, length, min, slice_get, if◌then◌else◌}
 use Rattle.vocabulary.specs.declared.error_kind.ErrorKind.{ErrorKind}
 use Rattle.vocabulary.specs.declared.error_kind.ErrorKind.TheVariants as errors
 use Rattle.vocabulary.specs.declared.limit.LimitKind.{LimitKind}
-use Rattle.vocabulary.specs.declared.rule.RuleCode.TheVariants.{S3}
 use Rattle.vocabulary.specs.Limits.{limit_name}
-use Rattle.vocabulary.specs.Rules.{rule_class}
 use Rattle.meaning_text.specs.Places.{At, main_file, start_of}
 use Rattle.meaning_text.specs.Tokens.{Tok}
-use Rattle.meaning_first_rules.specs.Failures.{Failure, code_of}
 use Rattle.meaning_derivation.specs.State.{Fault, IsError, PassesLimit}
-use Rattle.meaning_first_rules.specs.Text.{warning_line, path_in, unit_warnings_text}
 use Rattle.meaning_preprocessing.specs.State.{Stop, Refuses, Passes}
 use Rattle.meaning_warnings.specs.Errors.{error_lines}
-use Rattle.meaning_warnings.specs.Places.{begins_at, token_text}
-use Rattle.meaning_answer.specs.Reply.{Refused, Usage, Warned, Limit, Reply, silence, line}
-use Rattle.meaning_answer.specs.Options.{is_class}
+use Rattle.meaning_warnings.specs.Places.{begins_at, path_of, token_text}
+use Rattle.meaning_answer.specs.Reply.{Refused, Usage, Limit, Reply, line}
 
 -- Refusals
 
@@ -64,41 +57,9 @@ refusal_place tokens stands = begins_at (slice_get tokens (min stands (length to
 abbrev pub refusal_reply : (files : List (List ℕ)) → List Tok → Fault → (stands : ℕ) → Reply
 refusal_reply files tokens (IsError kind) stands =
     let at = refusal_place tokens stands in
-    error_reply kind (path_in files at.file) at (named_word kind tokens stands)
+    error_reply kind (path_of files at.file) at (named_word kind tokens stands)
 refusal_reply files tokens (PassesLimit limit) stands = limit_reply limit
 
--- tokens that aren't in the form: the error stands at the beginning of the file that is checked
+-- a unit with a form that isn't built: the error stands at the beginning of the file that is checked
 abbrev pub not_built_reply : (files : List (List ℕ)) → Reply
-not_built_reply files = error_reply errors.FormNotBuilt (path_in files main_file) (start_of main_file) []
-
--- Warnings
-
--- the class is among those that are on
-abbrev pub is_on : List Class → Class → Bool
-is_on classes class_ = list_any (is_class class_) classes
-
--- the failures whose classes are on
-abbrev pub failures_on : List Class → List Failure → List Failure
-failures_on classes failures = filter (λ failure. is_on classes (rule_class (code_of failure.cause))) failures
-
--- an identifier was left in the line of an `#if` or `#elif`
-abbrev pub undefined_line : List (List ℕ) → Tok → List ℕ
-undefined_line files t = warning_line (path_in files t.at.file) t.at (codes "undefined preprocessor identifier '" ++ t.text ++ codes "'")
-
--- the identifiers of which the rule for them warns
-abbrev pub undefined_on : List Class → List Tok → List Tok
-undefined_on classes undefined = if is_on classes (rule_class S3) then undefined else []
-
--- identifiers first, in the order in which they were met, and then the failures of the unit
-abbrev pub warnings_in : List (List ℕ) → List Tok → List Tok → List Failure → List ℕ
-warnings_in files tokens undefined failures = flat_map (undefined_line files) undefined ++ unit_warnings_text files tokens failures
-
--- silence where no rule that is on fails, else the warnings
-abbrev pub warned : List (List ℕ) → List Tok → List Tok → List Failure → Reply
-warned files tokens [] [] = silence
-warned files tokens [] (failure ∷ failures) = record { out = []; err = warnings_in files tokens [] (failure ∷ failures); ending = Warned }
-warned files tokens (t ∷ undefined) failures = record { out = []; err = warnings_in files tokens (t ∷ undefined) failures; ending = Warned }
-
--- the reply to a check of a unit with these failures
-abbrev pub checked_reply : List Class → List (List ℕ) → List Tok → List Tok → List Failure → Reply
-checked_reply classes files tokens undefined failures = warned files tokens (undefined_on classes undefined) (failures_on classes failures)
+not_built_reply files = error_reply errors.FormNotBuilt (path_of files main_file) (start_of main_file) []

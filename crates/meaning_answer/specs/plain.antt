@@ -1,2 +1,3 @@
 -- The plain programs beside the definitions.
+pub mod Judging
 pub mod Replying

@@ -1,7 +1,7 @@
 // What is proved of answers and outcomes, and examples of them.
-ghost use Rattle.meaning_answer.specs.examples.Answers.{AnswerExamples, ExpandExamples, ParsingExamples, RequestExamples};
+ghost use Rattle.meaning_answer.specs.examples.Answers.{AnswerExamples, ExpandExamples, JudgementExamples, ParsingExamples, RequestExamples};
 ghost use Rattle.meaning_answer.specs.examples.Completion.{CompletionExamples};
-ghost use Rattle.meaning_answer.specs.laws.Answers.{EndingsTellWhatIsWritten, OutcomesAreTold, TokensAloneGoOut};
+ghost use Rattle.meaning_answer.specs.laws.Answers.{EndingsTellWhatIsWritten, NamesAreSpelledBack, OutcomesAreTold, TokensAloneGoOut};
 ghost use Rattle.meaning_answer.specs.laws.Commands.{AnswersAreShaped, AnswersAreUnique, AnswersExist, AnswersTellFaults, PlainAnswersAreRight};
 
 /// Each command has exactly one answer over given files, with the shape of what it asks for and of its ending, and it is
@@ -17,6 +17,7 @@ pub fn each_command_has_one_answer()
 /// Small commands, from their words and files to their texts.
 pub fn worked_examples()
     ensures answers { AnswerExamples }
+    ensures judged { JudgementExamples }
     ensures parsing { ParsingExamples }
     ensures requests { RequestExamples }
     ensures expanded { ExpandExamples }
@@ -36,4 +37,9 @@ pub fn endings_tell_what_is_written()
 /// The outcome by what loads gave and sinks took is that by what files and sinks tell, where they tell it.
 pub fn outcomes_are_told()
     ensures { OutcomesAreTold }
+{}
+
+/// What is judged has numbers for names, and a text has the names that stand in the unit's tokens.
+pub fn names_are_spelled_back()
+    ensures { NamesAreSpelledBack }
 {}

@@ -34,5 +34,5 @@ pub record SafeTextExamples : Type 0 where
   -- and here one stores to what may not be dereferenced
   pub noderef_is_accessed :
       IsUnsafeText (codes "extern int __attribute__((noderef)) *u;\nextern int x;\nvoid f(void) { *u = x; }\n")
-  -- a text that isn't in the form is no unit
-  pub not_in_form : IsUnsafeText (codes "int x;\n")
+  -- no run is promised of a text of another form
+  pub other_form : IsSafeText (codes "int x;\n")

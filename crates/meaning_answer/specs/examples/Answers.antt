@@ -1,17 +1,16 @@
 -- Worked examples: small commands and files, with their answers.
 use Rattle.std.specs.Prelude.{◌≡◌, ℕ, List, [], ◌∷◌, ◌++◌, codes, map, Option, Some, None}
 use Rattle.vocabulary.specs.declared.class.Class.{Class}
-use Rattle.vocabulary.specs.declared.class.Class.TheVariants.{AddressSpace, Bitwise, Context, NonPointerNull, Undef}
+use Rattle.vocabulary.specs.declared.class.Class.TheVariants.{AddressSpace, Bitwise, CastTruncate, Context, Decl, NonPointerNull, Shadow, StrictPrototypes, Undef}
 use Rattle.vocabulary.specs.Rules.{default_classes}
 use Rattle.meaning_outside.specs.Files.{FileMap}
 use Rattle.meaning_conditions.specs.plain.Reading.{answer_of}
 use Rattle.vocabulary.specs.declared.limit.LimitKind.TheVariants.{Parameters}
 use Rattle.meaning_derivation.specs.State.{PassesLimit}
 use Rattle.meaning_preprocessing.specs.Unit.{Ends, PreprocessedUnit, unit_in, unit_limits}
-use Rattle.meaning_preprocessing.specs.Unit as preprocessing
 use Rattle.meaning_preprocessing.specs.examples.Rows.{main_path, files_of, plain_options, unit_among}
 use Rattle.meaning_answer.specs.Reply.{Reply, Clean, Warned, Refused, Usage, ReadFault, WriteFault, NoMemory, Limit, status_of, silence, line}
-use Rattle.meaning_answer.specs.Requests.{Options, Request, BadWord, MissingFile, Check, Expand, request_of}
+use Rattle.meaning_answer.specs.Requests.{Options, Request, BadWord, MissingFile, Check, Expand, classes_on, request_of, switches_of}
 use Rattle.meaning_answer.specs.Lines.{refusal_reply}
 use Rattle.meaning_answer.specs.Answers.{expand_reply}
 use Rattle.meaning_answer.specs.plain.Replying.{end_reply, reply_to}
@@ -75,7 +74,7 @@ pub record AnswerExamples : Type 0 where
       ≡ 0 ∷ 1 ∷ 2 ∷ 3 ∷ 4 ∷ 5 ∷ 6 ∷ 7 ∷ []
   pub empty : checked [] ≡ is_silent
   pub definition : checked (codes "#define X 1") ≡ is_silent
-  pub not_in_the_form : checked (codes "int x;") ≡ refuses (codes "t.c:1:1: error[29]: form not built")
+  pub declaration : checked (codes "int x;") ≡ is_silent
   pub open_comment : checked (codes "/* a") ≡ refuses (codes "t.c:1:1: error[3]: unterminated comment")
   pub open_literal : checked (codes "char *s = \"a") ≡ refuses (codes "t.c:1:11: error[4]: unterminated literal")
   -- `L` is a token, so that the literal opens behind it
@@ -84,7 +83,7 @@ pub record AnswerExamples : Type 0 where
   pub opening_first : checked (codes "x + 'a") ≡ refuses (codes "t.c:1:5: error[4]: unterminated literal")
   pub directive_first : checked (codes "x\n#error a  b") ≡ refuses (codes "t.c:2:1: error[17]: #error a b")
   pub comments : checked (codes "/* nothing */ // at all") ≡ is_silent
-  pub declared_twice : checked (codes "extern int x; extern int x;") ≡ refuses (codes "t.c:1:1: error[29]: form not built")
+  pub declared_twice : checked (codes "extern int x; extern int x;") ≡ is_silent
   pub missing : checked_unit default_classes unit_without ≡ refuses (codes "ksparse: error[1]: no such file: t.c")
   pub no_header : checked (codes "#include \"no.h\"") ≡ refuses (codes "t.c:1:10: error[2]: include not found: no.h")
   pub header_error : checked_with (codes "\n #foo") (codes "x\n#include \"k.h\"") ≡ refuses (codes "k.h:2:2: error[9]: unknown directive")
@@ -126,6 +125,96 @@ pub record AnswerExamples : Type 0 where
       ++ codes "t.c:5:5: warning: undefined preprocessor identifier 'b'\n"
       ++ codes "t.c:3:16: warning: dereference of noderef expression\n")
   pub classes_off : checked_unit (Bitwise ∷ Context ∷ NonPointerNull ∷ []) (unit_among unit_limits plain_options [] (codes "extern int __attribute__((noderef)) x;\nextern int y;\nvoid f(void) { x = y; }\n")) ≡ is_silent
+
+-- A device whose status is a little-endian number in a flagged structure, as kernel headers have them
+abbrev pub device : List ℕ
+device =
+    codes "typedef unsigned int __attribute__((bitwise)) __le32;\n"
+    ++ codes "struct regs { __le32 status; };\n"
+    ++ codes "extern struct regs __attribute__((noderef, address_space(__iomem))) *regs;\n"
+
+-- to a check of `t.c` with these classes
+abbrev pub checked_for : List Class → List ℕ → Option Reply
+checked_for classes text = checked_unit classes (unit_among unit_limits plain_options [] text)
+
+-- with the classes that these words set
+abbrev pub checked_by : (words : List (List ℕ)) → (text : List ℕ) → Option Reply
+checked_by words text = checked_for (classes_on (switches_of words)) text
+
+-- a pointer into another space, and a plain 0
+abbrev pub spaces_and_null : List ℕ
+spaces_and_null = codes "extern int *p; extern int __attribute__((address_space(2))) *u; void f(void) { p = u; p = 0; }"
+
+-- what the rules and the constraints say of units of every form
+pub record JudgementExamples : Type 0 where
+  -- a rule on an access and one on operands, with the names of types
+  pub device_read :
+      checked (device ++ codes "int ready(void) { return regs->status == 1; }")
+      ≡ warns
+      (codes "t.c:4:30: warning: dereference of noderef expression\n"
+      ++ codes "t.c:4:39: warning: operands of different restricted types\n"
+      ++ codes "t.c:4:39:    left restricted __le32\n"
+      ++ codes "t.c:4:39:    right int\n")
+  -- a class that is off says nothing
+  pub bitwise_off :
+      checked_for (AddressSpace ∷ []) (device ++ codes "int ready(void) { return regs->status == 1; }")
+      ≡ warns (codes "t.c:4:30: warning: dereference of noderef expression\n")
+  pub silent : checked (codes "struct s { int a; struct s *next; };\nint sum(struct s *p) { int n = 0; while (p) { n += p->a; p = p->next; } return n; }") ≡ is_silent
+  pub tagged :
+      checked (codes "struct s { int a; } *p;\nextern struct s __attribute__((noderef)) *q;\nvoid f(void) { p = q; }")
+      ≡ warns
+      (codes "t.c:3:18: warning: incorrect type in assignment (different address spaces)\n"
+      ++ codes "t.c:3:18:    expected struct s *\n"
+      ++ codes "t.c:3:18:    got struct s noderef *\n")
+  pub undeclared_off : checked (codes "int x;") ≡ is_silent
+  pub undeclared_on : checked_for (Decl ∷ []) (codes "int x;") ≡ warns (codes "t.c:1:5: warning: symbol 'x' was not declared. Should it be static?\n")
+  pub null_alone :
+      checked_by (codes "-Wno-address-space" ∷ []) spaces_and_null ≡ warns (codes "t.c:1:89: warning: using plain integer as NULL pointer\n")
+  -- the later word wins
+  pub both :
+      checked_by (codes "-Wno-address-space" ∷ codes "-Waddress-space" ∷ []) spaces_and_null
+      ≡ warns
+      (codes "t.c:1:82: warning: incorrect type in assignment (different address spaces)\n"
+      ++ codes "t.c:1:82:    expected int *\n"
+      ++ codes "t.c:1:82:    got int address_space(2) *\n"
+      ++ codes "t.c:1:89: warning: using plain integer as NULL pointer\n")
+  pub neither : checked_by (codes "-Wdecl" ∷ codes "-Wno-decl" ∷ []) (codes "int x;") ≡ is_silent
+  pub truncated : checked_for (CastTruncate ∷ []) (codes "char c = (char)300;") ≡ warns (codes "t.c:1:10: warning: cast truncates constant (300 becomes 44)\n")
+  -- in the order of tokens, whatever the classes are
+  pub several_classes :
+      checked_for (Shadow ∷ StrictPrototypes ∷ Decl ∷ []) (codes "int x;\nstatic int f() { int x = 1; return x; }")
+      ≡ warns
+      (codes "t.c:1:5: warning: symbol 'x' was not declared. Should it be static?\n"
+      ++ codes "t.c:2:13: warning: empty parameter list taken as (void)\n"
+      ++ codes "t.c:2:22: warning: symbol 'x' shadows an earlier one\n")
+  pub undefined_first :
+      checked_for (Decl ∷ Undef ∷ []) (codes "int x;\n#if FOO\n#endif\nint y;")
+      ≡ warns
+      (codes "t.c:2:5: warning: undefined preprocessor identifier 'FOO'\n"
+      ++ codes "t.c:1:5: warning: symbol 'x' was not declared. Should it be static?\n"
+      ++ codes "t.c:4:5: warning: symbol 'y' was not declared. Should it be static?\n")
+  -- the least constraint, with the name that its text has, goes before warnings
+  pub negative : checked (codes "int a[-1];") ≡ refuses (codes "t.c:1:7: error[86]: negative array size")
+  pub no_member : checked (codes "struct s { int a; };\nint f(struct s *p) { return p->b; }") ≡ refuses (codes "t.c:2:30: error[67]: no such member 'b'")
+  pub least :
+      checked (codes "struct s { int a; } g;\nint f(int __attribute__((noderef)) *u) { return *u + g.b; }\nint n[-1];")
+      ≡ refuses (codes "t.c:2:55: error[67]: no such member 'b'")
+  pub in_header : checked_with (codes "int n;\nint a[-2];\n") (codes "#include \"k.h\"\n") ≡ refuses (codes "k.h:2:7: error[86]: negative array size")
+  -- the limit where it stands before
+  pub too_large : checked (codes "char a[1099511627777]; int n[-1];") ≡ Some (line Limit (codes "ksparse: limit: object size"))
+  pub behind_constraint : checked (codes "int n[-1]; char a[1099511627777];") ≡ refuses (codes "t.c:1:7: error[86]: negative array size")
+  -- contexts aren't judged: that is told behind constraints and the limit, and before warnings
+  pub context : checked (codes "void f(void) __attribute__((context(x,0,1)));") ≡ refuses (codes "t.c:1:1: error[29]: form not built")
+  pub context_word : checked (codes "typedef int t __attribute__((__context__(x,0,0)));") ≡ refuses (codes "t.c:1:1: error[29]: form not built")
+  pub context_statement : checked (codes "void f(void) { __context__(x, 1); int *p = 0; }") ≡ refuses (codes "t.c:1:1: error[29]: form not built")
+  pub not_evaluated : checked (codes "void f(void) { sizeof(({ __context__(x, 0); 1; })); }") ≡ refuses (codes "t.c:1:1: error[29]: form not built")
+  pub no_context : checked (codes "int x __attribute__((unused(context(x,0,1))));") ≡ is_silent
+  pub context_behind_constraint :
+      checked (codes "void f(void) __attribute__((context(x,0,1))); int a[-1];") ≡ refuses (codes "t.c:1:53: error[86]: negative array size")
+  pub context_behind_limit :
+      checked (codes "void f(void) __attribute__((context(x,0,1))); char a[1099511627777];") ≡ Some (line Limit (codes "ksparse: limit: object size"))
+  pub context_before_warnings :
+      checked_undefined (codes "#if FOO\n#endif\nvoid f(void) __attribute__((context(x,0,1)));") ≡ refuses (codes "t.c:1:1: error[29]: form not built")
 
 -- what parsing refuses
 pub record ParsingExamples : Type 0 where

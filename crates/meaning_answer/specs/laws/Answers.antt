@@ -1,10 +1,14 @@
--- What the sinks of a command have taken.
-use Rattle.std.specs.Prelude.{◌≡◌, ℕ, List, [], ◌++◌}
+-- What the sinks of a command have taken, and how names are spelled.
+use Rattle.std.specs.Prelude.{◌≡◌, ℕ, true, List, [], ◌++◌}
+use Rattle.std.specs.List.{list_any}
+use Rattle.std.specs.Str.{bytes_eq}
 use Rattle.meaning_outside.specs.Files.{FileMap}
 use Rattle.meaning_outside.specs.Loads.{Loaded, AgreesWith}
+use Rattle.meaning_unit_nodes.specs.Numbered.{number_told, spellings_told}
 use Rattle.meaning_answer.specs.Reply.{Ending, Clean, Warned, Refused, Usage, ReadFault, WriteFault, NoMemory, Limit}
 use Rattle.meaning_answer.specs.Requests.{Request, BadWord, MissingFile, Check, Expand, request_of}
 use Rattle.meaning_answer.specs.Shapes.{HasShapeFor}
+use Rattle.meaning_answer.specs.Units.{ParsedUnit, name_in}
 use Rattle.meaning_answer.specs.Answers.{IsAnswer}
 use Rattle.meaning_answer.specs.Delivery.{Sinks, Outcome, IsOutcome, GrewAlike}
 
@@ -51,3 +55,11 @@ OutcomesAreTold =
     (words : List (List ℕ)) (files : FileMap) (loads : List Loaded) (ending : Ending) (told taken : Sinks) → AgreesWith files loads
     → GrewAlike told.old_out told.new_out taken.old_out taken.new_out → GrewAlike told.old_err told.new_err taken.old_err taken.new_err
     → IsOutcome words loads ending taken → Outcome (IsAnswer words files) ending told
+
+-- Names
+
+-- a name that is judged as the number of a spelling of the unit's tokens is told as that spelling
+abbrev pub NamesAreSpelledBack : Type 0
+NamesAreSpelledBack =
+    (unit : ParsedUnit) (spelling : List ℕ) → list_any (bytes_eq spelling) (spellings_told unit.tokens) ≡ true
+    → name_in unit (number_told (spellings_told unit.tokens) spelling) ≡ spelling

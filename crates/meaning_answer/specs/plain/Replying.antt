@@ -1,40 +1,52 @@
--- The plain program beside the answer. Parsing makes so many steps within one another at most, and with fewer than it
--- needs there is no answer.
-use Rattle.std.specs.Prelude.{ℕ, List, Option, Some, None, option_map}
+-- The plain program beside the answer. Parsing makes so many steps within one another at most, judging goes so deep into an initializer at
+-- most, and where either needs more there is no answer.
+use Rattle.std.specs.Prelude.{ℕ, List, [], ◌∷◌, Option, Some, None, option_map}
+use Rattle.std.specs.Option.{option_and_then}
 use Rattle.vocabulary.specs.declared.class.Class.{Class}
 use Rattle.meaning_outside.specs.Files.{FileMap}
 use Rattle.meaning_text.specs.Tokens.{Tok}
-use Rattle.meaning_text.specs.Terminals.{terminals_of}
+use Rattle.meaning_tree.specs.Trees.{SyntaxTree}
+use Rattle.meaning_grammar.specs.Terminals.{Terminal}
+use Rattle.meaning_derivation.specs.Values.{Value, TreeValue}
 use Rattle.meaning_derivation.specs.State.{Outcome, Done, Fails}
 use Rattle.meaning_derivation.specs.Actions.{act}
 use Rattle.meaning_derivation.specs.plain.Deriving.{derived_outcome}
-use Rattle.meaning_syntax.specs.Items.{Item}
-use Rattle.meaning_syntax.specs.plain.Reading.{read_unit}
-use Rattle.meaning_first_rules.specs.plain.Judging.{failures_of}
+use Rattle.meaning_typing.specs.Building.{surroundings_of}
 use Rattle.meaning_conditions.specs.plain.Reading.{answer_of}
 use Rattle.meaning_preprocessing.specs.Unit.{UnitEnd, Ends, EndsEarly, PreprocessedUnit, preprocessed}
+use Rattle.meaning_unit_nodes.specs.Numbered.{unit_nodes}
 use Rattle.meaning_answer.specs.Reply.{Reply}
 use Rattle.meaning_answer.specs.Requests.{Options, Request, BadWord, MissingFile, Check, Expand, request_of}
-use Rattle.meaning_answer.specs.Lines.{bad_word_reply, missing_file_reply, stop_reply, refusal_reply, not_built_reply, checked_reply}
+use Rattle.meaning_answer.specs.Lines.{bad_word_reply, missing_file_reply, stop_reply, refusal_reply}
+use Rattle.meaning_answer.specs.Units.{ParsedUnit, judged_reply}
 use Rattle.meaning_answer.specs.Answers.{files_of, expand_reply}
+use Rattle.meaning_answer.specs.plain.Judging.{judgement_found}
 
--- the reply to tokens that are these items
-abbrev pub items_reply : List Class → List (List ℕ) → List Tok → List Tok → Option (List Item) → Reply
-items_reply classes files tokens undefined None = not_built_reply files
-items_reply classes files tokens undefined (Some items) = checked_reply classes files tokens undefined (failures_of items)
+-- the reply to a unit that is parsed
+abbrev pub unit_reply : (depth : ℕ) → List Class → ParsedUnit → Option Reply
+unit_reply depth classes unit = option_map (judged_reply classes unit) (judgement_found depth unit.nodes unit.surroundings)
 
--- to tokens that are parsed
-abbrev pub form_reply : List Class → List (List ℕ) → List Tok → List Tok → Reply
-form_reply classes files tokens undefined = items_reply classes files tokens undefined (read_unit (terminals_of tokens))
+module _ (depth : ℕ) (classes : List Class) (files : List (List ℕ)) (tokens : List Tok) (undefined : List Tok) where
+  -- to tokens that derive this tree
+  abbrev pub tree_reply : SyntaxTree → Option Reply
+  tree_reply tree =
+      let nodes = unit_nodes tokens tree in
+      unit_reply depth classes
+      (record { files = files; tokens = tokens; undefined = undefined; nodes = nodes; surroundings = surroundings_of nodes })
 
--- to tokens with this outcome
-abbrev pub outcome_reply : List Class → List (List ℕ) → List Tok → List Tok → Outcome → Reply
-outcome_reply classes files tokens undefined (Done last left) = form_reply classes files tokens undefined
-outcome_reply classes files tokens undefined (Fails fault decided stands) = refusal_reply files tokens fault stands
+  -- a unit leaves one tree, and no terminal behind it
+  abbrev pub values_reply : List Value → List Terminal → Option Reply
+  values_reply (TreeValue tree ∷ []) [] = tree_reply tree
+  values_reply values left = None
 
--- to a check of tokens
-abbrev pub check_reply : (depth : ℕ) → List Class → List (List ℕ) → List Tok → List Tok → Option Reply
-check_reply depth classes files tokens undefined = option_map (outcome_reply classes files tokens undefined) (derived_outcome act depth tokens)
+  -- to tokens with this outcome
+  abbrev pub outcome_reply : Outcome → Option Reply
+  outcome_reply (Done last left) = values_reply last.values left
+  outcome_reply (Fails fault decided stands) = Some (refusal_reply files tokens fault stands)
+
+  -- to a check of tokens
+  abbrev pub check_reply : Option Reply
+  check_reply = option_and_then outcome_reply (derived_outcome act depth tokens)
 
 -- to a check of a unit
 abbrev pub end_reply : (depth : ℕ) → List Class → List Tok → UnitEnd → Option Reply

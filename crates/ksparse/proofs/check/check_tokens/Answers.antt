@@ -1,9 +1,9 @@
-use Rattle.std.proofs.Common.{inl, inr}
-use Rattle.std.proofs.lemmas.Result.{IfOk-weaker}
+use Rattle.c_tokens.specs.Seen.{toks_of}
+use Rattle.ksparse.proofs.CleanIsSafe.{silent-safe}
 use Rattle.ksparse.proofs.check.check_tokens.Goals as goal
 
-pub returns-in-Some : goal.returns-in-Some
-returns-in-Some c = IfOk-weaker c.tell_fault.result _ _ (λ written told. inl told) c.tell_fault.ensures
-
-pub returns-in-None : goal.returns-in-None
-returns-in-None c = IfOk-weaker c.check_form.result _ _ (λ written told. inr (rw c.as_slice.ensures at c.in-None.ensures.parsed, told)) c.check_form.ensures
+pub returns-clause-safe : goal.returns-clause-safe
+returns-clause-safe c = λ clean.
+    let tokens = toks_of c.args.names c.args.toks.tokens in
+    silent-safe c.silence_is_safe.ensures c.args.classes.now tokens
+    (λ guards. rw c.as_slice.ensures at c.in_ok-silent.ensures (c.misses_failure.ensures c.if-misses_failure.false clean guards))

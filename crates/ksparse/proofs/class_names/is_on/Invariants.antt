@@ -1,5 +1,5 @@
 use Rattle.std.proofs.Common.{◌≡◌, length}
-use Rattle.meaning_answer.specs.Lines.{is_on}
+use Rattle.meaning_warnings.specs.Listing.{is_on}
 use Rattle.ksparse.proofs.class_names.is_on.Given as goal
 
 abbrev pub invariant-classes : goal.invariant-classes

@@ -1,4 +1,4 @@
-use Rattle.std.proofs.Common.{ℕ, ◌+◌, drop, sym, ◌∙◌, ap}
+use Rattle.std.proofs.Common.{◌+◌, drop, sym, ◌∙◌, ap}
 use Rattle.std.proofs.lemmas.Result.{IfErr-weaker}
 use Rattle.meaning_answer.specs.Options.{Word}
 use Rattle.meaning_answer.specs.Requests.{is_bad}

@@ -2,7 +2,6 @@ use Rattle.std.proofs.Common.{ap}
 use Rattle.meaning_outside.specs.Loads.{loads_since}
 use Rattle.ksparse.specs.Ending.{ending_seen}
 use Rattle.ksparse.specs.Written.{reply_seen}
-use Rattle.ksparse.proofs.CleanIsSafe.{clean_is_safe}
 use Rattle.ksparse.proofs.Counts.{told_by_none, told_of_two_by_none}
 use Rattle.ksparse.proofs.Endings.{no_read_fault, no_write_fault, delivered_outcome, delivered_completes}
 use Rattle.ksparse.proofs.top.ksparse.Goals as goal
@@ -32,9 +31,7 @@ returns-then-deliver-clause-complete g c =
     (c.deliver.ensures.whole c.if-deliver.true) _
 
 pub returns-then-deliver-clause-safe : goal.returns-then-deliver-clause-safe
-returns-then-deliver-clause-safe g c =
-    clean_is_safe c.silence_is_safe.ensures c.args.words.now (loads_since (g.F.Files.loads c.args.files.now) (g.F.Files.loads c.answer.new.files))
-    (reply_seen c.in-Ok.written) c.in-Ok.ensures.right
+returns-then-deliver-clause-safe g c = c.in-Ok.ensures.safe
 
 pub returns-then-deliver-clause-read : goal.returns-then-deliver-clause-read
 returns-then-deliver-clause-read g c =

@@ -1,4 +1,4 @@
-use Rattle.std.proofs.Common.{◌≡◌, take, drop, sym, ◌∙◌, append-nil, arith, refl}
+use Rattle.std.proofs.Common.{take, drop, sym, ◌∙◌, append-nil, arith, refl}
 use Rattle.std.proofs.lemmas.List.{take-append-drop, take_rest}
 use Rattle.ksparse.proofs.Counts.{stands_still}
 use Rattle.ksparse.proofs.Taken.{take_longer, tells_nothing, tells_put}

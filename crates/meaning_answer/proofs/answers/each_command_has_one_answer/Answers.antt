@@ -1,4 +1,5 @@
-use Rattle.meaning_answer.proofs.Replies.{answers_exist, answers_are_unique, plain_answers_are_right}
+use Rattle.meaning_answer.proofs.Existence.{answers_exist}
+use Rattle.meaning_answer.proofs.Replies.{answers_are_unique, plain_answers_are_right}
 use Rattle.meaning_answer.proofs.ShapesOfReplies.{answers_are_shaped, answers_tell_faults}
 use Rattle.meaning_answer.proofs.answers.each_command_has_one_answer.Goals as goal
 

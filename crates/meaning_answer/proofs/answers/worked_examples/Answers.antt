@@ -6,13 +6,11 @@ use Rattle.meaning_text.specs.Kinds.{kind_in}
 use Rattle.meaning_text.specs.Fronts.{front_of}
 use Rattle.meaning_macros.specs.Expansion.{within, expansion}
 use Rattle.meaning_preprocessing.specs.Unit.{reader}
-use Rattle.meaning_syntax.specs.Words.{is_name, is_keyword, is_reserved, is_space_id, is_space_name, is_space_number, is_predefined_macro}
-use Rattle.meaning_syntax.specs.plain.Reading.{read_up_to, read_many, read_noderef, read_space, read_word, read_further_word, read_word_list, read_attribute, read_stars, read_object, read_assignment, read_assignment_through, read_address_assignment, read_statement, read_opening, read_function, read_item, read_items, read_unit}
 use Rattle.meaning_answer.proofs.answers.worked_examples.Goals as goal
 
 -- names what an example opens
 opened : ℕ
-unfolding digits front_of punctuator_of punctuators plain_punctuators digraphs kind_in within expansion reader is_name is_keyword is_reserved is_space_id is_space_name is_space_number is_predefined_macro read_up_to read_many read_noderef read_space read_word read_further_word read_word_list read_attribute read_stars read_object read_assignment read_assignment_through read_address_assignment read_statement read_opening read_function read_item read_items read_unit
+unfolding digits front_of punctuator_of punctuators plain_punctuators digraphs kind_in within expansion reader
 opened = 0
 
 pub returns-clause-answers : goal.returns-clause-answers
@@ -21,7 +19,7 @@ returns-clause-answers c = record {
   statuses = refl;
   empty = refl;
   definition = refl;
-  not_in_the_form = refl;
+  declaration = refl;
   open_comment = refl;
   open_literal = refl;
   prefixed = refl;
@@ -44,6 +42,37 @@ returns-clause-answers c = record {
   undefined_on = refl;
   undefined_first = refl;
   classes_off = refl;
+}
+
+pub returns-clause-judged : goal.returns-clause-judged
+unfolding opened
+returns-clause-judged c = record {
+  device_read = refl;
+  bitwise_off = refl;
+  silent = refl;
+  tagged = refl;
+  undeclared_off = refl;
+  undeclared_on = refl;
+  null_alone = refl;
+  both = refl;
+  neither = refl;
+  truncated = refl;
+  several_classes = refl;
+  undefined_first = refl;
+  negative = refl;
+  no_member = refl;
+  least = refl;
+  in_header = refl;
+  too_large = refl;
+  behind_constraint = refl;
+  context = refl;
+  context_word = refl;
+  context_statement = refl;
+  not_evaluated = refl;
+  no_context = refl;
+  context_behind_constraint = refl;
+  context_behind_limit = refl;
+  context_before_warnings = refl;
 }
 
 pub returns-clause-parsing : goal.returns-clause-parsing

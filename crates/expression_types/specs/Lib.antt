@@ -1,0 +1,5 @@
+pub mod Constraints
+pub mod Known
+pub mod Asked
+pub mod Answers
+pub mod Types

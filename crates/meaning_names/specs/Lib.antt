@@ -1,0 +1,4 @@
+pub mod Spelled
+pub mod TypeNames
+pub mod Laws
+pub mod examples

@@ -10,7 +10,7 @@ FLOWS := build/flows
 # Names with spaces, which a program's own run reads, are none for make.
 SOURCES := $(shell find crates crates.txt HANDLES -name out -prune -o -type f ! -name '* *' -print)
 
-.PHONY: all run test edits believe names docs costs bench bench-parsing fuzz rows forms compare headers smoke install clean kit
+.PHONY: all run test edits believe names docs costs bench bench-parsing fuzz rows forms compare headers drivers smoke install clean kit
 
 all: $(PROGRAM)
 
@@ -37,11 +37,11 @@ $(FLOWS): $(SOURCES) | kit
 	mkdir -p build
 	cp crates/flows/out/flows $@
 
-# What the judge says of a file, which no command asks yet: build/judged WORDS FILE; the types of its expressions: build/judged -types FILE
-build/judged: $(SOURCES) | kit
-	$(PYTHON) scripts/build.py $(RT) judged_cli /dev/null
+# The types of a file's expressions, for developers: build/types FILE
+build/types: $(SOURCES) | kit
+	$(PYTHON) scripts/build.py $(RT) expression_types_cli /dev/null
 	mkdir -p build
-	cp crates/judged_cli/out/judged_cli $@
+	cp crates/expression_types_cli/out/expression_types_cli $@
 
 # How a file is read, for developers: build/trees FILE
 build/trees: $(SOURCES) | kit
@@ -80,36 +80,41 @@ costs: | kit
 	$(PYTHON) scripts/costs.py $(RT)
 
 # All, or the calls of some families: make bench FAMILIES=macros
-bench: $(PROGRAM) $(WORKBENCH) $(FLOWS) build/judged
-	$(PYTHON) scripts/bench.py $(PROGRAM) $(WORKBENCH) $(FLOWS) build/judged $(FAMILIES)
+bench: $(PROGRAM) $(WORKBENCH) $(FLOWS)
+	$(PYTHON) scripts/bench.py $(PROGRAM) $(WORKBENCH) $(FLOWS) $(FAMILIES)
 
 # The families of parsing and of judging at four sizes, as rows of a table.
-bench-parsing: $(PROGRAM) build/judged
-	$(PYTHON) scripts/bench_parsing.py $(PROGRAM) build/judged
+bench-parsing: $(PROGRAM)
+	$(PYTHON) scripts/bench_parsing.py $(PROGRAM)
 
-fuzz: $(PROGRAM) $(WORKBENCH) $(FLOWS) build/trees build/judged
-	$(PYTHON) scripts/fuzz.py $(PROGRAM) $(WORKBENCH) $(FLOWS) build/trees build/judged
+fuzz: $(PROGRAM) $(WORKBENCH) $(FLOWS) build/trees build/types
+	$(PYTHON) scripts/fuzz.py $(PROGRAM) $(WORKBENCH) $(FLOWS) build/trees build/types
 
 # Worked rows over what fuzz compares the programs with.
-PREPROCESSED := aggregates_assertions aggregates_attributes aggregates_enumerators aggregates_initializers aggregates_members aggregates_tags aggregates_typeof an_include_directory attributes_not_in_the_form attributes_refused checks_through_macros checks_through_macros_of_headers command_lines declarations_bodies declarations_in_blocks declarations_members declarations_name_classes declarations_nested_functions declarations_parameters declarations_redeclared declarations_specifiers declarations_type_names expansion_arguments expansion_changing_names expansion_hidden_names expansion_limits expansion_of_kernel_macros expansion_pasting expansion_strings expressions_casts expressions_literals expressions_names expressions_of_all_levels expressions_refused header_names include_limits include_limits_of_headers includes kernel_headers keywords option_words order_at_one_token parsed_names parsed_not_in_the_form parsing_limits preprocessed_text preprocessed_text_of_headers statements_and_labels statements_and_scopes statements_not_in_the_form statements_of_all_kinds statements_of_contexts statements_refused syntax_errors undefined_names undefined_names_of_headers unsupported_forms unsupported_words whole_files
+PREPROCESSED := aggregates_assertions aggregates_attributes aggregates_enumerators aggregates_initializers aggregates_members aggregates_tags aggregates_typeof an_include_directory attributes_of_all_names attributes_refused checks_through_macros checks_through_macros_of_headers command_lines declarations_bodies declarations_in_blocks declarations_members declarations_name_classes declarations_nested_functions declarations_parameters declarations_redeclared declarations_specifiers declarations_type_names expansion_arguments expansion_changing_names expansion_hidden_names expansion_limits expansion_of_kernel_macros expansion_pasting expansion_strings expressions_casts expressions_literals expressions_names expressions_of_all_levels expressions_refused header_names include_limits include_limits_of_headers includes kernel_headers keywords option_words order_at_one_token parsed_names parsed_units parsing_limits preprocessed_text preprocessed_text_of_headers statements_and_labels statements_and_scopes statements_that_are_parsed statements_of_all_kinds statements_of_contexts statements_refused syntax_errors undefined_names undefined_names_of_headers unsupported_forms unsupported_words whole_files
 
 rows:
 	$(PYTHON) scripts/preprocessing_rows.py $$(grep -lE '^[$$] (workbench|trees)' crates/cases/data/*.txt) $(PREPROCESSED:%=crates/cases/data/%.txt)
-	$(PYTHON) scripts/judged_rows.py crates/fixtures/data $$(grep -lE '^[$$] judged' crates/cases/data/*.txt)
+	$(PYTHON) scripts/judged_rows.py crates/fixtures/data crates/cases/data/judged_*.txt crates/cases/data/types_of_*.txt
 
-# What gcc says of expressions, and of structures and unions, beside the committed examples.
+# What gcc says of expressions, and of structures and unions, beside the committed examples; and the memory that it makes of initializers.
 compare:
 	$(PYTHON) scripts/constants.py
 	$(PYTHON) scripts/layouts.py
+	$(PYTHON) scripts/initializers.py $(PROGRAM)
 
 # Files of a kernel tree, preprocessed by the program and by the compiler: make headers LINUX=/path/to/a/tree FILES="lib/ctype.c"
 headers: $(PROGRAM)
 	$(PYTHON) scripts/headers.py $(PROGRAM) $(LINUX) $(FILES)
 
-smoke: $(PROGRAM) $(FLOWS) $(WORKBENCH) build/judged
+# The drivers of examples/, through their shim.
+drivers: $(PROGRAM)
+	$(PYTHON) scripts/drivers.py $(PROGRAM)
+
+smoke: $(PROGRAM) $(FLOWS) $(WORKBENCH)
 	$(PYTHON) scripts/smoke.py $(PROGRAM)
 	$(PYTHON) scripts/smoke_cc.py $(PROGRAM)
-	$(PYTHON) scripts/smoke_large.py $(FLOWS) $(WORKBENCH) $(PROGRAM) build/judged
+	$(PYTHON) scripts/smoke_large.py $(FLOWS) $(WORKBENCH) $(PROGRAM)
 
 install: $(PROGRAM)
 	install -D -m 755 $(PROGRAM) $(DESTDIR)$(PREFIX)/bin/ksparse

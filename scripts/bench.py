@@ -320,6 +320,8 @@ FAMILIES = (
 FLAGGED = b"int __attribute__((noderef)) *"
 # A type that is restricted, and shorter than an int.
 RESTRICTED = b"typedef unsigned short __attribute__((bitwise)) t; "
+# A type with structures in a structure.
+STRUCTURES = b"struct { struct { int a, b; } c; struct { int d; struct { int e; } f; } g; }"
 # Operators between two operands that make a value, and those that change the first one; `=` has a chain of its own.
 BINARY = (b"*", b"/", b"%", b"+", b"-", b"<<", b">>", b"<", b">", b"<=", b">=", b"==", b"!=", b"&", b"^", b"|", b"&&", b"||")
 COMPOUND = (b"*=", b"/=", b"%=", b"+=", b"-=", b"<<=", b">>=", b"&=", b"^=", b"|=")
@@ -392,6 +394,14 @@ JUDGING = (
     of_judging("do in do", b"void f(int a) { ", b"do ", b";", b" while (a);", b" }", (1300, 13000)),
     of_judging("if in if", b"void f(int a) { ", b"if (a) ", b";", b"", b" }", (6500, 65000)),
     of_judging("else if", b"void f(int a) { ", b"if (a) ; else ", b";", b"", b" }", (30000, 300000)),
+    of_judging("items", b"int a[] = { ", b"1, ", b"", b"", b"};", (90000, 900000)),
+    Family("judging: designated items", texts.designated_items, (10000, 100000), words=()),
+    Family("judging: designated members", texts.designated_members, (10000, 100000), most_ratio=MOST_NAMES_RATIO, words=()),
+    of_judging("braces in one another", b"int a = ", b"{", b"1", b"}", b";", (3000, 30000)),
+    of_judging("items of parts without braces", STRUCTURES + b" a[] = { ", b"1, ", b"", b"", b"};", (10000, 100000)),
+    of_judging("a string of an array", b'char a[] = "', b"a", b"", b"", b'";', (800000, 8000000)),
+    of_judging("compound literals", b"void f(void) { ", b"(int){ 1 }; ", b"", b"", b" }", (20000, 200000)),
+    Family("judging: initialized objects", texts.initialized_objects, (20000, 200000), most_ratio=MOST_NAMES_RATIO, words=()),
     of_judging("arguments that warn", FLAGGED + b"u; int g(int *); void f(void) { ", b"g(u); ", b"", b"", b" }", status=1),
 )
 
@@ -642,18 +652,15 @@ def flows_grow_in_step(flows, name, make, sizes):
     return takes_in_step(seconds, MOST_CALL_RATIO) and seconds[TIMED_FLOW] <= MOST_FLOW_SECONDS
 
 
-def calls_pass(program, workbench, flows, judged, families):
+def calls_pass(program, workbench, flows, families):
     """Whether runs and calls of these families, or of all, take no more than they may. Prints their lines."""
 
     def is_asked(name):
         return not families or name.split(":")[0] in families
 
     passed = True
-    for family in FAMILIES:
+    for family in [*FAMILIES, *JUDGING]:
         if is_asked(family.name) and not family_grows_in_step(program, family):
-            passed = False
-    for family in JUDGING:
-        if is_asked(family.name) and not family_grows_in_step(judged, family):
             passed = False
     if is_asked(DOUBLED.name) and not doubles_in_time(workbench):
         passed = False
@@ -691,15 +698,15 @@ def checkers_of(program):
 
 
 def main():
-    program, workbench, flows, judged = map(os.path.abspath, sys.argv[1:5])
-    families = sys.argv[5:]
+    program, workbench, flows = map(os.path.abspath, sys.argv[1:4])
+    families = sys.argv[4:]
     heads = ["bytes", "tokens", "seconds", "peak KiB", "ns/token", "bytes/token", "instr/token"]
     passed = True
     if not families:
         print_line(["file", *heads])
         passed = program_passes(checkers_of(program))
     print_line(["call", *heads])
-    return 0 if calls_pass(program, workbench, flows, judged, families) and passed else 1
+    return 0 if calls_pass(program, workbench, flows, families) and passed else 1
 
 
 if __name__ == "__main__":

@@ -1,8 +1,7 @@
 #!/usr/bin/env python3
-"""Measures the program on each family of files that the grammar reads and no rule judges, at four sizes in one run, and
-JUDGED, where it is given, on each that it judges.
+"""Measures the program on each family of files of parsing and of judging, at four sizes in one run.
 
-usage: bench_parsing.py PROGRAM [JUDGED]
+usage: bench_parsing.py PROGRAM
 
 Prints a row of a table for each: its most tokens, which are those of a unit or as many as it can have; the instructions by the token of
 a check, above those of an empty file, of 1,000, 10,000 and 100,000 tokens, where valgrind is installed; the seconds of a tenth and of
@@ -54,13 +53,11 @@ def passes(family, check, expand, most_nanoseconds):
 
 
 def main():
-    program, *judged = sys.argv[1:]
+    program = sys.argv[1]
     expand = bench.Checker("-E", [program, "-E"], (0,))
-    check = bench.Checker("check", [program], (0, 2))
+    check = bench.Checker("check", [program], (0, 1, 2))
     rows = [(it, check, MOST_NANOSECONDS) for it in bench.FAMILIES if it.name.startswith("parsing: ")]
-    for path in judged:
-        judge = bench.Checker("judge", [path], (0, 1))
-        rows += [(it, judge, float("inf")) for it in bench.JUDGING]
+    rows += [(it, check, float("inf")) for it in bench.JUDGING]
     print("| File | Tokens | Instructions a token | Seconds | Times as long | ns a token | Bytes of memory a token |")
     print("|---|---|---|---|---|---|---|")
     return 0 if all([passes(family, checker, expand, most) for family, checker, most in rows]) else 1

@@ -366,6 +366,22 @@ def used_members(count):
     return b"struct { " + members + b"} x; void f(void) { " + b"".join(b"x.m%06d; " % number for number in range(count)) + b"}"
 
 
+def designated_items(count):
+    """An array of so many elements, each initialized by its index."""
+    return b"int a[%d] = { " % count + b"".join(b"[%d] = 1, " % number for number in range(count)) + b"};"
+
+
+def designated_members(count):
+    """A structure of so many members, each initialized by its name."""
+    members = b"".join(b"int m%06d; " % number for number in range(count))
+    return b"struct { " + members + b"} x = { " + b"".join(b".m%06d = 1, " % number for number in range(count)) + b"};"
+
+
+def initialized_objects(count):
+    """So many objects, each with an initializer."""
+    return b"".join(b"int n%06d = 1; " % number for number in range(count))
+
+
 def structures_of_pointers(count):
     """So many structures, each with a pointer to the one before."""
     return b"".join(b"struct s%d { struct s%d *p; }; " % (number + 1, number) for number in range(count))

@@ -2,10 +2,10 @@
 """Batters the program with random files in, near and outside the first form, and with random words; and the calls of libraries
 that no command makes yet.
 
-usage: fuzz.py PROGRAM WORKBENCH FLOWS TREES JUDGED [COUNT [SEED]]
+usage: fuzz.py PROGRAM WORKBENCH FLOWS TREES TYPES [COUNT [SEED]]
 
 A run must end by itself within ten seconds, write nothing to standard output, and give for a file the
-status and the bytes on standard error that `rules.py` and `reference` work out from the rules alone. Random words and files with
+status and the bytes on standard error that `reference`, and for the first form `rules.py` too, works out from the rules alone. Random words and files with
 headers must have the bytes and the status that `reference` works out.
 
 Units of random conditionals and definitions, and random macros, go through the tools of WORKBENCH, which must print what
@@ -15,7 +15,7 @@ Random control flow graphs go through FLOWS, which must print the answers that `
 
 Random units by the grammar go through TREES, which must print the tree that a second reader makes of them.
 
-Random units of all forms but initializers go through JUDGED, and expressions over declared objects without their marks through gcc,
+Random units of all forms go through JUDGED, and expressions over declared objects without their marks through gcc,
 as `fuzz_judged.py` says, which makes those alone.
 
 Where a compiler is installed, random macros go through it and through `reference`, and both must come to the same tokens.
@@ -27,11 +27,12 @@ import sys
 import tempfile
 
 import compilers
+import rules
 from fuzz_judged import check_judged, check_refusals
 from fuzz_units import check_commands, check_headers, check_readings, check_tools, check_trees, run
 from made_flows import answer as flow_answer, flow_text, random_flow
 from made_units import Maker
-from reference.commands import answer
+from reference.judging import NotBuilt, answer
 
 
 PIECES = [
@@ -133,10 +134,13 @@ def check_text(program, folder, text, in_form):
     with open(os.path.join(folder, "t.c"), "wb") as file:
         file.write(text)
     status, out, err = run(program, ["t.c"], folder)
-    if in_form and status not in (0, 1):
-        return "a unit of the first form is refused"
-    if (status, err) != wanted(text):
-        return f"status {status}, {err!r} in place of {wanted(text)!r}"
+    if in_form and (status, err) != rules.answer(text):
+        return f"status {status}, {err!r} in place of {rules.answer(text)!r}, by the rules of the first form"
+    try:
+        if (status, err) != wanted(text):
+            return f"status {status}, {err!r} in place of {wanted(text)!r}"
+    except NotBuilt:
+        pass
     return "something on standard output" if out else None
 
 
@@ -191,7 +195,7 @@ def check_expansions(folder, chance, count):
 
 
 def main():
-    program, workbench, flows, trees, judged = map(os.path.abspath, sys.argv[1:6])
+    program, workbench, flows, trees, types = map(os.path.abspath, sys.argv[1:6])
     count = int(sys.argv[6]) if len(sys.argv) > 6 else 2000
     seed = int(sys.argv[7]) if len(sys.argv) > 7 else random.randrange(1 << 32)
     chance = random.Random(seed)
@@ -206,7 +210,7 @@ def main():
             and check_flows(flows, folder, chance, count)
             and check_headers(workbench, folder, chance, count)
             and check_expansions(folder, chance, count // 4)
-            and check_judged(judged, folder, chance, count)
+            and check_judged(program, types, folder, chance, count)
             and check_refusals(folder, chance, count // 4)
         )
     if not passed:

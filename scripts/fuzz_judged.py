@@ -1,10 +1,10 @@
 #!/usr/bin/env python3
-"""Random units for the judge: what `judged` says of them, and what gcc refuses, beside the reader of the rules in `reference`.
+"""Random units for the judge: what `ksparse` says of them, and what gcc refuses, beside the reader of the rules in `reference`.
 
-usage: fuzz_judged.py JUDGED [COUNT [SEED]]
+usage: fuzz_judged.py PROGRAM TYPES [COUNT [SEED]]
 
-JUDGED must write what `reference.judging` works out from the rules alone: the warnings in order, or the one error, and the status;
-and for one command in four what `reference.typed` does, the types of the expressions. Where it isn't there a line says so. Where gcc
+PROGRAM must write what `reference.judging` works out from the rules alone: the warnings in order, or the one error, and the status;
+and TYPES, which is asked in place of one command in four, what `reference.typed` does. Where one isn't there a line says so. Where gcc
 is installed it must refuse exactly the units that break a constraint, their marks defined away, but for the differences that
 `refusals.py` names. A unit with another answer is made smaller before it is printed.
 """
@@ -54,29 +54,32 @@ def put(folder, text):
         file.write(text)
 
 
-def said(program, words, folder):
-    """What the program writes, and its status."""
-    done = subprocess.run([program, *words], cwd=folder, capture_output=True, timeout=10)
+def said(programs, words, folder):
+    """What the program writes that these words ask, and its status."""
+    program, types = programs
+    command = [types, *words[1:]] if words[0] == b"-types" else [program, *words]
+    done = subprocess.run(command, cwd=folder, capture_output=True, timeout=10)
     return done.stdout, done.stderr, done.returncode
 
 
 def wanted(words, text):
     """What it has to write; None where the reader says nothing of the unit."""
     try:
-        return typed.answer(words, {b"t.c": text})
+        files = {b"t.c": text}
+        return typed.answer(words[1:], files) if words[0] == b"-types" else judging.answer(words, files)
     except judging.NotBuilt:
         return None
 
 
-def judged_differs(program, words, folder):
-    """A test of a text: whether `judged` says another thing of it than the reader."""
+def judged_differs(programs, words, folder):
+    """A test of a text: whether the program that is asked says another thing of it than the reader."""
 
     def differs(text):
         answer = wanted(words, text)
         if answer is None:
             return False
         put(folder, text)
-        return said(program, words, folder) != answer
+        return said(programs, words, folder) != answer
 
     return differs
 
@@ -95,19 +98,21 @@ def refusal_differs(folder):
     return differs
 
 
-def check_judged(program, folder, chance, count):
+def check_judged(program, types, folder, chance, count):
     """Compares what is said of so many units; true where all are alike."""
-    if not os.path.exists(program):
-        print(f"fuzz: no program {program}: what the judge says isn't compared")
-        return True
+    programs = program, types
+    for path in programs:
+        if not os.path.exists(path):
+            print(f"fuzz: no program {path}: what the judge says isn't compared")
+            return True
     for number in range(count):
         text, words = maker(chance).unit().encode(), words_of(chance)
-        differs = judged_differs(program, words, folder)
+        differs = judged_differs(programs, words, folder)
         if differs(text):
             small = shrunk(text, differs)
             differs(small)
-            print(f"fuzz: judged {b' '.join(words).decode()}, unit {number}, made smaller:\n{small.decode()}")
-            print(f"fuzz: it answers {said(program, words, folder)!r}")
+            print(f"fuzz: {b' '.join(words).decode()}, unit {number}, made smaller:\n{small.decode()}")
+            print(f"fuzz: it answers {said(programs, words, folder)!r}")
             print(f"fuzz: in place of {wanted(words, small)!r}")
             return False
     return True
@@ -132,13 +137,13 @@ def check_refusals(folder, chance, count):
 
 
 def main():
-    program = os.path.abspath(sys.argv[1])
-    count = int(sys.argv[2]) if len(sys.argv) > 2 else 2000
-    seed = int(sys.argv[3]) if len(sys.argv) > 3 else random.randrange(1 << 32)
+    program, types = map(os.path.abspath, sys.argv[1:3])
+    count = int(sys.argv[3]) if len(sys.argv) > 3 else 2000
+    seed = int(sys.argv[4]) if len(sys.argv) > 4 else random.randrange(1 << 32)
     chance = random.Random(seed)
     print(f"fuzz: {count} units for the judge, seed {seed}")
     with tempfile.TemporaryDirectory() as folder:
-        if not (check_judged(program, folder, chance, count) and check_refusals(folder, chance, count // 4)):
+        if not (check_judged(program, types, folder, chance, count) and check_refusals(folder, chance, count // 4)):
             return 1
     print("fuzz: ok")
     return 0

@@ -9,7 +9,7 @@ import workbench_answers
 from made_attributes import attribute_lists, context_statements
 from made_units import Maker
 from reference import trees
-from reference.commands import answer
+from reference.judging import NotBuilt, answer
 from shrinking import shrunk
 
 
@@ -115,7 +115,10 @@ def command_differs(program, words, folder, wanted):
     def differs(text):
         write(folder, b"t.c", text)
         status, out, err = run(program, words, folder)
-        return (out, err, status) != wanted(words, folder)
+        try:
+            return (out, err, status) != wanted(words, folder)
+        except NotBuilt:
+            return False
 
     return differs
 

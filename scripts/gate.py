@@ -22,7 +22,8 @@ TOP = os.path.dirname(os.path.dirname(os.path.abspath(__file__)))
 USES = (
     ("smoke.py", ("ksparse_cli",)),
     ("smoke_cc.py", ("ksparse_cli",)),
-    ("smoke_large.py", ("flows", "workbench_cli", "ksparse_cli", "judged_cli")),
+    ("smoke_large.py", ("flows", "workbench_cli", "ksparse_cli")),
+    ("drivers.py", ("ksparse_cli",)),
 )
 # How long, in seconds, nothing is said of what is left.
 QUIET = 60

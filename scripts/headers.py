@@ -99,7 +99,7 @@ def compare(program, tree, file, folder):
     return f"{first_difference(ours_tokens, theirs_tokens)} {times}", False
 
 
-# What a check says of a unit that is read whole and not judged yet
+# What a check says of a unit that is read whole and has contexts, which aren't judged yet
 READ_WHOLE = re.compile(r"\S+:1:1: error\[29\]: form not built")
 REFUSED = re.compile(r"(\S+):(\d+):(\d+): error\[(\d+)\]: (.*)")
 ASSEMBLY = {b"asm", b"__asm", b"__asm__"}
@@ -113,6 +113,11 @@ def checked(program, words, tree, folder):
     """The line of a check's refusal, empty where the file is silent, and a text of its time and peak memory."""
     _, err, _, times = measured([program, *words], tree, os.path.join(folder, "checked"))
     return err.decode("utf-8", "replace").strip(), times
+
+
+def is_read_whole(said):
+    """Whether a check that says this refuses nothing of the unit but its contexts."""
+    return READ_WHOLE.fullmatch(said) or not any(map(REFUSED.fullmatch, said.splitlines()))
 
 
 def end_of_group(tokens, at):
@@ -182,7 +187,7 @@ def reach(program, text, tree, folder):
             unit.write(b"\n".join(b" ".join(one) for one in left) + b"\n")
         line, _ = checked(program, [path], tree, folder)
         refused = REFUSED.fullmatch(line)
-        if READ_WHOLE.fullmatch(line) or not refused:
+        if is_read_whole(line) or not refused:
             return refusals, firsts, line
         number, refusal = int(refused[2]) - 1, f"error[{refused[4]}]: {refused[5]}"
         refusals[refusal] += 1
@@ -202,12 +207,12 @@ def read(program, tree, file, folder):
     """The lines that say how far a check reads the file."""
     words = [*WORDS, *(f"-I{directory}" for directory in directories(tree)), os.path.join(folder, "unit.c")]
     line, times = checked(program, words, tree, folder)
-    yield f"  a check {'reads it whole' if READ_WHOLE.fullmatch(line) else f'says {line!r}'} ({times})"
+    yield f"  a check {'reads it whole' if is_read_whole(line) else f'says {line!r}'} ({times})"
     with open(os.path.join(folder, "ours.i"), "rb") as text:
         tokens = text.read()
     if tokens:
         refusals, firsts, last = reach(program, tokens, tree, folder)
-        yield f"  without inline assembly, and without what is refused: {'read whole' if READ_WHOLE.fullmatch(last) else last!r}"
+        yield f"  without inline assembly, and without what is refused: {'read whole' if is_read_whole(last) else last!r}"
         yield from (f"    {count} times {refusal}, first at the end of: {firsts[refusal]}" for refusal, count in refusals.most_common())
 
 

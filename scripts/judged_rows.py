@@ -3,9 +3,8 @@
 
 usage: judged_rows.py DATA [ARCHIVE ..]
 
-DATA is the folder in which `judged` and `include` stand. A text that is longer than `LONGEST` isn't run, since the reader goes into
-what is nested, and of a form in `UNREAD` the reader says nothing. Prints each row in which the two differ, and how many weren't
-compared; exits 1 where two differ.
+DATA is the folder of the fixtures. A text that is longer than `LONGEST` isn't run, since the reader goes into
+what is nested. Prints each row in which the two differ, and how many weren't compared; exits 1 where two differ.
 """
 import os
 import re
@@ -16,12 +15,12 @@ import archives
 from reference import judging, typed
 
 LONGEST = 20_000
-# What the reader doesn't read yet.
-UNREAD = ("Initializer", "CompoundLiteral")
 # What so long a text needs, where it is nothing but parentheses
 STACK, FRAMES = 1 << 29, 1_000_000
 
 MARK = re.compile(rb"//( *)([\^|]) (.*)")
+ANSWERS = {"ksparse": judging.answer, "types": typed.answer}
+
 WORDS = re.compile(rb"^// words: (.*)", re.MULTILINE)
 LIMIT = re.compile(rb"// err: (.*)")
 HEADER = re.compile(rb"// header: (.*)")
@@ -58,18 +57,18 @@ def marked(name, text, headers):
 
 
 def fixtures(data):
-    """The fixtures: where each stands, its words, the files that it sees, and what it expects."""
+    """The fixtures: where each stands, who answers it, its words, the files that it sees, and what it expects."""
     headers = {}
     for at, _, names in os.walk(os.path.join(data, "include")):
         for name in names:
             path = os.path.join(at, name)
             with open(path, "rb") as file:
                 headers[os.path.relpath(path, data).encode()] = file.read()
-    for name in sorted(os.listdir(os.path.join(data, "judged"))):
-        with open(os.path.join(data, "judged", name), "rb") as file:
+    for name in sorted(it for it in os.listdir(data) if it.endswith(".c")):
+        with open(os.path.join(data, name), "rb") as file:
             text = file.read()
         words, expected = marked(name.encode(), text, headers)
-        yield name, words, headers | {name.encode(): text}, expected
+        yield name, judging.answer, words, headers | {name.encode(): text}, expected
 
 
 def cases(path):
@@ -77,33 +76,30 @@ def cases(path):
     with open(path, "rb") as file:
         found = archives.read(file.read())
     for case in found:
-        if case.program == "judged":
+        if case.program in ANSWERS:
             expected = case.expected["out"], case.expected["err"], int(case.expected["status"])
-            yield f"{path}:{case.line}", case.words, case.files, expected
+            yield f"{path}:{case.line}", ANSWERS[case.program], case.words, case.files, expected
 
 
-def difference(words, files, expected):
-    """What the reader says otherwise, or nothing, and whether it reads the row."""
+def difference(answer, words, files, expected):
+    """What the reader says otherwise, or nothing."""
     try:
-        found = typed.answer(words, files)
+        found = answer(words, files)
     except judging.NotBuilt as form:
-        return (None, False) if str(form) in UNREAD else (f"isn't read here: {form}", True)
-    return None if found == expected else f"{found} in place of {expected}", True
+        return f"isn't read here: {form}"
+    return None if found == expected else f"{found} in place of {expected}"
 
 
 def run(status):
     """Runs all rows; the status is handed out in a list."""
     rows = [*fixtures(sys.argv[1]), *(row for path in sys.argv[2:] for row in cases(path))]
-    short = [row for row in rows if max(map(len, row[2].values()), default=0) <= LONGEST]
-    unread = 0
+    short = [row for row in rows if max(map(len, row[3].values()), default=0) <= LONGEST]
     for where, *row in short:
-        wrong, is_read = difference(*row)
-        unread += not is_read
+        wrong = difference(*row)
         if wrong:
             status[0] = 1
             print(f"{where}: {wrong}")
-    compared = f"{len(short) - unread} rows, {unread} with initializers, {len(rows) - len(short)} too long"
-    print(f"judged_rows: {compared}; {'rows differ' if status[0] else 'ok'}")
+    print(f"judged_rows: {len(short)} rows, {len(rows) - len(short)} too long; {'rows differ' if status[0] else 'ok'}")
 
 
 def main():

@@ -1,8 +1,9 @@
-"""Random units of all forms but initializers: structures, unions, enums, bit-fields, declarations that stand again, statements, labels.
+"""Random units of all forms: structures, unions, enums, bit-fields, initializers, declarations that stand again, statements, labels.
 
 Rules fail often; constraints are broken where a slip is made.
 """
-from made_expressions import ASSIGNMENT, CAST, COMMA, CONDITIONAL, FIRST_OF_TWO, POSTFIX, UNARY, Expression, written
+from made_expressions import ASSIGNMENT, CAST, COMMA, CONDITIONAL, FIRST_OF_TWO, POSTFIX, PRIMARY, UNARY, Expression, written
+from made_initializers import INT, POINTER, SCALARS, Aggregate, Array, Initializers, Scalar, declared, type_name
 from made_judged import COMMON, KNOWN, LITERALS, MARKS, SHAPES, TYPES, WORD, Maker, Name, names, objects_of, postfix, primary, unary
 
 # What stands behind the objects of expressions, a line each
@@ -66,6 +67,63 @@ BAD_OFFSETS = [
 # The bits of the kinds
 BITS = {"int": 32, "char": 8, "unsigned char": 8, "short": 16, "unsigned": 32, "long": 64, "unsigned long": 64, "_Bool": 1,
         "signed char": 8, "enum num": 32, "enum big": 64, "long long": 64}
+# The aggregates as objects to be initialized
+PAIR = Aggregate("struct pair", (("ma", INT), ("mb", Array(INT, 2)), ("mf", INT), ("mu", Scalar("int USER", "int"))))
+OTHER = Aggregate("struct other", (("mz", INT), ("mh", Scalar("le16", "int"))))
+WORD_UNION = Aggregate("union word", (
+    ("mi", INT), ("mc", Array(Scalar("unsigned char", "int"), 4)), ("", Aggregate("", (("ml", INT), ("mg", INT)))),
+    ("md", Aggregate("", (("me", INT),))),
+), True)
+WIDE = Aggregate("struct wide", (
+    *((name, INT) for name in ("mk", "m2", "m32", "m40", "mt", "m7")), ("mr", Scalar("le32", "int")), ("mp", PAIR), ("ms", POINTER),
+    ("mq", POINTER), ("", Aggregate("", (("mn", INT), ("", Aggregate("", (("mv", INT), ("mw", INT)), True))))), ("mx", Array(INT, 0)),
+))
+AGGREGATE_TYPES = [PAIR, PAIR, OTHER, WORD_UNION, WIDE, Aggregate("const struct other", OTHER.members), Aggregate("struct pair USER", PAIR.members)]
+MARKED = [
+    *(Scalar(words, "int") for words in ("le32", "le16", "le8", "const int", "int USER", "_Bool", "enum rest", "volatile char")),
+    *(Scalar(words, "p") for words in ("int USER *", "const int *", "int * const", "le32 *", "void *", "int * USER", "struct pair *")),
+]
+# Values of static objects, and what isn't constant
+STATIC_POINTERS = [
+    "0", "0", "( void * ) 0", "& i", "m", "& m [ 1 ]", "m + 1", "1 + m", "& i - 1", '"ab"', '"ab" + 1', "& x . ma", "x . mb", "& x . mb [ 1 ]",
+    "xs [ 1 ] . mb", "& xs [ E1 ] . ma", "& wd . mp . mb [ 1 ]", "( int * ) 5", "( int * ) 5 + 1", "( void * ) & i", "1 ? & i : p",
+    "0 ? p : & i", "( & i )", "( int * ) & z", "& none", "none", "one + 1", "( long ) & i", "& fl", "n", "& wd . mn", "& 1 [ m ]",
+    "( int [ 2 ] ) { 1 , 2 }", "& ( int ) { 1 }", "& ( struct pair ) { 1 } . mb [ 1 ]", "hs", "& r", "( FORCE int * ) u",
+]
+NOT_CONSTANT = [
+    "i", "p", "p + 1", "& p [ 1 ]", "* & i", "& * & i", "& * m", "& ( & x ) -> ma", "xp", "& xp -> ma", "one ( 1 )", "i ? & i : & i", "& i - & j",
+    "( long ) & i + 1", "& \"ab\" [ 1 ]", "& \"ab\"", "* none", "none ( )", "x", "( struct pair ) { 1 }", "( 1 , & i )", "( { & i ; } )",
+    "__builtin_expect ( 1 , 1 )", "u", "& m [ i ]", "* m", "m [ 0 ]", "& x == & y", "m + i", "( m + 1 ) [ 0 ]", "& ( m + 1 ) [ 0 ]", "~ i", "& w1 . ml",
+]
+# Initialized objects that break a constraint, or whose lengths are seen
+INITIALIZED = """typedef int @ = 1 ;
+typedef int @ [ ] = { 1 , 2 } ;
+extern int @ = 1 ;
+int @ ( void ) = 0 ;
+void @ = 1 ;
+struct unknown @ = { 1 } ;
+int @ = 1 ; extern int @ ;
+static int @ = 1 ; static int @ ;
+int @ [ ] = 5 ;
+int @ [ 2 ] = m ;
+extern int @ [ ] ; extern int @b [ sizeof ( @ ) ] ;
+static int @ [ ] = { } ;
+int @ [ ] = { sizeof ( @ ) } ;
+int @ [ ] = { [ 549755813888 ] = 1 } ;
+static int @ [ ] = { 1 , 2 } ; extern int @b [ sizeof ( @ ) ] ; extern int @b [ 8 ] ;
+static char @ [ ] = "abc" ; extern char @b [ sizeof @ ] ; extern char @b [ 4 ] ;
+static int @ [ ] [ 2 ] = { 1 , 2 , 3 } ; extern int @b [ sizeof ( @ ) ] ; extern int @b [ 16 ] ;
+struct unknown @ [ ] = { } ;
+char @ [ ] = ( "ab" ) ;
+le8 @ [ ] = "ab" ;
+struct { int a ; struct { } b ; int c [ 0 ] ; int d ; } @ = { 1 , 2 } ;
+struct { } @ = { 1 } ;
+struct { int a ; int b [ ] ; } @ = { 1 , { } } ;
+struct { int a ; int b [ ] ; } @ = { 1 , 2 } ;
+struct { int a ; char b [ ] ; } @ = { 1 , "a" } ;
+union { struct { } a ; int b ; } @ = { 1 } ;
+int @ [ 2 ] = { [ 0 ] = 1 , [ 0 ] = 2 , 3 } ;
+int @ [ 2 ] [ 2 ] = { [ 0 ] = 1 , 2 , { 3 , 4 } } ;""".splitlines()
 # Declarations that break a constraint, of a name @ and with an expression #
 BAD = """int @ [ - 1 ] ;
 int @ [ i ] ;
@@ -153,13 +211,14 @@ class Whole(Maker):
         self.switches = []
         self.tags = []
         self.redeclared = set()
-        self.at_file = True
 
     # Expressions
 
     def expression(self, shape, depth):
         if self.slips(1):
             return self.odd(depth)
+        if shape in ("int", "p") and self.often(3):
+            return self.literal_of(shape)
         if shape == "int" and self.often(12):
             return self.of_members(depth)
         if shape == "p" and self.often(6):
@@ -178,6 +237,8 @@ class Whole(Maker):
         if self.slips(4):
             tag = self.chance.choice(list(VALUES))
         value = Expression(COMMA, [self.chance.choice(VALUES[tag])])
+        if tag == "pair" and self.often(10):
+            return Expression(CAST, [f"( struct pair ) {self.initializers(False).braced(PAIR)}"])
         if self.often(20) and depth > 0:
             target = Expression(CAST, [self.chance.choice(VALUES[tag][:2])])
             return Expression(ASSIGNMENT, [(target, CONDITIONAL), "=", (self.whole(tag, depth - 1), ASSIGNMENT)])
@@ -271,6 +332,57 @@ class Whole(Maker):
             "__builtin_offsetof ( struct wide , mr )",
         ]
         return self.chance.choice(good + ["i ? 1 : 1"] * bool(self.slip))
+
+    # Initializers
+
+    def initializers(self, is_static):
+        """A maker of initializers of objects that are static or aren't."""
+
+        def value(of):
+            if isinstance(of, Aggregate):
+                words = of.words.split()
+                has_values = not is_static and words and words[-1] in VALUES
+                return self.chance.choice(VALUES[words[-1]]) if has_values else None
+            if not is_static:
+                return written(Expression(PRIMARY, [(self.expression(of.shape, 1), ASSIGNMENT)]), False)
+            if self.slips(5):
+                return self.chance.choice(NOT_CONSTANT)
+            return self.chance.choice(STATIC_POINTERS) if of.shape == "p" or self.often(3) else self.constant(1)
+
+        return Initializers(self.chance, value, 2 if self.slip else 0, [*SCALARS, *MARKED])
+
+    def object_type(self, made):
+        """A type of an object, and now and then an array of such without a length."""
+        of = self.chance.choice(AGGREGATE_TYPES) if self.often(40) else made.type(2)
+        return Array(of, None) if self.often(20) else of
+
+    def initialized(self, storage):
+        """An object with its initializer, which is known behind it."""
+        is_static = len(self.scopes) == 1 or storage == "static "
+        if self.slips(25):
+            return self.chance.choice(INITIALIZED).replace("@b", self.new_name()).replace("@", self.new_name())
+        made, name = self.initializers(is_static), self.new_name()
+        of = self.object_type(made)
+        text = f"{storage}{declared(of, name)} = {made.initializer(of)} ;"
+        if isinstance(of, Scalar):
+            self.scopes[-1].append(Name(name, of.shape))
+        elif isinstance(of, Array) and isinstance(of.element, Scalar):
+            self.scopes[-1].append(Name(name, {"int": "p", "p": "pp"}[of.element.shape], False, False))
+        return text
+
+    def literal_of(self, shape):
+        """A compound literal of a shape, or what is selected of one."""
+        made = self.initializers(False)
+        if shape == "p":
+            of = Array(INT, self.chance.choice([None, 2, 3]))
+            return Expression(CAST, [f"( {type_name(of)} ) {made.braced(of)}"])
+        kind = self.chance.randrange(4)
+        if kind == 0:
+            return postfix(f"( struct pair ) {made.braced(PAIR)}", ".", self.chance.choice(["ma", "mf", "mu", "mb [ 0 ]"]))
+        if kind == 1:
+            return unary(f"sizeof ( int [ ] ) {made.braced(Array(INT, None))}")
+        of = self.chance.choice([INT, *MARKED[:6]])
+        return Expression(CAST, [f"( {of.words} ) {made.in_braces(of)}"])
 
     # Structures, unions, enums
 
@@ -417,6 +529,8 @@ class Whole(Maker):
 
     def line_of_file(self):
         kind = self.chance.randrange(12)
+        if self.often(30):
+            return self.initialized(self.chance.choice(["", "static ", "static "]))
         if self.slips(15):
             return self.bad()
         if kind < 4:
@@ -484,7 +598,9 @@ class Whole(Maker):
         begin = self.chance.choice([";", f"{written(self.expression(self.any(), 1), False)} ;", "", ""])
         if not begin:
             name = self.chance.choice(["i", "j", self.new_name()])
-            begin = self.chance.choice([f"int {name} ;", f"struct {{ int a ; }} {name} ;", self.declaration("register ")])
+            begin = self.chance.choice([
+                f"int {name} ;", f"struct {{ int a ; }} {name} ;", self.declaration("register "), self.initialized(""),
+            ])
         condition = self.condition(depth - 1) if self.often(70) else ""
         step = written(self.expression(self.any(), 1), False) if self.often(60) else ""
         text = f"for ( {begin} {condition} ; {step} ) {self.looped(depth)}"
@@ -533,7 +649,9 @@ class Whole(Maker):
         return f"{self.new_name()} : {self.statement(depth - 1)}"
 
     def body_line(self, depth):
-        kind = self.chance.randrange(24)
+        kind = self.chance.randrange(26)
+        if kind >= 24:
+            return self.initialized(self.chance.choice(["", "", "static "]))
         if kind == 0:
             return self.of_this_unit()
         if kind == 1 and self.often(50):

@@ -16,7 +16,7 @@ import archives
 import compilers
 import workbench_answers
 from reference import macros, trees
-from reference.commands import answer
+from reference.judging import NotBuilt, answer
 from reference.preprocessing import Unit
 from reference.scanning import scan
 
@@ -62,7 +62,10 @@ def left_of_budget(definitions, text, budget):
 def ran(case):
     """What the command of a case leaves by the rules, or None for a program that isn't known here."""
     if case.program in ANSWERS:
-        out, err, status = ANSWERS[case.program](case.words, case.files)
+        try:
+            out, err, status = ANSWERS[case.program](case.words, case.files)
+        except NotBuilt:
+            return None
         return {"out": out, "err": err, "status": b"%d\n" % status}
     made = workbench_answers.answer(case.words, case.files) if case.program == "workbench" else None
     return None if made is None else {"out": made, "err": b"", "status": b"0\n"}

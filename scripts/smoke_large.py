@@ -1,8 +1,8 @@
 #!/usr/bin/env python3
-"""Runs `flows`, `workbench`, `ksparse` and `judged` over large and deep texts, with ample memory, and `flows` over lines that are none,
+"""Runs `flows`, `workbench` and `ksparse` over large and deep texts, with ample memory, and `flows` over lines that are none,
 and compares their answers with those by hand.
 
-usage: smoke_large.py FLOWS WORKBENCH KSPARSE JUDGED
+usage: smoke_large.py FLOWS WORKBENCH KSPARSE
 """
 import os
 import subprocess
@@ -62,33 +62,53 @@ EXPANSIONS = (
     ("a chain", "".join(f"#define a{number} a{number + 1}\n" for number in range(CHAIN)) + "a0", f"a{CHAIN}", (CHAIN, CHAIN)),
 )
 
-# Chains and lists, which wait for nothing that is inside them: what stands before the parts, a part, how often it stands, and what
-# stands behind. They are read and not judged.
+
+class Read(NamedTuple):
+    """A chain or list that waits for nothing that is inside it: what stands before the parts, a part, how often it stands, what stands
+    behind; and the error with which it is refused, if it is, that many columns behind where the parts begin, or before where they end."""
+
+    before: str
+    part: str
+    count: int
+    behind: str
+    error: str = ""
+    at: int = 0
+
+    def text(self):
+        return self.before + self.part * self.count + self.behind
+
+    def answer(self):
+        begin = len(self.before) + (len(self.part) * self.count if self.at < 0 else 0)
+        return (f"t.c:1:{begin + self.at + 1}: {self.error}\n", 2) if self.error else SILENT
+
+
+SILENT = ("", 0)
+NOT_CONSTANT = "error[99]: initializer is not constant"
+NO_POINTER = "error[61]: cannot dereference this type"
 READ_CHAINS = (
-    ("int a; int x = ", "- ", 500_000, "a;"),
-    ("int a; int x = ", "a + ", 500_000, "a;"),
-    ("int a; void f(void) { ", "a = ", 500_000, "a; }"),
-    ("typedef int t; int a; int x = ", "(t)", 500_000, "a;"),
-    ("int a; int x = a", "[1]", 500_000, ";"),
-    ("int *p; int x = ", "*", 500_000, "p;"),
-    ("void f(void) { ", "x: ", 500_000, ";}"),
-    ("int a; int x = ", "a ? a : ", 400_000, "a;"),
-    ("void f(void) { ", "if (1) ; else ", 300_000, ";}"),
-    ("void f(void) { ", ";", 500_000, "}"),
-    ("int a", ", a", 500_000, ";"),
-    ("struct { int a", ", b", 500_000, "; } x;"),
-    ("int x[] = { ", "1, ", 500_000, "};"),
-    ("char x[] = ", '"" ', 500_000, '"";'),
+    Read("int a; int x = ", "- ", 500_000, "a;", NOT_CONSTANT),
+    Read("int a; int x = ", "a + ", 500_000, "a;", NOT_CONSTANT, -2),
+    Read("int a; void f(void) { ", "a = ", 500_000, "a; }"),
+    Read("typedef int t; int a; int x = ", "(t)", 500_000, "a;", NOT_CONSTANT),
+    Read("int a; int x = a", "[1]", 500_000, ";", NO_POINTER),
+    Read("int *p; int x = ", "*", 500_000, "p;", NO_POINTER, -2),
+    Read("void f(void) { ", "x: ", 500_000, ";}", "error[81]: label 'x' defined twice", 3),
+    Read("int a; int x = ", "a ? a : ", 400_000, "a;", NOT_CONSTANT, 2),
+    Read("void f(void) { ", "if (1) ; else ", 300_000, ";}"),
+    Read("void f(void) { ", ";", 500_000, "}"),
+    Read("int a", ", a", 500_000, ";"),
+    Read("struct { int a", ", b", 500_000, "; } x;", "error[94]: member 'b' declared twice", 5),
+    Read("int x[] = { ", "1, ", 500_000, "};"),
+    Read("char x[] = ", '"" ', 500_000, '"";'),
 )
 ENUMERATORS = "enum {" + "".join(f" e{number}," for number in range(500_000)) + " };"
-NOT_BUILT = ("t.c:1:1: error[29]: form not built\n", 2)
 
 # A unit of 499,996 statements of four tokens each: what stands between its first object and its function, which have four and seven
 # more, what stands behind the statements, and the answer. The limit goes before a rule that fails and before a syntax error.
 UNIT_STATEMENTS = 499_996
 TOO_MANY = ("ksparse: limit: unit tokens\n", 7)
 UNITS = (
-    ("2,000,000 tokens", "extern int *p;", "}", ("", 0)),
+    ("2,000,000 tokens", "extern int *p;", "}", SILENT),
     ("2,000,001 tokens", "extern int **p;", "}", TOO_MANY),
     ("2,000,009 tokens and a rule that fails", "extern int __attribute__((noderef))b;", "b=a;}", TOO_MANY),
     ("2,000,001 tokens and no unit", "extern int *p;", "}}", TOO_MANY),
@@ -107,6 +127,12 @@ CONDITIONS_IN_ONE_ANOTHER = 65_000
 STRUCTURES = 12_900
 BRANCHES = 100_000
 ALTERNATIVES = 280_000
+# How many items an initializer has, how many that are designated or for parts without braces, how deep its braces stand in one another,
+# and how long a string is.
+ITEMS = 900_000
+DESIGNATED = 100_000
+BRACES = 30_000
+CHARACTERS = 8_000_000
 
 # What chains stand behind, all in the first line.
 UNIT = "typedef unsigned short __attribute__((bitwise)) t; void f(int a, t h, int *p, char *s, char c) { "
@@ -125,6 +151,12 @@ NULL = ("warning: using plain integer as NULL pointer",)
 SUM = ("warning: cast truncates constant (600000 becomes -64)",)
 ARM = ("warning: cast truncates constant (300 becomes 44)",)
 TRUNCATE = ("-Wcast-truncate",)
+INITIALIZED = ("warning: incorrect type in initializer (different base types)",)
+ITEM = (*INITIALIZED, "   expected int", "   got int *")
+MEMBER = (*INITIALIZED, "   expected int *", "   got int")
+EXTRA = ("error[98]: extra initializer",)
+# Structures in a structure, the last one of them with a pointer
+NESTED = "struct { struct { int a, b; } c; struct { int d; struct { int *e; } f; } g; } k[] = { "
 
 
 class Chain(NamedTuple):
@@ -210,6 +242,13 @@ CHAINS = (
     statements("switches", "switch (a) case 1: ", BRANCHES),
     statements("else if", "if (a) ; else ", ALTERNATIVES),
     Chain("structures in one another", "", "struct { ", STRUCTURES, "int y;", (), back=" } x;"),
+    Chain("items", "int k[] = { ", "1, ", ITEMS, "p }", ITEM, last=len("1, ")),
+    Chain("designated items", "int k[2] = { ", "[1] = 1, ", DESIGNATED, "[1] = p }", ITEM, last=len("[1] = 1, [1] = ")),
+    Chain("braces in one another", "int k = ", "{ ", BRACES, "p", ITEM, last=len("{ "), back=" }"),
+    Chain("items of parts without braces", NESTED, "1, 1, 1, p, ", DESIGNATED // 4, "1, 1, 1, 1 }", MEMBER, last=len("1, 1, 1, p, 1, 1, 1, ")),
+    Chain("a string with its array", f'char k[{CHARACTERS}] = "', "a", CHARACTERS, '"', ()),
+    Chain("a string beyond its array", f'char k[{CHARACTERS - 1}] = "', "a", CHARACTERS, '"', EXTRA, at=len(f"char k[{CHARACTERS - 1}] = ")),
+    Chain("compound literals", "", "(int){ 1 }; ", DESIGNATED, "(int){ p }", ITEM, last=len("(int){ 1 }; (int){ ")),
     Chain("a label of each switch", "switch (a) { case 0: ", "switch (a) case 1: case 2: ", BRANCHES, "case 2: ; }", DOUBLE, last=len("switch (a) case 1: case 2: case ")),
 )
 
@@ -255,22 +294,22 @@ def checks_differ(ksparse):
     def check_differs(name, text, answer):
         return differs(name, [ksparse, "t.c"], "t.c", text, ("", *answer))
 
-    failures = check_differs("enumerators", ENUMERATORS, NOT_BUILT)
-    for before, part, count, behind in READ_CHAINS:
-        failures += check_differs(f"{count} of {part}", before + part * count + behind, NOT_BUILT)
+    failures = check_differs("enumerators", ENUMERATORS, SILENT)
+    for it in READ_CHAINS:
+        failures += check_differs(f"{it.count} of {it.part}", it.text(), it.answer())
     for name, objects, end, answer in UNITS:
         failures += check_differs(name, f"extern int a;{objects}void f(void){{" + "a=a;" * UNIT_STATEMENTS + end, answer)
     return failures
 
 
-def judged_differs(judged):
+def chains_differ(ksparse):
     """How many chains are judged otherwise."""
-    return sum(differs(it.name, [judged, *it.words, "t.c"], "t.c", it.text(), ("", it.told(), it.status())) for it in CHAINS)
+    return sum(differs(it.name, [ksparse, *it.words, "t.c"], "t.c", it.text(), ("", it.told(), it.status())) for it in CHAINS)
 
 
 def main():
-    flows, workbench, ksparse, judged = map(os.path.abspath, sys.argv[1:])
-    failures = flows_differ(flows) + workbench_differs(workbench) + checks_differ(ksparse) + judged_differs(judged)
+    flows, workbench, ksparse = map(os.path.abspath, sys.argv[1:])
+    failures = flows_differ(flows) + workbench_differs(workbench) + checks_differ(ksparse) + chains_differ(ksparse)
     print(f"smoke: {failures} differences in large texts")
     return 1 if failures else 0
 

@@ -2,7 +2,7 @@
 import re
 
 from reference import attributes, conditions, macros
-from reference.commands import answer as command_answer
+from reference.judging import answer as command_answer
 from reference.preprocessing import MALFORMED, NoSuchFile, Refusal, Unit
 from reference.scanning import Opening, is_identifier, scan
 

@@ -87,5 +87,6 @@ class Body:
         for member in placed:
             for name, behind in self.names(member):
                 of.members.setdefault(name, (member, *behind))
+        of.parts, of.is_union = [member for member in placed if member.name or member.width is None], self.is_union
         of.size, of.alignment = placing.size(), placing.alignment
         of.has_const = any(has_const(member.type) for member in placed)

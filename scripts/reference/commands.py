@@ -1,10 +1,5 @@
-"""Words and files to what a command writes and its status."""
-import rules
-
-from . import reading
-from .macros import Passed
-from .preprocessing import NoSuchFile, Refusal, Unit, text_of
-from .scanning import IS_WORD, Place
+"""The words of a command, and a line that it writes."""
+from .scanning import IS_WORD
 
 KEPT_WORDS = (b"eval", b"gen", b"link", b"index", b"annotate")
 ON = (b"address-space", b"bitwise", b"context", b"non-pointer-null")
@@ -66,44 +61,3 @@ class Command:
 
 def line(paths, place, text):
     return b"%b:%d:%d: %b\n" % (paths[place.file], place.line, place.column, text)
-
-
-def checked(unit, classes):
-    """The status of the check of a unit, and its warnings or the line of its refusal."""
-    try:
-        refused = reading.refusal(unit.tokens)
-    except Passed as passed:
-        return LIMIT, b"ksparse: limit: %b\n" % passed.args[0]
-    if refused is not None:
-        at, text = refused
-        return REFUSED, line(unit.paths, unit.tokens[at].place, text.encode("latin-1"))
-    undefined = [(place, b"warning: undefined preprocessor identifier '%b'" % name) for place, name in unit.undefined]
-    try:
-        found = rules.Reader(unit.tokens).unit()
-    except rules.NotInForm:
-        return REFUSED, line(unit.paths, Place(1, 1, 1), b"error[29]: form not built")
-    shown = undefined * (b"undef" in classes) + found * (b"address-space" in classes)
-    return WARNED if shown else CLEAN, b"".join(line(unit.paths, *failure) for failure in shown)
-
-
-def answer(words, files):
-    """What a command writes to standard output and to standard error, and its status. `files` has their bytes by path."""
-    try:
-        command = Command(words)
-    except BadWord as bad:
-        return b"", b"ksparse: bad word: %b\n" % bad.args[0], USAGE
-    if command.file is None:
-        return b"", b"ksparse: missing file\n", USAGE
-    unit = Unit(files, command.directories, command.lines)
-    try:
-        unit.preprocess(command.file)
-    except Refusal as refusal:
-        return b"", line(unit.paths, *refusal.args), REFUSED
-    except NoSuchFile as missing:
-        return b"", b"ksparse: error[1]: no such file: %b\n" % missing.args[0], REFUSED
-    except Passed as passed:
-        return b"", b"ksparse: limit: %b\n" % passed.args[0], LIMIT
-    if command.expands:
-        return text_of(unit.tokens), b"", CLEAN
-    status, err = checked(unit, command.classes)
-    return b"", err, status

@@ -6,6 +6,7 @@ from . import trees, types
 from .aggregates import Body, Member
 from .constants import Constant, wrapped
 from .expressions import MOST_BYTES
+from .initializers import Initializing, can_be_initialized
 from .pairs import Fact
 from .types import INT, KINDS, NONE, Aggregate, Marks, Type
 
@@ -27,12 +28,13 @@ class NotBuilt(Exception):
 
 class Declared(NamedTuple):
     """What a declarator or an enumerator declares: its type where that is known, its name where it has linkage, whether it is a
-    register's, and the constant of an enumerator."""
+    register's, the constant of an enumerator, and whether an object lasts from the start to the end."""
 
     type: Type | None
     linked: bytes | None
     register: bool
     constant: Constant | None = None
+    is_static: bool = False
 
 
 class Attributes(NamedTuple):
@@ -132,7 +134,7 @@ def has(specifiers, kind):
     return any(part.kind == kind for _, part in specifiers.parts)
 
 
-class Declarations:
+class Declarations(Initializing):
     """Goes over declarations. A child of it knows statements, and has the rows of expressions."""
 
     def start(self, found, expressions, hidden):
@@ -144,10 +146,12 @@ class Declarations:
         self.linked = {}
         self.tags = {}
         self.scopes = [Scope()]
-        # Objects that are incomplete so far; functions that have a body; the parameters of each list
+        # Objects that may be incomplete so far; functions with a body and initialized objects; the parameters of each list
         self.tentative = []
         self.defined = set()
         self.parameters = {}
+        # Compound literals that are static, by their tokens
+        self.static_literals = set()
 
     def noted(self, lists):
         """The numbers of contexts are expressions."""
@@ -473,7 +477,7 @@ class Declarations:
         if fact is not None and (fact.type.form != "integer" or fact.constant is None or fact.constant.number == 0):
             self.found.refuses(37, node.at)
 
-    def declaration(self, node):
+    def declaration(self, node, is_evaluated=True):
         (_, specifiers), *parts = node.parts
         base = self.specified(specifiers, node.at)
         leading = ()
@@ -482,36 +486,109 @@ class Declarations:
             if part.kind == "LeadingAttributes":
                 leading = [each for _, each in part.parts]
                 continue
-            if part.kind != "Declarator":
-                raise NotBuilt(part.kind)
             lists = [*leading]
             while parts and parts[0][1].kind == "AttributeList":
                 lists.append(parts.pop(0)[1])
             of = self.with_attributes(self.derived(base, part, node.at), lists, node.at)
-            self.declare(node, specifiers, part, of, contexts(own_lists(specifiers, part, lists)))
+            sums = contexts(own_lists(specifiers, part, lists))
+            if parts and parts[0][1].kind == "Initializer":
+                initializer = parts.pop(0)[1].parts[0][1]
+                self.declare_initialized(node, specifiers, part, of, sums, initializer, is_evaluated)
+            else:
+                self.declare(node, specifiers, part, of, sums)
             leading = ()
 
     def declare(self, node, specifiers, declarator, of, sums, is_definition=False):
         """A declarator declares its name."""
-        name, token, is_file = declarator.name, declarator.at, self.is_at_file_scope()
-        self.found.names.setdefault(node.at, name)
+        is_file, is_extern = self.is_at_file_scope(), has(specifiers, "ExternSpecifier")
         if has(specifiers, "TypedefSpecifier"):
-            self.declared[token] = Declared(of and self.typedef(declarator, of), None, False)
-            self.hides(token, name, False)
+            self.declare_typedef(node, declarator, of)
             return
-        is_function, is_extern = of is not None and of.form == "function", has(specifiers, "ExternSpecifier")
-        is_linked = is_file or is_extern or is_function
-        if is_file and not is_extern and of is not None and not is_function:
-            self.tentative.append((token, of))
-        is_definition = is_definition or is_file and not is_extern and of is not None and not is_function
-        if is_definition and not has(specifiers, "StaticSpecifier") and name not in self.linked:
-            self.found.fails("S1", token, word=name)
+        is_object = of is not None and of.form != "function"
+        if is_file and not is_extern and is_object:
+            self.tentative.append((declarator.at, of))
+        is_linked = self.is_linked(specifiers, of)
         if not is_linked and of is not None and not types.is_complete_object(of):
-            of = self.found.refuses(10, token)
-        self.declared[token] = Declared(of, name if is_linked else None, has(specifiers, "RegisterSpecifier"))
-        self.hides(token, name, is_linked)
+            of = self.found.refuses(10, declarator.at)
+        self.declare_object(node, specifiers, declarator, of, is_definition or is_file and not is_extern and is_object)
         if is_linked and of is not None:
             self.link(declarator, of, sums)
+
+    def declare_typedef(self, node, declarator, of):
+        self.found.names.setdefault(node.at, declarator.name)
+        self.declared[declarator.at] = Declared(of and self.typedef(declarator, of), None, False)
+        self.hides(declarator.at, declarator.name, False)
+
+    def declare_object(self, node, specifiers, declarator, of, is_definition):
+        """A declarator declares the name of an object or a function, of which the linkage isn't noted yet."""
+        name, token, is_linked = declarator.name, declarator.at, self.is_linked(specifiers, of)
+        self.found.names.setdefault(node.at, name)
+        if is_definition and not has(specifiers, "StaticSpecifier") and name not in self.linked:
+            self.found.fails("S1", token, word=name)
+        is_static = is_linked or has(specifiers, "StaticSpecifier")
+        self.declared[token] = Declared(of, name if is_linked else None, has(specifiers, "RegisterSpecifier"), is_static=is_static)
+        self.hides(token, name, is_linked)
+
+    def is_linked(self, specifiers, of):
+        """Whether a declarator's name has linkage (C11 6.2.2)."""
+        is_function = of is not None and of.form == "function"
+        return self.is_at_file_scope() or has(specifiers, "ExternSpecifier") or is_function
+
+    def declare_initialized(self, node, specifiers, declarator, of, sums, initializer, is_evaluated):
+        """A declarator with an initializer declares its name; names in the initializer see what is declared, and those behind it the
+        completed type."""
+        if has(specifiers, "TypedefSpecifier"):
+            self.declare_typedef(node, declarator, of)
+            self.judges(initializer, is_evaluated)
+            self.found.refuses(38, initializer.at)
+            return
+        is_file, is_linked = self.is_at_file_scope(), self.is_linked(specifiers, of)
+        if of is not None and not can_be_initialized(of):
+            of = self.found.refuses(10, declarator.at)
+        self.declare_object(node, specifiers, declarator, of, is_file)
+        earlier = self.linked.setdefault(declarator.name, []) if is_linked else []
+        number = len(earlier)
+        earlier += [(of, sums)] if of is not None else []
+        values = self.judges(initializer, is_evaluated)
+        del earlier[number : number + 1]
+        if is_linked and not is_file:
+            self.found.refuses(38, initializer.at)
+        elif of is not None:
+            of = self.completed(declarator, of, initializer, values, is_file or has(specifiers, "StaticSpecifier"))
+            self.declared[declarator.at] = self.declared[declarator.at]._replace(type=of)
+        if is_linked and of is not None:
+            self.define(declarator)
+            self.link(declarator, of, sums)
+
+    def completed(self, declarator, of, initializer, values, is_static):
+        """The type of an object behind its initializer."""
+        completed = self.initializes(of, initializer, values, is_static, self.found.refuses)
+        self.found.is_unclear |= completed is None and not types.is_complete(of)
+        return completed or of
+
+    def define(self, declarator):
+        """A function gets its body, or an object its initializer."""
+        if declarator.name in self.defined:
+            self.found.refuses(36, declarator.at, declarator.name)
+        self.defined.add(declarator.name)
+
+    def compound_literal(self, node, is_evaluated):
+        """What is known of a compound literal, which is static where no scope but the file's is around it."""
+        named, braced = (part for _, part in node.parts)
+        is_static, of = self.is_at_file_scope(), self.named_type(named)
+        values = self.judges(braced, is_evaluated)
+        if is_static:
+            self.static_literals.add(node.at)
+        if of is None:
+            return None
+        if not can_be_initialized(of):
+            return self.found.breaks(10, node.at)
+        completed = self.initializes(of, braced, values, is_static, self.found.breaks)
+        return completed and Fact(completed, is_place=True)
+
+    def is_static(self, node):
+        """Whether an object or a function that is named, or a compound literal, lasts from the start to the end."""
+        return node.at in self.static_literals if node.kind == "CompoundLiteral" else self.declared[node.number].is_static
 
     def hides(self, token, name, is_linked):
         """Rule S2: a name of a block hides one of an outer scope."""
@@ -567,9 +644,7 @@ class Declarations:
         lists = [part for _, part in parts if part.kind == "AttributeList"]
         of = self.with_attributes(self.derived(self.specified(specifiers, node.at), declarator, node.at), lists, node.at)
         self.declare(node, specifiers, declarator, of, contexts(own_lists(specifiers, declarator, lists)), True)
-        if declarator.name in self.defined:
-            self.found.refuses(36, declarator.at, declarator.name)
-        self.defined.add(declarator.name)
+        self.define(declarator)
         if of is not None and of.inner.is_aggregate() and not types.is_complete(of.inner):
             self.found.refuses(10, declarator.at)
             self.found.is_unclear = True

@@ -22,6 +22,8 @@ class Expressions:
     def __init__(self, found, judge):
         self.found = found
         self.judge = judge
+        # What is known of the expressions so far, by their tokens
+        self.known = {}
         self.rows = {
             "Name": self.name, "IntegerConstant": self.literal, "CharacterConstant": self.literal, "StringLiteral": self.string,
             "Parenthesized": self.parenthesized, "Indirection": self.indirection, "Address": self.address,
@@ -31,6 +33,7 @@ class Expressions:
             "SizeofExpression": self.sizeof, "SizeofType": self.sizeof, "AlignofType": self.sizeof,
             "StatementExpression": self.statement_expression, "BuiltinExpect": self.expect,
             "Member": self.member, "PointerMember": self.member, "BuiltinOffsetof": self.offset,
+            "CompoundLiteral": self.compound_literal,
         }
         self.rows |= {kind: self.binary for kind in ARITHMETIC | BITWISE | COMPARISONS}
         self.rows |= {kind: self.step for kind in STEPS}
@@ -43,7 +46,8 @@ class Expressions:
         kind = node.kind.split(" ")[0]
         if kind not in self.rows:
             raise self.judge.not_built(node)
-        return self.rows[kind](node, is_evaluated)
+        found = self.known[node.at] = self.rows[kind](node, is_evaluated)
+        return found
 
     def value(self, node, is_evaluated):
         """What is known of the value of an expression."""
@@ -121,6 +125,9 @@ class Expressions:
 
     def statement_expression(self, node, is_evaluated):
         return self.judge.statement_expression(node.parts[0][1], is_evaluated)
+
+    def compound_literal(self, node, is_evaluated):
+        return self.judge.compound_literal(node, is_evaluated)
 
     # Places
 
@@ -376,11 +383,12 @@ class Expressions:
             self.found.fails("B4", token, value.type, to)
 
     def truncation(self, token, value, to):
-        """Rule S8, for a constant that is cast to an integer type."""
+        """Rule S8, for a constant that is cast to an integer type; the number of a fouled one is of the promoted type."""
         if KINDS[to.kind].bits >= KINDS[value.type.kind].bits:
             return
         number, becomes = value.constant.number, constants.wrapped(value.constant.number, to.kind)
-        if constants.wrapped(becomes, value.type.kind) != number:
+        back = types.promoted(value.type).kind if value.fouled else value.type.kind
+        if constants.wrapped(becomes, back) != number:
             self.found.fails("S8", token, word=b"%d becomes %d" % (number, becomes))
 
     # Operators between operands

@@ -1,14 +1,12 @@
-"""What the judge says of a unit, from the rules alone: the types of its nodes, the rules that fail, the least broken constraint.
-
-Judged is everything but initializers and compound literals.
-"""
+"""What the judge says of a unit, from the rules alone: the types of its nodes, the rules that fail, the least broken constraint."""
 from . import pairs, reading, trees, types
 from .commands import BadWord, Command, line
 from .declarations import Declarations, NotBuilt, Scope
 from .expressions import Expressions
 from .macros import Passed
 from .pairs import Fact
-from .preprocessing import NoSuchFile, Refusal, Unit
+from .preprocessing import NoSuchFile, Refusal, Unit, text_of
+from .scanning import Place
 from .statements import Around, Inside, Labels, Loop, Switch
 from .texts import Found
 
@@ -32,7 +30,9 @@ class Indexed(trees.Builder):
             self.hidden[at] = outer[1]
 
     def bind(self, at, is_typedef):
-        self.hide(self.spelled(at), at, self.scopes[:-1])
+        # a name that stands again in its scope hides nothing more
+        if ("name", self.spelled(at)) not in self.scopes[-1]:
+            self.hide(self.spelled(at), at, self.scopes[:-1])
         super().bind(at, is_typedef)
 
     def body(self, own=None):
@@ -125,7 +125,7 @@ class Judge(Declarations):
         return None
 
     def declared_in_body(self, node, is_evaluated):
-        self.declaration(node)
+        self.declaration(node, is_evaluated)
 
     def within(self, around, node, is_evaluated):
         """A statement within a loop or a switch."""
@@ -167,7 +167,7 @@ class Judge(Declarations):
         begin, condition, step, part = (part for _, part in node.parts)
         self.scopes.append(Scope())
         if begin.kind == "Declaration":
-            self.declaration(begin)
+            self.declaration(begin, is_evaluated)
         elif begin.kind != "OmittedExpression":
             self.expressions.value(begin, is_evaluated)
         if condition.kind != "OmittedExpression":
@@ -263,6 +263,17 @@ def parse_refusal(unit):
     return REFUSED, line(unit.paths, unit.tokens[at].place, text.encode("latin-1"))
 
 
+def has_contexts(root):
+    """Whether a context stands in a tree, as an attribute or as a statement."""
+    waiting = [root]
+    while waiting:
+        node = waiting.pop()
+        if node.kind in ("ContextAttribute", "ContextStatement"):
+            return True
+        waiting += [part for _, part in node.parts]
+    return False
+
+
 def judged(unit, classes):
     """The status of what the judge says of a preprocessed unit, and its lines."""
     refused = parse_refusal(unit)
@@ -277,6 +288,8 @@ def judged(unit, classes):
         if at is None:
             return LIMIT, b"ksparse: limit: %b\n" % text
         return REFUSED, line(unit.paths, builder.tokens[at].place, text)
+    if has_contexts(root):
+        return REFUSED, line(unit.paths, Place(1, 1, 1), b"error[29]: form not built")
     undefined = [(place, b"warning: undefined preprocessor identifier '%b'" % name) for place, name in unit.undefined]
     shown = undefined * (b"undef" in classes) + list(found.lines(builder.tokens, classes))
     return WARNED if shown else CLEAN, b"".join(line(unit.paths, *each) for each in shown)
@@ -296,14 +309,17 @@ def preprocessing_refusal(unit, path):
 
 
 def answer(words, files):
-    """What `judged` writes to standard output and to standard error for these words, and its status. Raises `NotBuilt` where
-    this reader says nothing of the unit."""
+    """What a command writes to standard output and to standard error, and its status. `files` has their bytes by path. Raises
+    `NotBuilt` where this reader says nothing of the unit."""
     try:
         command = Command(words)
-    except BadWord:
-        command = None
-    if command is None or command.file is None or command.expands:
-        return b"", b"usage: judged WORDS FILE | judged -types FILE\n", USAGE
+    except BadWord as bad:
+        return b"", b"ksparse: bad word: %b\n" % bad.args[0], USAGE
+    if command.file is None:
+        return b"", b"ksparse: missing file\n", USAGE
     unit = Unit(files, command.directories, command.lines)
-    status, err = preprocessing_refusal(unit, command.file) or judged(unit, command.classes)
+    refused = preprocessing_refusal(unit, command.file)
+    if refused is None and command.expands:
+        return text_of(unit.tokens), b"", CLEAN
+    status, err = refused or judged(unit, command.classes)
     return b"", err, status

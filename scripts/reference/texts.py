@@ -45,7 +45,7 @@ CONSTRAINTS = {
     26: b"negative array size", 27: b"bad element type", 28: b"bad result type", 29: b"bad bit-field",
     30: b"unsupported: restricted bit-field", 31: b"bitwise on a type that is not an integer", 32: b"enumerator is not constant",
     33: b"enumerator out of range", 34: b"member '%b' declared twice", 35: b"tag '%b' redeclared", 36: b"'%b' defined twice",
-    37: b"static assertion failed", 40: b"bad designator", 41: b"typedef '%b' has another type",
+    37: b"static assertion failed", 38: b"extra initializer", 39: b"initializer is not constant", 40: b"bad designator", 41: b"typedef '%b' has another type",
 }
 
 

@@ -94,6 +94,13 @@ def of_type(*nodes):
     return tuple((T, node) for node in nodes)
 
 
+def with_part(node, place, part):
+    """A node with another part at a place, in the same role."""
+    parts = list(node.parts)
+    parts[place] = (parts[place][0], part)
+    return node._replace(parts=tuple(parts))
+
+
 class Builder:
     """Builds the nodes of tokens that are known to be a unit."""
 
@@ -179,8 +186,9 @@ class Builder:
         declared = self.declare(specifiers)
         lists = self.attribute_lists()
         if self.word() == "{":
+            named = self.hiding_own_name(declared.node)
             body = self.body(declared.own)
-            return Node("FunctionDefinition", first, parts=of_type(specifiers, declared.node, *lists) + evaluated(body))
+            return Node("FunctionDefinition", first, parts=of_type(specifiers, named, *lists) + evaluated(body))
         return self.declaration(first, specifiers, declared, lists)
 
     def declaration(self, first, specifiers, declared=None, lists=()):
@@ -220,6 +228,19 @@ class Builder:
         declared = self.declarator()
         hidden = self.bind(declared.name, any(part.kind == "TypedefSpecifier" for _, part in specifiers.parts))
         return declared._replace(node=declared.node._replace(number=hidden))
+
+    def hiding_own_name(self, node):
+        """A function's declarator in front of its body, where a parameter of the function's name leads to it."""
+        place = max((place for place, (_, part) in enumerate(node.parts) if part.kind != "ParenthesizedAttributes"), default=None)
+        if place is None or node.parts[place][1].kind != "FunctionDeclarator":
+            return node
+        own = node.parts[place][1]
+        for number, (_, parameter) in enumerate(own.parts):
+            for behind, (_, part) in enumerate(parameter.parts):
+                if part.kind == "Declarator" and part.name == node.name:
+                    leading = part._replace(number=self.place(self.found("name", node.name)[1]))
+                    return with_part(node, place, with_part(own, number, with_part(parameter, behind, leading)))
+        return node
 
     def assertion(self):
         at = self.take()

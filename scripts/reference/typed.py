@@ -1,4 +1,4 @@
-"""What `judged -types` writes of a unit: the type of each expression, whether it is a place, and its constant; or the constraint that
+"""What `types` writes of a unit: the type of each expression, whether it is a place, and its constant; or the constraint that
 it breaks."""
 from typing import NamedTuple
 
@@ -62,8 +62,19 @@ class Listed(Expressions):
 
 
 class Typed(Judge):
+    """`types` judges each expression by itself, and no initializers: it knows neither compound literals nor the length that an
+    initializer gives, so nothing is said here of units with such."""
+
     rows = Listed
     notes = Noted
+
+    def compound_literal(self, node, is_evaluated):
+        self.found.is_unclear = True
+        return super().compound_literal(node, is_evaluated)
+
+    def completed(self, declarator, of, *rest):
+        self.found.is_unclear |= not types.is_complete(of)
+        return super().completed(declarator, of, *rest)
 
 
 def known(fact, names):
@@ -89,17 +100,17 @@ def typed(unit):
     judge = Typed(builder.hidden)
     judge.unit(root)
     if judge.found.is_unclear:
-        raise NotBuilt("what stands behind a bad member, tag or definition")
+        raise NotBuilt("what stands behind a bad member, tag or definition, a compound literal or an array without a length")
     return b"".join(lines(unit, builder.tokens, judge))
 
 
 def answer(words, files):
-    """What `judged` writes to standard output and to standard error for these words, of which the first may be `-types`, and its
-    status. Raises `NotBuilt` where this reader says nothing of the unit."""
-    if len(words) != 2 or words[0] != b"-types":
-        return judging.answer(words, files)
+    """What `types` writes to standard output and to standard error for these words, and its status. Raises `NotBuilt` where this
+    reader says nothing of the unit."""
+    if len(words) != 1:
+        return b"", b"usage: types FILE\n", judging.USAGE
     unit = Unit(files, [], b"")
-    refused = judging.preprocessing_refusal(unit, words[1]) or judging.parse_refusal(unit)
+    refused = judging.preprocessing_refusal(unit, words[0]) or judging.parse_refusal(unit)
     if refused is not None:
         status, err = refused
         return b"", err, status

@@ -61,6 +61,8 @@ class Aggregate:
         self.words = words
         # The way to each member by its name, through members without one; None before the body's end
         self.members = None
+        # The members that hold something, in order: all but bit-fields without a name
+        self.parts, self.is_union = [], False
         self.size, self.alignment, self.has_const = 0, 1, False
 
 

@@ -1,0 +1,34 @@
+#ifndef SHIM_PLATFORM_DEVICE_H
+#define SHIM_PLATFORM_DEVICE_H
+#include <linux/module.h>
+struct device {
+	void *driver_data;
+};
+struct resource {
+	u64 start, end;
+};
+struct platform_device {
+	const char *name;
+	struct device dev;
+	unsigned int num_resources;
+	struct resource *resource;
+};
+struct platform_driver {
+	int (*probe)(struct platform_device *);
+	int (*remove)(struct platform_device *);
+	struct {
+		const char *name;
+		struct module *owner;
+	} driver;
+};
+extern int platform_driver_register(struct platform_driver *driver);
+extern void platform_driver_unregister(struct platform_driver *driver);
+static inline void platform_set_drvdata(struct platform_device *device, void *data)
+{
+	device->dev.driver_data = data;
+}
+static inline void *platform_get_drvdata(const struct platform_device *device)
+{
+	return device->dev.driver_data;
+}
+#endif

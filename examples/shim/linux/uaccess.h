@@ -1,0 +1,6 @@
+#ifndef SHIM_UACCESS_H
+#define SHIM_UACCESS_H
+#include <linux/types.h>
+extern unsigned long __must_check copy_from_user(void *to, const void __user *from, unsigned long count);
+extern unsigned long __must_check copy_to_user(void __user *to, const void *from, unsigned long count);
+#endif

@@ -17,7 +17,7 @@ const RULES: [(RuleCode, u8); 26] = [
 
 // The errors and the numbers that their lines show, from the list of errors.
 #[rattlefmt::skip]
-const ERRORS: [(ErrorKind, u8); 90] = [
+const ERRORS: [(ErrorKind, u8); 89] = [
     (ErrorKind::NoSuchFile, 1),
     (ErrorKind::IncludeNotFound, 2),
     (ErrorKind::UnterminatedComment, 3),
@@ -44,7 +44,6 @@ const ERRORS: [(ErrorKind, u8); 90] = [
     (ErrorKind::BadEscape, 26),
     (ErrorKind::EmptyCharacterConstant, 27),
     (ErrorKind::BadDeclaration, 28),
-    (ErrorKind::FormNotBuilt, 29),
     (ErrorKind::FloatingType, 30),
     (ErrorKind::InlineAssembly, 31),
     (ErrorKind::ParameterWithoutType, 32),

@@ -2,7 +2,7 @@
 use Rattle.std.specs.Prelude.{ℕ, List, [], ◌++◌, codes}
 use Rattle.std.specs.Fmt.{decimal}
 use Rattle.vocabulary.specs.declared.error_kind.ErrorKind.{ErrorKind}
-use Rattle.vocabulary.specs.declared.error_kind.ErrorKind.TheVariants.{NoSuchFile, IncludeNotFound, UnterminatedComment, UnterminatedLiteral, UnterminatedConditional, ConditionalWithoutIf, ConditionalAfterElse, MalformedDirective, UnknownDirective, MacroRedefined, BadMacroDefinition, WrongNumberOfMacroArguments, UnterminatedMacroCall, BadPaste, BadIfExpression, DivisionByZeroInIf, ErrorDirective, SyntaxError, NotDeclared, Redeclared, BadAttribute, BadNumber, NumberTooLarge, BadEscape, EmptyCharacterConstant, BadDeclaration, FormNotBuilt, FloatingType, InlineAssembly, ParameterWithoutType, NestedFunction, ComputedGoto, GenericSelection, AtomicType, ComplexType, ThreadLocal, Int128, LocalLabel, UniversalCharacterName, WideOrUtfLiteral, CaseRange, DesignatorRange, AutoType, Alignas, Builtin, PragmaOperator, QualifierInArrayBrackets, BadScriptLine, NotPlain, CannotDereference, CannotTakeAddress, NotModifiable, WrongOperandTypes, CalledObjectIsNoFunction, WrongNumberOfArguments, NoSuchMember, NoAggregate, VoidValueUsed, IncompleteType, IncompatibleTypes, BadCast, ConditionIsNotScalar, SwitchOnNoInteger, CaseLabelIsNotConstant, CaseValueUsedTwice, TwoDefaultLabels, LabelOutsideSwitch, JumpOutsideLoop, LabelIsNotDefined, LabelDefinedTwice, JumpIntoStatementExpression, ValueReturnedFromVoid, ReturnWithoutValue, VariableLengthArray, NegativeArraySize, BadElementType, BadResultType, BadBitField, RestrictedBitField, BitwiseOnNoInteger, EnumeratorIsNotConstant, EnumeratorOutOfRange, MemberDeclaredTwice, TagRedeclared, DefinedTwice, StaticAssertionFailed, ExtraInitializer, InitializerIsNotConstant, BadDesignator, TypedefHasAnotherType}
+use Rattle.vocabulary.specs.declared.error_kind.ErrorKind.TheVariants.{NoSuchFile, IncludeNotFound, UnterminatedComment, UnterminatedLiteral, UnterminatedConditional, ConditionalWithoutIf, ConditionalAfterElse, MalformedDirective, UnknownDirective, MacroRedefined, BadMacroDefinition, WrongNumberOfMacroArguments, UnterminatedMacroCall, BadPaste, BadIfExpression, DivisionByZeroInIf, ErrorDirective, SyntaxError, NotDeclared, Redeclared, BadAttribute, BadNumber, NumberTooLarge, BadEscape, EmptyCharacterConstant, BadDeclaration, FloatingType, InlineAssembly, ParameterWithoutType, NestedFunction, ComputedGoto, GenericSelection, AtomicType, ComplexType, ThreadLocal, Int128, LocalLabel, UniversalCharacterName, WideOrUtfLiteral, CaseRange, DesignatorRange, AutoType, Alignas, Builtin, PragmaOperator, QualifierInArrayBrackets, BadScriptLine, NotPlain, CannotDereference, CannotTakeAddress, NotModifiable, WrongOperandTypes, CalledObjectIsNoFunction, WrongNumberOfArguments, NoSuchMember, NoAggregate, VoidValueUsed, IncompleteType, IncompatibleTypes, BadCast, ConditionIsNotScalar, SwitchOnNoInteger, CaseLabelIsNotConstant, CaseValueUsedTwice, TwoDefaultLabels, LabelOutsideSwitch, JumpOutsideLoop, LabelIsNotDefined, LabelDefinedTwice, JumpIntoStatementExpression, ValueReturnedFromVoid, ReturnWithoutValue, VariableLengthArray, NegativeArraySize, BadElementType, BadResultType, BadBitField, RestrictedBitField, BitwiseOnNoInteger, EnumeratorIsNotConstant, EnumeratorOutOfRange, MemberDeclaredTwice, TagRedeclared, DefinedTwice, StaticAssertionFailed, ExtraInitializer, InitializerIsNotConstant, BadDesignator, TypedefHasAnotherType}
 
 -- The number of an error, and its text, which is parted where it names a word.
 pub record ErrorRow : Type 0 where
@@ -46,7 +46,6 @@ error_row NumberTooLarge = plain 25 (codes "number too large")
 error_row BadEscape = plain 26 (codes "bad escape or character constant")
 error_row EmptyCharacterConstant = plain 27 (codes "empty character constant")
 error_row BadDeclaration = plain 28 (codes "bad declaration")
-error_row FormNotBuilt = plain 29 (codes "form not built")
 error_row FloatingType = plain 30 (codes "unsupported: floating type")
 error_row InlineAssembly = plain 31 (codes "unsupported: inline assembly")
 error_row ParameterWithoutType = plain 32 (codes "unsupported: parameter without a type")

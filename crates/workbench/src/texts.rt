@@ -385,7 +385,7 @@ fn rule_of(word: &[u8]) -> Option<RuleCode> {
 }
 
 /// The errors in the order of their numbers.
-static ERRORS: [ErrorKind; 90] = [
+static ERRORS: [ErrorKind; 89] = [
     ErrorKind::NoSuchFile,
     ErrorKind::IncludeNotFound,
     ErrorKind::UnterminatedComment,
@@ -412,7 +412,6 @@ static ERRORS: [ErrorKind; 90] = [
     ErrorKind::BadEscape,
     ErrorKind::EmptyCharacterConstant,
     ErrorKind::BadDeclaration,
-    ErrorKind::FormNotBuilt,
     ErrorKind::FloatingType,
     ErrorKind::InlineAssembly,
     ErrorKind::ParameterWithoutType,

@@ -41,14 +41,13 @@ pub record ErrorExamples : Type 0 where
       ∷ []
   -- of syntax, names, attributes and literals
   pub syntax :
-      lines_with [] (errors.BadAttribute ∷ errors.BadNumber ∷ errors.NumberTooLarge ∷ errors.BadEscape ∷ errors.EmptyCharacterConstant ∷ errors.BadDeclaration ∷ errors.FormNotBuilt ∷ [])
+      lines_with [] (errors.BadAttribute ∷ errors.BadNumber ∷ errors.NumberTooLarge ∷ errors.BadEscape ∷ errors.EmptyCharacterConstant ∷ errors.BadDeclaration ∷ [])
       ≡ codes "t.c:3:28: error[23]: bad attribute\n"
       ∷ codes "t.c:3:28: error[24]: bad number\n"
       ∷ codes "t.c:3:28: error[25]: number too large\n"
       ∷ codes "t.c:3:28: error[26]: bad escape or character constant\n"
       ∷ codes "t.c:3:28: error[27]: empty character constant\n"
       ∷ codes "t.c:3:28: error[28]: bad declaration\n"
-      ∷ codes "t.c:3:28: error[29]: form not built\n"
       ∷ []
   -- of syntax, names, attributes and literals, which name a word
   pub syntax_named :

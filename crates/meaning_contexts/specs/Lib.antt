@@ -1,0 +1,4 @@
+pub mod Units
+pub mod Failures
+pub mod Laws
+pub mod examples

@@ -1,0 +1,25 @@
+// What is proved of failures on paths.
+ghost use Rattle.meaning_contexts.specs.Laws.{ContextFailuresAreOfOneClass, ContextFailuresAreUnique, FailuresOnPathsAreGathered, UntoldFunctionsBalance};
+ghost use Rattle.meaning_contexts.specs.examples.Failures.{FailureExamples};
+
+/// A unit that was judged has one list of failures on paths at most.
+pub fn each_unit_has_one_list_of_failures()
+    ensures { ContextFailuresAreUnique }
+{}
+
+/// What fails on some path of a unit is what its functions have.
+pub fn paths_have_what_functions_have()
+    ensures { FailuresOnPathsAreGathered }
+{}
+
+/// Where nothing fails on the paths of a unit, each path of a function that comes to an end has there the count with which the function
+/// says that it is left. What fails on paths is of the class of contexts.
+pub fn untold_functions_balance()
+    ensures balance { UntoldFunctionsBalance }
+    ensures class { ContextFailuresAreOfOneClass }
+{}
+
+/// What is told of the answers over the paths of a function.
+pub fn worked_examples()
+    ensures { FailureExamples }
+{}

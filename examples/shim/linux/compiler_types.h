@@ -13,11 +13,11 @@
 #define __aligned(bytes) __attribute__((aligned(bytes)))
 #define __init
 #define __exit
-/* Contexts aren't judged yet, and a unit with one is refused: they are left out. */
-#define __must_hold(lock)
-#define __acquires(lock)
-#define __releases(lock)
-#define __acquire(lock) ((void)0)
-#define __release(lock) ((void)0)
-#define __cond_lock(lock, condition) (condition)
+/* Contexts: what is held where a function is called and where it is left. */
+#define __must_hold(lock) __attribute__((context(lock, 1, 1)))
+#define __acquires(lock) __attribute__((context(lock, 0, 1)))
+#define __releases(lock) __attribute__((context(lock, 1, 0)))
+#define __acquire(lock) __context__(lock, 1)
+#define __release(lock) __context__(lock, -1)
+#define __cond_lock(lock, condition) ((condition) ? ({ __acquire(lock); 1; }) : 0)
 #endif

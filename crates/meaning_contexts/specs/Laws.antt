@@ -1,14 +1,17 @@
 -- What holds of failures on paths.
-use Rattle.std.specs.Prelude.{◌≡◌, ◌↔◌, ℕ, ◌<◌, pos, List, [], ◌∷◌, length, Contains}
-use Rattle.vocabulary.specs.declared.node_kind.NodeKind.TheVariants.{FunctionDefinition}
+use Rattle.std.specs.Prelude.{◌≡◌, ◌≢◌, ◌↔◌, ℕ, ◌<◌, pos, List, [], ◌∷◌, length, Contains}
+use Rattle.vocabulary.specs.declared.node_kind.NodeKind.TheVariants.{FunctionDefinition, ContextAttribute, ContextStatement}
 use Rattle.vocabulary.specs.declared.class.Class.TheVariants.{Context}
 use Rattle.vocabulary.specs.Rules.{rule_class}
 use Rattle.meaning_operands.specs.Failures.{Failure}
 use Rattle.meaning_paths.specs.Steps.{Step, End, count}
-use Rattle.meaning_typing.specs.Units.{kind_at}
+use Rattle.meaning_typing.specs.Facts.{Fact}
+use Rattle.meaning_typing.specs.Surroundings.{Surrounding}
+use Rattle.meaning_typing.specs.Units.{UnitNodes, kind_at}
 use Rattle.meaning_control.specs.Functions.{IsPathOfFunction}
 use Rattle.meaning_control.specs.Nodes.{JudgedUnit}
 use Rattle.meaning_contexts.specs.Failures.{AreContextFailures, FailsOnPaths, sums_of}
+use Rattle.meaning_contexts.specs.Units.{judged_of}
 
 -- There is one list
 
@@ -46,3 +49,15 @@ abbrev pub ContextFailuresAreOfOneClass : Type 0
 ContextFailuresAreOfOneClass =
     (unit : JudgedUnit) (failures : List Failure) → AreContextFailures unit failures
     → (failure : Failure) → Contains failures failure → rule_class failure.rule ≡ Context
+
+-- Units without contexts
+
+-- no attribute says a context, and no statement changes a count
+abbrev pub IsWithoutContexts : UnitNodes → Type 0
+IsWithoutContexts nodes = (handle : ℕ) → (kind_at nodes handle ≢ ContextAttribute) × (kind_at nodes handle ≢ ContextStatement)
+
+-- there nothing fails on paths
+abbrev pub UnitsWithoutContextsFailNowhere : Type 0
+UnitsWithoutContextsFailNowhere =
+    (nodes : UnitNodes) (surroundings : List Surrounding) (facts : List Fact) → IsWithoutContexts nodes
+    → AreContextFailures (judged_of nodes surroundings facts) []

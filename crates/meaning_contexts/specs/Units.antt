@@ -1,5 +1,5 @@
 -- A unit that was judged, as control sees it: by what it is known of its nodes.
-use Rattle.std.specs.Prelude.{ℕ, ℤ, pos, List, Option, Some, None}
+use Rattle.std.specs.Prelude.{ℤ, pos, List, Option, Some, None}
 use Rattle.meaning_typing.specs.Facts.{Fact, Expression, fact_at}
 use Rattle.meaning_typing.specs.Surroundings.{Surrounding}
 use Rattle.meaning_typing.specs.Units.{UnitNodes}

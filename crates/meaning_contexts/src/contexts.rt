@@ -1,5 +1,5 @@
 // What is proved of failures on paths.
-ghost use Rattle.meaning_contexts.specs.Laws.{ContextFailuresAreOfOneClass, ContextFailuresAreUnique, FailuresOnPathsAreGathered, UntoldFunctionsBalance};
+ghost use Rattle.meaning_contexts.specs.Laws.{ContextFailuresAreOfOneClass, ContextFailuresAreUnique, FailuresOnPathsAreGathered, UnitsWithoutContextsFailNowhere, UntoldFunctionsBalance};
 ghost use Rattle.meaning_contexts.specs.examples.Failures.{FailureExamples};
 
 /// A unit that was judged has one list of failures on paths at most.
@@ -17,6 +17,11 @@ pub fn paths_have_what_functions_have()
 pub fn untold_functions_balance()
     ensures balance { UntoldFunctionsBalance }
     ensures class { ContextFailuresAreOfOneClass }
+{}
+
+/// Nothing fails on the paths of a unit that has neither a context attribute nor a context statement.
+pub fn units_without_contexts_fail_nowhere()
+    ensures { UnitsWithoutContextsFailNowhere }
 {}
 
 /// What is told of the answers over the paths of a function.

@@ -8,6 +8,6 @@
 mod contexts;
 
 pub use contexts::{
-    each_unit_has_one_list_of_failures, paths_have_what_functions_have, untold_functions_balance,
-    worked_examples,
+    each_unit_has_one_list_of_failures, paths_have_what_functions_have,
+    units_without_contexts_fail_nowhere, untold_functions_balance, worked_examples,
 };

@@ -1,0 +1,12 @@
+pub mod Least
+pub mod Reaching
+pub mod Numbers
+pub mod Meetings
+pub mod Entries
+pub mod Scans
+pub mod Answering
+pub mod Standing
+pub mod Places
+pub mod Points
+pub mod Calls
+pub mod LoopExample

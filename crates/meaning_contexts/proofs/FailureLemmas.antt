@@ -1,4 +1,4 @@
--- A unit has one list of failures on paths at most, which has what fails; and functions without failures are balanced.
+-- A unit has one list of failures on paths, which has what fails; and functions without failures are balanced.
 use Rattle.std.proofs.Common.{◌≡◌, ◌⊎◌, inl, inr, ℕ, zero, suc, ◌<◌, pos, List, [], ◌∷◌, ◌++◌, length, Contains, refl, sym, ap, subst, ◌∙◌, arith}
 use Rattle.std.proofs.lemmas.List.Elements.{Contains-append_left, Contains-append_right, Contains-append_cases}
 use Rattle.vocabulary.specs.declared.class.Class.TheVariants as classes
@@ -12,7 +12,8 @@ use Rattle.meaning_typing.specs.Units.{kind_at}
 use Rattle.meaning_control.specs.Functions.{IsPathOfFunction}
 use Rattle.meaning_control.specs.Nodes.{JudgedUnit}
 use Rattle.meaning_contexts.specs.Failures.{AreFailuresAt, AreFailuresBefore, AreFailuresByKind, AreFailuresOfFunction, IsFunctionAnswer, failures_told, name_of, sums_of}
-use Rattle.meaning_contexts.specs.Laws.{ContextFailuresAreOfOneClass, ContextFailuresAreUnique, FailuresOnPathsAreGathered, IsBalanced, UntoldFunctionsBalance}
+use Rattle.meaning_reached.proofs.Calls.{function_has_an_answer}
+use Rattle.meaning_contexts.specs.Laws.{ContextFailuresAreOfOneClass, ContextFailuresAreUnique, ContextFailuresExist, FailuresOnPathsAreGathered, IsBalanced, UntoldFunctionsBalance}
 
 -- One list
 
@@ -39,6 +40,25 @@ before-once unit (suc count) failures others (before, here, are_before, are_here
 
 pub failures_are_unique : ContextFailuresAreUnique
 failures_are_unique unit failures others is also = before-once unit (length unit.nodes) failures others is also
+
+-- And there is one
+
+by-kind-exists : (unit : JudgedUnit) (handle : ℕ) (kind : NodeKind) → (failures : List Failure) × AreFailuresByKind unit handle kind failures
+by-kind-exists unit handle kinds.FunctionDefinition =
+    let sums = sums_of unit handle in
+    let answered = function_has_an_answer unit handle 0 (pos sums.enters) (pos sums.leaves) in
+    (failures_told (name_of unit.nodes handle) sums.leaves answered.0, (answered.0, answered.1, refl))
+by-kind-exists unit handle kind = ([], refl)
+
+before-exists : (unit : JudgedUnit) (count : ℕ) → (failures : List Failure) × AreFailuresBefore unit count failures
+before-exists unit zero = ([], refl)
+before-exists unit (suc count) =
+    let before = before-exists unit count in
+    let here = by-kind-exists unit count (kind_at unit.nodes count) in
+    (before.0 ++ here.0, (before.0, here.0, before.1, here.1, refl))
+
+pub failures_exist : ContextFailuresExist
+failures_exist unit = before-exists unit (length unit.nodes)
 
 -- What it has
 

@@ -1,10 +1,11 @@
 // What is proved of failures on paths.
-ghost use Rattle.meaning_contexts.specs.Laws.{ContextFailuresAreOfOneClass, ContextFailuresAreUnique, FailuresOnPathsAreGathered, UnitsWithoutContextsFailNowhere, UntoldFunctionsBalance};
+ghost use Rattle.meaning_contexts.specs.Laws.{ContextFailuresAreOfOneClass, ContextFailuresAreUnique, ContextFailuresExist, FailuresOnPathsAreGathered, UnitsWithoutContextsFailNowhere, UntoldFunctionsBalance};
 ghost use Rattle.meaning_contexts.specs.examples.Failures.{FailureExamples};
 
-/// A unit that was judged has one list of failures on paths at most.
+/// A unit that was judged has one list of failures on paths.
 pub fn each_unit_has_one_list_of_failures()
-    ensures { ContextFailuresAreUnique }
+    ensures exist { ContextFailuresExist }
+    ensures unique { ContextFailuresAreUnique }
 {}
 
 /// What fails on some path of a unit is what its functions have.

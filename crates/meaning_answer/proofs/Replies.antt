@@ -1,5 +1,5 @@
 -- There is at most one reply to a command, and what the plain program answers is it.
-use Rattle.std.proofs.Common.{◌≡◌, ℕ, List, [], ◌∷◌, Option, Some, None, option_map, ◌∙◌, ap, sym, subst, refl, inl, inr}
+use Rattle.std.proofs.Common.{◌≡◌, ℕ, Bool, true, false, List, [], ◌∷◌, Option, Some, None, if◌then◌else◌, ◌∙◌, ap, sym, subst, refl, inl, inr}
 use Rattle.std.specs.Option.{option_and_then}
 use Rattle.std.proofs.lemmas.Option.{none-some, same_Some}
 use Rattle.vocabulary.specs.declared.class.Class.{Class}
@@ -15,22 +15,28 @@ use Rattle.meaning_derivation.specs.plain.Deriving.{derived_outcome}
 use Rattle.meaning_derivation.proofs.Deriving.{answers_are_outcomes}
 use Rattle.meaning_derivation.proofs.Uniqueness.{units_have_one_outcome}
 use Rattle.meaning_typing.specs.Building.{surroundings_of}
-use Rattle.meaning_typing.specs.Surroundings.{Surrounding}
+use Rattle.meaning_typing.specs.Surroundings.{Surrounding, AreSurroundings}
+use Rattle.meaning_typing.specs.laws.Surroundings.{IsLaidUnit}
 use Rattle.meaning_typing.proofs.Surroundings.{surroundings_are_found, surroundings_are_unique}
-use Rattle.meaning_rules.specs.Rules.{Judgement}
+use Rattle.meaning_operands.specs.Failures.{Failure}
+use Rattle.meaning_rules.specs.Rules.{Judgement, Holds, BreaksConstraint, PassesObjectSize}
+use Rattle.meaning_units.specs.WholeRows.{AreRows}
+use Rattle.meaning_units.specs.WholeRules.{IsJudgement}
 use Rattle.meaning_units.proofs.JudgementLemmas.{judgements_are_unique}
 use Rattle.meaning_unit_nodes.specs.Numbered.{unit_nodes}
 use Rattle.meaning_preprocessing.specs.Unit.{UnitEnd, Ends, EndsEarly, PreprocessedUnit}
 use Rattle.meaning_preprocessing.proofs.Uniqueness.{units_exist, units_are_unique}
 use Rattle.meaning_answer.specs.Reply.{Reply}
 use Rattle.meaning_answer.specs.Requests.{Request, BadWord, MissingFile, Check, Expand, request_of}
-use Rattle.meaning_answer.specs.Units.{ParsedUnit, judged_reply}
+use Rattle.meaning_answer.specs.Units.{ParsedUnit, TellsJudged, TellsWarnings, warned_reply, warnings_of}
 use Rattle.meaning_answer.specs.Answers.{files_of, TellsRefusal, TellsJudgedTree, TellsUnit, IsCheckReply, IsCheckEnd, IsRequestReply, expand_reply}
 use Rattle.meaning_answer.specs.plain.Judging.{judgement_found}
-use Rattle.meaning_answer.specs.plain.Replying.{tree_reply, values_reply, outcome_reply, check_reply, end_reply, unit_of, request_reply}
+use Rattle.meaning_answer.specs.plain.Replying.{has_context, judged_reply, tree_reply, values_reply, outcome_reply, check_reply, end_reply, unit_of, request_reply}
 use Rattle.meaning_answer.specs.laws.Commands.{AnswersAreUnique, PlainAnswersAreRight}
+use Rattle.meaning_answer.proofs.JudgedListings.{judged-lists}
 use Rattle.meaning_answer.proofs.Judgements.{found_is_judgement}
 use Rattle.meaning_answer.proofs.LaidLemmas.{nodes_are_laid}
+use Rattle.meaning_answer.proofs.WholeListings.{whole_is_unique, whole_without}
 
 -- Trees
 
@@ -51,6 +57,35 @@ refused_or_parsed : (tokens : List Tok) (tree : SyntaxTree) (fault : Fault) (sta
 refused_or_parsed tokens tree fault stands parsed refused =
     let clash = units_have_one_outcome act tokens (Done parsed.0 []) (Fails fault refused.0 stands) parsed.1 refused.1 in absurd (cc clash)
 
+-- By a judgement
+
+module _ (classes : List Class) (unit : ParsedUnit) where
+  only_judged : (judgement : Judgement) (first second : Reply) → TellsJudged classes unit judgement first → TellsJudged classes unit judgement second
+      → first ≡ second
+  only_judged (BreaksConstraint broken) first second told said = told ∙ sym said
+  only_judged PassesObjectSize first second told said = told ∙ sym said
+  only_judged (Holds listing) first second (whole, lists, told) (other, also, said) =
+      told
+      ∙ ap (λ (these : List Failure). warned_reply (warnings_of classes unit these)) (whole_is_unique unit.nodes unit.surroundings listing whole other lists also)
+      ∙ sym said
+
+  module _ (laid : IsLaidUnit unit.nodes) (are : AreSurroundings unit.nodes unit.surroundings) (reply : Reply) where
+    -- without contexts the listing of the judgement is the whole one
+    warned_right : (listing : List Failure) (contexts : Bool) → has_context unit.nodes ≡ contexts → IsJudgement unit.nodes (Holds listing)
+        → (if contexts then None else Some (warned_reply (warnings_of classes unit listing))) ≡ Some reply → TellsWarnings classes unit listing reply
+    warned_right listing true some judges is = absurd (none-some reply is)
+    warned_right listing false none (surroundings, rows, also, are_rows, judged) is =
+        let lists = judged-lists unit.nodes surroundings rows (Holds listing) judged in
+        let same = surroundings_are_unique unit.nodes surroundings unit.surroundings laid also are in
+        let rows_here = subst (λ (these : List Surrounding). AreRows unit.nodes these rows) same are_rows in
+        (listing, whole_without unit.nodes unit.surroundings listing none lists.ordered rows rows_here, sym (same_Some _ _ is))
+
+    judged_right : (judgement : Judgement) → IsJudgement unit.nodes judgement → judged_reply classes unit judgement ≡ Some reply
+        → TellsJudged classes unit judgement reply
+    judged_right (BreaksConstraint broken) judges is = sym (same_Some _ _ is)
+    judged_right PassesObjectSize judges is = sym (same_Some _ _ is)
+    judged_right (Holds listing) judges is = warned_right listing (has_context unit.nodes) refl judges is
+
 -- Of tokens
 
 module _ (classes : List Class) (files : List (List ℕ)) (tokens undefined : List Tok) where
@@ -65,10 +100,9 @@ module _ (classes : List Class) (files : List (List ℕ)) (tokens undefined : Li
   in_same : (tree : SyntaxTree) (surroundings : List Surrounding) (first second : Reply) → TellsTree tree surroundings first
       → TellsTree tree surroundings second → first ≡ second
   in_same tree surroundings first second (are, (judgement, is, told)) (also, (other, so, said)) =
-      told
-      ∙ ap (judged_reply classes (unit_over tree surroundings))
-      (judgements_are_unique (unit_nodes tokens tree) judgement other (nodes_are_laid tokens tree) is so)
-      ∙ sym said
+      let unit = unit_over tree surroundings in
+      let same = judgements_are_unique unit.nodes judgement other (nodes_are_laid tokens tree) is so in
+      only_judged classes unit judgement first second told (subst (λ (this : Judgement). TellsJudged classes unit this second) (sym same) said)
 
   only_surroundings : (tree : SyntaxTree) (surroundings others : List Surrounding) (first second : Reply) → TellsTree tree surroundings first
       → TellsTree tree others second → first ≡ second
@@ -99,13 +133,16 @@ module _ (classes : List Class) (files : List (List ℕ)) (tokens undefined : Li
   module _ (depth : ℕ) (reply : Reply) where
     judged_by : (tree : SyntaxTree) (found : Option Judgement) → DerivesTree act tokens tree
         → judgement_found depth (unit_nodes tokens tree) (surroundings_of (unit_nodes tokens tree)) ≡ found
-        → option_map (judged_reply classes (unit_over tree (surroundings_of (unit_nodes tokens tree)))) found ≡ Some reply
+        → option_and_then (judged_reply classes (unit_over tree (surroundings_of (unit_nodes tokens tree)))) found ≡ Some reply
         → TellsUnit classes files tokens undefined reply
     judged_by tree None derives none is = absurd (none-some reply is)
     judged_by tree (Some judgement) derives some is =
         let nodes = unit_nodes tokens tree in
-        let are = surroundings_are_found nodes (nodes_are_laid tokens tree) in
-        (tree, surroundings_of nodes, derives, (are, (judgement, found_is_judgement depth nodes (surroundings_of nodes) judgement are some, sym (same_Some _ _ is))))
+        let laid = nodes_are_laid tokens tree in
+        let are = surroundings_are_found nodes laid in
+        let judges = found_is_judgement depth nodes (surroundings_of nodes) judgement are some in
+        let told = judged_right classes (unit_over tree (surroundings_of nodes)) laid are reply judgement judges is in
+        (tree, surroundings_of nodes, derives, (are, (judgement, judges, told)))
 
     tree_right : (tree : SyntaxTree) → DerivesTree act tokens tree → tree_reply depth classes files tokens undefined tree ≡ Some reply
         → TellsUnit classes files tokens undefined reply

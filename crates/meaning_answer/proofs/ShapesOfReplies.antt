@@ -2,14 +2,13 @@
 use Rattle.std.proofs.Common.{ℕ, Bool, true, false, cond, List, [], ◌∷◌, ◌++◌, map, slice_get, Option, Some, None, codes, sym, ◌∙◌, ap, subst, refl, inl, inr, append_assoc, append-nil}
 use Rattle.vocabulary.specs.declared.class.Class.{Class}
 use Rattle.vocabulary.specs.declared.error_kind.ErrorKind.{ErrorKind}
-use Rattle.vocabulary.specs.declared.error_kind.ErrorKind.TheVariants.{FormNotBuilt}
 use Rattle.vocabulary.specs.declared.limit.LimitKind.TheVariants.{ObjectSize}
 use Rattle.vocabulary.specs.Errors.{error_line}
 use Rattle.meaning_outside.specs.Files.{FileMap}
-use Rattle.meaning_text.specs.Places.{At, main_file, start_of}
+use Rattle.meaning_text.specs.Places.{At}
 use Rattle.meaning_text.specs.Tokens.{Tok}
 use Rattle.meaning_types.specs.Types.{TypeTree}
-use Rattle.meaning_operands.specs.Failures.{Failure}
+use Rattle.meaning_operands.specs.Failures.{Broken, Failure}
 use Rattle.meaning_warnings.specs.Errors.{error_front, error_lines, told_word}
 use Rattle.meaning_warnings.specs.Listing.{lines_on, listing_lines, undefined_lines, unit_lines}
 use Rattle.meaning_warnings.specs.Places.{ShownUnit, begins_at, line_front, path_of, type_spelling}
@@ -23,8 +22,8 @@ use Rattle.meaning_names.specs.Spelled.{spelled_failure}
 use Rattle.meaning_answer.specs.Reply.{Reply, IsLine}
 use Rattle.meaning_answer.specs.Requests.{Request, BadWord, MissingFile, Check, Expand, request_of}
 use Rattle.meaning_answer.specs.Tokens.{token_behind, tokens_behind, tokens_text}
-use Rattle.meaning_answer.specs.Lines.{limit_text, named_word, not_built_reply, refusal_place, refusal_reply, stop_reply}
-use Rattle.meaning_answer.specs.Units.{ParsedUnit, has_context, judged_reply, name_in, shown_unit, spellings_in, warned_reply, warnings_of}
+use Rattle.meaning_answer.specs.Lines.{limit_text, named_word, refusal_place, refusal_reply, stop_reply}
+use Rattle.meaning_answer.specs.Units.{ParsedUnit, TellsJudged, broken_reply, name_in, shown_unit, spellings_in, warned_reply, warnings_of}
 use Rattle.meaning_answer.specs.Shapes.{HasCheckShape, HasExpandShape, IsShapedFor, IsText}
 use Rattle.meaning_answer.specs.Answers.{files_of, TellsJudgement, IsCheckReply, IsCheckEnd, IsRequestReply, expand_reply}
 use Rattle.meaning_answer.specs.laws.Commands.{AnswersAreShaped, AnswersTellFaults, TellsFault}
@@ -70,7 +69,7 @@ module _ (shown : ShownUnit) where
   IsLine-warning : (path : List ℕ) (at : At) (text : List ℕ) → IsLine (warning_line path at text)
   IsLine-warning path at text = (line_front path at ++ codes "warning: " ++ text, refl)
 
-  IsLine-told : (at : At) (failure : Failure) (warning : Warning) → IsLine (told_lines shown at failure warning)
+  pub IsLine-told : (at : At) (failure : Failure) (warning : Warning) → IsLine (told_lines shown at failure warning)
   IsLine-told at failure warning =
       let path = path_of shown.files at.file in
       IsLine-behind _ _ (IsLine-warning path at warning.text) (IsText-below path at failure warning.below)
@@ -126,18 +125,20 @@ expand_stopped (Passes kind) = (refl, (limit_text kind, refl))
 
 -- so is a unit that is refused, and the warnings of another one
 
-holding_shaped : (classes : List Class) (unit : ParsedUnit) (listing : List Failure) (in_context : Bool)
-    → IsCheckShaped (cond in_context (not_built_reply unit.files) (warned_reply (warnings_of classes unit listing)))
-holding_shaped classes unit listing true = (refl, IsLine-error FormNotBuilt (path_of unit.files main_file) (start_of main_file) [])
-holding_shaped classes unit listing false =
+warnings_shaped : (classes : List Class) (unit : ParsedUnit) (listing : List Failure) → IsCheckShaped (warned_reply (warnings_of classes unit listing))
+warnings_shaped classes unit listing =
     shaped_warned (warnings_of classes unit listing) (IsText-unit (shown_unit unit) classes (map (spelled_failure (spellings_in unit)) listing))
 
-judged_shaped : (classes : List Class) (unit : ParsedUnit) (judgement : Judgement) → IsCheckShaped (judged_reply classes unit judgement)
-judged_shaped classes unit (BreaksConstraint broken) =
+broken_shaped : (unit : ParsedUnit) (broken : Broken) → IsCheckShaped (broken_reply unit broken)
+broken_shaped unit broken =
     let at = begins_at (slice_get unit.tokens broken.token) in
     (refl, IsLine-error broken.constraint (path_of unit.files at.file) at (name_in unit broken.name))
-judged_shaped classes unit PassesObjectSize = (refl, (limit_text ObjectSize, refl))
-judged_shaped classes unit (Holds listing) = holding_shaped classes unit listing (has_context unit.nodes)
+
+judged_shaped : (classes : List Class) (unit : ParsedUnit) (judgement : Judgement) (reply : Reply) → TellsJudged classes unit judgement reply
+    → IsCheckShaped reply
+judged_shaped classes unit (BreaksConstraint broken) reply told = subst IsCheckShaped (sym told) (broken_shaped unit broken)
+judged_shaped classes unit PassesObjectSize reply told = subst IsCheckShaped (sym told) (refl, (limit_text ObjectSize, refl))
+judged_shaped classes unit (Holds listing) reply (whole, lists, told) = subst IsCheckShaped (sym told) (warnings_shaped classes unit whole)
 
 refusal_shaped : (files : List (List ℕ)) (tokens : List Tok) (fault : Fault) (stands : ℕ) → IsCheckShaped (refusal_reply files tokens fault stands)
 refusal_shaped files tokens (IsError kind) stands =
@@ -146,7 +147,7 @@ refusal_shaped files tokens (IsError kind) stands =
 refusal_shaped files tokens (PassesLimit limit) stands = (refl, (limit_text limit, refl))
 
 told_shaped : (classes : List Class) (unit : ParsedUnit) (reply : Reply) → TellsJudgement classes unit reply → IsCheckShaped reply
-told_shaped classes unit reply (judgement, judges, told) = subst IsCheckShaped (sym told) (judged_shaped classes unit judgement)
+told_shaped classes unit reply (judgement, judges, told) = judged_shaped classes unit judgement reply told
 
 check_shaped : (classes : List Class) (files : List (List ℕ)) (tokens undefined : List Tok) (reply : Reply) → IsCheckReply classes files tokens undefined reply → IsCheckShaped reply
 check_shaped classes files tokens undefined reply (inl (fault, stands, refused, is)) = subst IsCheckShaped (sym is) (refusal_shaped files tokens fault stands)

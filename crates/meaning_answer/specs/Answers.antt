@@ -18,7 +18,7 @@ use Rattle.meaning_answer.specs.Reply.{Reply, Clean}
 use Rattle.meaning_answer.specs.Requests.{Request, BadWord, MissingFile, Check, Expand, request_of}
 use Rattle.meaning_answer.specs.Tokens.{tokens_text}
 use Rattle.meaning_answer.specs.Lines.{bad_word_reply, missing_file_reply, stop_reply, refusal_reply}
-use Rattle.meaning_answer.specs.Units.{ParsedUnit, judged_reply}
+use Rattle.meaning_answer.specs.Units.{ParsedUnit, TellsJudged}
 
 -- the paths of a unit's files by their numbers
 abbrev pub files_of : List (List ℕ) → List (List ℕ)
@@ -35,7 +35,7 @@ TellsRefusal files tokens reply =
 
 -- the reply tells the judgement of a unit that is parsed
 abbrev pub TellsJudgement : List Class → ParsedUnit → Reply → Type 0
-TellsJudgement classes unit reply = (judgement : Judgement) × IsJudgement unit.nodes judgement × (reply ≡ judged_reply classes unit judgement)
+TellsJudgement classes unit reply = (judgement : Judgement) × IsJudgement unit.nodes judgement × TellsJudged classes unit judgement reply
 
 -- the nodes of this tree stand in these surroundings, and the reply tells their judgement
 abbrev pub TellsJudgedTree : List Class → List (List ℕ) → List Tok → List Tok → SyntaxTree → List Surrounding → Reply → Type 0

@@ -4,7 +4,7 @@ use Rattle.vocabulary.specs.declared.error_kind.ErrorKind.{ErrorKind}
 use Rattle.vocabulary.specs.declared.error_kind.ErrorKind.TheVariants as errors
 use Rattle.vocabulary.specs.declared.limit.LimitKind.{LimitKind}
 use Rattle.vocabulary.specs.Limits.{limit_name}
-use Rattle.meaning_text.specs.Places.{At, main_file, start_of}
+use Rattle.meaning_text.specs.Places.{At}
 use Rattle.meaning_text.specs.Tokens.{Tok}
 use Rattle.meaning_derivation.specs.State.{Fault, IsError, PassesLimit}
 use Rattle.meaning_preprocessing.specs.State.{Stop, Refuses, Passes}
@@ -59,7 +59,3 @@ refusal_reply files tokens (IsError kind) stands =
     let at = refusal_place tokens stands in
     error_reply kind (path_of files at.file) at (named_word kind tokens stands)
 refusal_reply files tokens (PassesLimit limit) stands = limit_reply limit
-
--- a unit with a form that isn't built: the error stands at the beginning of the file that is checked
-abbrev pub not_built_reply : (files : List (List ℕ)) → Reply
-not_built_reply files = error_reply errors.FormNotBuilt (path_of files main_file) (start_of main_file) []

@@ -1,23 +1,24 @@
 -- The reply to a unit that is parsed, by the judgement of its nodes.
-use Rattle.std.specs.Prelude.{ℕ, ◌+◌, pos, Bool, true, false, List, [], ◌∷◌, map, None, option_map, slice_get, if◌then◌else◌}
-use Rattle.std.specs.List.{list_any}
+use Rattle.std.specs.Prelude.{◌≡◌, ℕ, ◌+◌, pos, List, [], ◌∷◌, ◌++◌, map, None, option_map, slice_get}
 use Rattle.vocabulary.specs.declared.class.Class.{Class}
 use Rattle.vocabulary.specs.declared.limit.LimitKind.TheVariants.{ObjectSize}
-use Rattle.vocabulary.specs.declared.node_kind.NodeKind.{NodeKind}
-use Rattle.vocabulary.specs.declared.node_kind.NodeKind.TheVariants.{ContextAttribute, ContextStatement}
 use Rattle.vocabulary.specs.declared.rule.RuleCode.TheVariants.{S3}
 use Rattle.meaning_text.specs.Tokens.{Tok}
 use Rattle.meaning_operands.specs.Failures.{Failure, Broken}
 use Rattle.meaning_warnings.specs.Places.{ShownUnit, begins_at, path_of}
-use Rattle.meaning_warnings.specs.Listing.{unit_lines}
+use Rattle.meaning_warnings.specs.Listing.{IsListing, unit_lines}
+use Rattle.meaning_typing.specs.Rows.{Row}
 use Rattle.meaning_typing.specs.Surroundings.{Surrounding}
 use Rattle.meaning_typing.specs.Units.{UnitNodes}
 use Rattle.meaning_rules.specs.Rules.{Judgement, Holds, BreaksConstraint, PassesObjectSize}
+use Rattle.meaning_units.specs.WholeRows.{AreRows, facts_of}
+use Rattle.meaning_contexts.specs.Failures.{AreContextFailures}
+use Rattle.meaning_contexts.specs.Units.{judged_of}
 use Rattle.meaning_unit_nodes.specs.Numbered.{spellings_told, told_behind, with_told}
 use Rattle.meaning_names.specs.Spelled.{spelled_failure, spelled_name}
 use Rattle.meaning_names.specs.TypeNames.{identity_of, tag_of}
 use Rattle.meaning_answer.specs.Reply.{Ending, Clean, Warned, Reply}
-use Rattle.meaning_answer.specs.Lines.{error_reply, limit_reply, not_built_reply}
+use Rattle.meaning_answer.specs.Lines.{error_reply, limit_reply}
 
 -- A unit that is parsed: the paths of its files by their numbers, its tokens, the identifiers that were left in the lines of `#if`, its
 -- nodes, in which names are numbers of the spellings of its tokens, and what these stand in.
@@ -43,17 +44,6 @@ spellings_in unit = with_all_told (told_behind (spellings_told unit.tokens) unit
 -- a name of the unit, as it is spelled
 abbrev pub name_in : ParsedUnit → (name : List ℕ) → List ℕ
 name_in unit name = spelled_name (spellings_in unit) name
-
--- Contexts, which aren't judged
-
-abbrev pub is_context : NodeKind → Bool
-is_context ContextAttribute = true
-is_context ContextStatement = true
-is_context kind = false
-
--- some node of the unit is one, wherever it stands
-abbrev pub has_context : UnitNodes → Bool
-has_context nodes = list_any (λ node. is_context node.kind) nodes
 
 -- The constraint that it breaks
 
@@ -101,9 +91,24 @@ warned_reply warnings = record { out = []; err = warnings; ending = ending_behin
 
 -- What is told
 
--- by the judgement; the error of a form that isn't built stands behind every other refusal, and before the warnings
-abbrev pub judged_reply : List Class → ParsedUnit → Judgement → Reply
-judged_reply classes unit (BreaksConstraint broken) = broken_reply unit broken
-judged_reply classes unit PassesObjectSize = limit_reply ObjectSize
-judged_reply classes unit (Holds listing) =
-    if has_context unit.nodes then not_built_reply unit.files else warned_reply (warnings_of classes unit listing)
+-- what fails on the control paths of the functions of these nodes, by what is known of them
+abbrev pub ArePathFailures : UnitNodes → List Surrounding → List Failure → Type 0
+ArePathFailures nodes surroundings failures =
+    (rows : List Row) × AreRows nodes surroundings rows × AreContextFailures (judged_of nodes surroundings (facts_of rows)) failures
+
+-- a listing with them, in order and each once
+abbrev pub IsWholeListing : UnitNodes → List Surrounding → (listing whole : List Failure) → Type 0
+IsWholeListing nodes surroundings listing whole =
+    (paths : List Failure) × ArePathFailures nodes surroundings paths × IsListing (listing ++ paths) whole
+
+-- of a unit of which nothing is refused
+abbrev pub TellsWarnings : List Class → ParsedUnit → (listing : List Failure) → Reply → Type 0
+TellsWarnings classes unit listing reply =
+    (whole : List Failure) × IsWholeListing unit.nodes unit.surroundings listing whole
+    × (reply ≡ warned_reply (warnings_of classes unit whole))
+
+-- by the judgement
+abbrev pub TellsJudged : List Class → ParsedUnit → Judgement → Reply → Type 0
+TellsJudged classes unit (BreaksConstraint broken) reply = reply ≡ broken_reply unit broken
+TellsJudged classes unit PassesObjectSize reply = reply ≡ limit_reply ObjectSize
+TellsJudged classes unit (Holds listing) reply = TellsWarnings classes unit listing reply

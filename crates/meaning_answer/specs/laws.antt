@@ -1,3 +1,4 @@
 -- What is proved of the definitions.
 pub mod Answers
+pub mod Balance
 pub mod Commands

@@ -2,6 +2,7 @@
 ghost use Rattle.meaning_answer.specs.examples.Answers.{AnswerExamples, ExpandExamples, JudgementExamples, ParsingExamples, RequestExamples};
 ghost use Rattle.meaning_answer.specs.examples.Completion.{CompletionExamples};
 ghost use Rattle.meaning_answer.specs.laws.Answers.{EndingsTellWhatIsWritten, NamesAreSpelledBack, OutcomesAreTold, TokensAloneGoOut};
+ghost use Rattle.meaning_answer.specs.laws.Balance.{CleanChecksAreBalanced};
 ghost use Rattle.meaning_answer.specs.laws.Commands.{AnswersAreShaped, AnswersAreUnique, AnswersExist, AnswersTellFaults, PlainAnswersAreRight};
 
 /// Each command has exactly one answer over given files, with the shape of what it asks for and of its ending, and it is
@@ -12,6 +13,12 @@ pub fn each_command_has_one_answer()
     ensures plain { PlainAnswersAreRight }
     ensures shaped { AnswersAreShaped }
     ensures faults { AnswersTellFaults }
+{}
+
+/// Where a check tells nothing, the class of contexts being on, each path of a function that comes to an end has there the count of
+/// contexts with which the function says that it is left.
+pub fn clean_checks_are_balanced()
+    ensures { CleanChecksAreBalanced }
 {}
 
 /// Small commands, from their words and files to their texts.

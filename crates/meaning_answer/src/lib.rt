@@ -8,6 +8,6 @@
 mod answers;
 
 pub use answers::{
-    each_command_has_one_answer, endings_tell_what_is_written, names_are_spelled_back,
-    outcomes_are_told, worked_completions, worked_examples,
+    clean_checks_are_balanced, each_command_has_one_answer, endings_tell_what_is_written,
+    names_are_spelled_back, outcomes_are_told, worked_completions, worked_examples,
 };

@@ -203,18 +203,14 @@ pub record JudgementExamples : Type 0 where
   -- the limit where it stands before
   pub too_large : checked (codes "char a[1099511627777]; int n[-1];") ≡ Some (line Limit (codes "ksparse: limit: object size"))
   pub behind_constraint : checked (codes "int n[-1]; char a[1099511627777];") ≡ refuses (codes "t.c:1:7: error[86]: negative array size")
-  -- contexts aren't judged: that is told behind constraints and the limit, and before warnings
-  pub context : checked (codes "void f(void) __attribute__((context(x,0,1)));") ≡ refuses (codes "t.c:1:1: error[29]: form not built")
-  pub context_word : checked (codes "typedef int t __attribute__((__context__(x,0,0)));") ≡ refuses (codes "t.c:1:1: error[29]: form not built")
-  pub context_statement : checked (codes "void f(void) { __context__(x, 1); int *p = 0; }") ≡ refuses (codes "t.c:1:1: error[29]: form not built")
-  pub not_evaluated : checked (codes "void f(void) { sizeof(({ __context__(x, 0); 1; })); }") ≡ refuses (codes "t.c:1:1: error[29]: form not built")
+  -- what fails on control paths is told behind constraints and the limit; the plain program doesn't walk them
   pub no_context : checked (codes "int x __attribute__((unused(context(x,0,1))));") ≡ is_silent
+  pub context : checked (codes "void f(void) __attribute__((context(x,0,1)));") ≡ None
+  pub context_statement : checked (codes "void f(void) { __context__(x, 1); int *p = 0; }") ≡ None
   pub context_behind_constraint :
       checked (codes "void f(void) __attribute__((context(x,0,1))); int a[-1];") ≡ refuses (codes "t.c:1:53: error[86]: negative array size")
   pub context_behind_limit :
       checked (codes "void f(void) __attribute__((context(x,0,1))); char a[1099511627777];") ≡ Some (line Limit (codes "ksparse: limit: object size"))
-  pub context_before_warnings :
-      checked_undefined (codes "#if FOO\n#endif\nvoid f(void) __attribute__((context(x,0,1)));") ≡ refuses (codes "t.c:1:1: error[29]: form not built")
 
 -- what parsing refuses
 pub record ParsingExamples : Type 0 where

@@ -65,14 +65,11 @@ returns-clause-judged c = record {
   in_header = refl;
   too_large = refl;
   behind_constraint = refl;
-  context = refl;
-  context_word = refl;
-  context_statement = refl;
-  not_evaluated = refl;
   no_context = refl;
+  context = refl;
+  context_statement = refl;
   context_behind_constraint = refl;
   context_behind_limit = refl;
-  context_before_warnings = refl;
 }
 
 pub returns-clause-parsing : goal.returns-clause-parsing

@@ -1,5 +1,5 @@
 -- What the rows of specifiers and declarators say of objects of the first form.
-use Rattle.std.proofs.Common.{◌≡◌, ℕ, zero, suc, Bool, true, false, ◌||◌, ◌&&◌, List, [], ◌∷◌, ◌++◌, drop, get_or, length, Option, Some, option_map, option_and_then, if◌then◌else◌, refl, ap, ◌∙◌}
+use Rattle.std.proofs.Common.{◌≡◌, ℕ, zero, suc, Bool, true, false, ◌||◌, ◌&&◌, List, [], ◌∷◌, ◌++◌, drop, get_or, length, Some, option_map, option_and_then, if◌then◌else◌, refl, ap, ◌∙◌}
 use Rattle.vocabulary.specs.declared.node_kind.NodeKind.{NodeKind}
 use Rattle.vocabulary.specs.declared.node_kind.NodeKind.TheVariants as kinds
 use Rattle.vocabulary.specs.declared.role.Role.{Role}
@@ -7,7 +7,6 @@ use Rattle.vocabulary.specs.declared.error_kind.ErrorKind.TheVariants.{DefinedTw
 use Rattle.meaning_types.specs.Types.{Space, NoSpace, NumberedSpace, NamedSpace, Flags, TypeTree, no_flags, no_qualifiers, pointer_to}
 use Rattle.meaning_types.specs.Marks.{with_flags, marked, later_space}
 use Rattle.meaning_layout.specs.Sizes.{Told}
-use Rattle.meaning_operands.specs.Failures.{Broken}
 use Rattle.meaning_operands.specs.Operands.{is_integer}
 use Rattle.meaning_first_rules.specs.Typing.{behind_stars, int_with}
 use Rattle.meaning_typing.specs.Aggregates.{KnownAggregates}

@@ -9,7 +9,7 @@ use Rattle.meaning_typing.specs.Aggregates.{KnownAggregates}
 use Rattle.meaning_typing.specs.Declarators.{declared_if, declared_type, declarator_fact, named_if, parameter_fact, parameter_type, specifiers_of}
 use Rattle.meaning_typing.specs.EnumRows.{enumerator_name_fact, is_enumerator}
 use Rattle.meaning_typing.specs.Expressions.{address_row, assigned, assignment_row, has_address, indirection_of, indirection_row, store_broken}
-use Rattle.meaning_typing.specs.Facts.{Fact, Unknown, Expression, Specified, Declared, NamedType, ExpressionFact, SpecifiedFact, fact_at, type_of_value}
+use Rattle.meaning_typing.specs.Facts.{Fact, Unknown, Expression, Specified, Declared, NamedType, ExpressionFact, SpecifiedFact, type_of_value}
 use Rattle.meaning_typing.specs.MemberRows.{aggregates_before, is_member_declaration, member_declarator_row}
 use Rattle.meaning_typing.specs.Names.{declared_behind, name_row}
 use Rattle.meaning_typing.specs.Rows.{Row, known, nothing, unless_broken}

@@ -1,4 +1,5 @@
 pub mod Scalars
+pub mod Renamed
 pub mod Rows
 pub mod Standing
 pub mod Declarators
@@ -7,6 +8,7 @@ pub mod Declaring
 pub mod Reaching
 pub mod Declared
 pub mod Distinct
+pub mod Saying
 pub mod Types
 pub mod Named
 pub mod Statements

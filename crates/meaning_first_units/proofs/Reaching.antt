@@ -17,6 +17,7 @@ use Rattle.meaning_syntax.specs.Words.{is_plain_identifier, number_of}
 use Rattle.meaning_typing.specs.Units.{UnitNodes, no_node, node_at, unit_list}
 use Rattle.meaning_typing.specs.laws.Surroundings.{IsLaidUnit}
 use Rattle.meaning_first_rules.proofs.Elements.{Contains-cons_head, Contains-cons_tail}
+use Rattle.meaning_first_units.specs.Units.{Renaming}
 use Rattle.meaning_first_units.proofs.Declaring.{is_quiet}
 use Rattle.meaning_first_units.proofs.Standing.{Make, Makes, node-of}
 
@@ -163,46 +164,46 @@ child-before nodes unit parent place child within has =
     (slice_get_within (node_at nodes parent).children place child has) (unit.ordered parent (node_at nodes parent) (omega arith, is)))).1
 
 -- a node that makes a tree in which all is fine
-pub record Fine (nodes : UnitNodes) (items : List Item) (handle : ℕ) : Type 0 where
+pub record Fine (renaming : Renaming) (nodes : UnitNodes) (items : List Item) (handle : ℕ) : Type 0 where
   pub tree : SyntaxTree
-  pub makes : Makes nodes handle tree
+  pub makes : Makes renaming nodes handle tree
   pub all : AllFine items tree
 
 pub part-fine :
-    (nodes : UnitNodes) (items : List Item) (children : List (ℕ × ℕ)) (parts : Parts (List ℕ)) (place : ℕ) (child : ℕ × ℕ)
-    → Make nodes children parts → AreFine items parts → slice_get children place ≡ Some child → Fine nodes items child.0
-part-fine nodes items [] parts place child make fine at = absurd (none-some child at)
-part-fine nodes items (one ∷ children) NoParts place child make fine at = absurd make
-part-fine nodes items (one ∷ children) (Part role tree parts) zero child make fine at =
-    subst (λ (c : ℕ × ℕ). Fine nodes items c.0) (same_Some one child at) (record { tree = tree; makes = make.1; all = fine.0 })
-part-fine nodes items (one ∷ children) (Part role tree parts) (suc place) child make fine at =
-    part-fine nodes items children parts place child make.2 fine.1 at
+    (renaming : Renaming) (nodes : UnitNodes) (items : List Item) (children : List (ℕ × ℕ)) (parts : Parts (List ℕ)) (place : ℕ) (child : ℕ × ℕ)
+    → Make renaming nodes children parts → AreFine items parts → slice_get children place ≡ Some child → Fine renaming nodes items child.0
+part-fine renaming nodes items [] parts place child make fine at = absurd (none-some child at)
+part-fine renaming nodes items (one ∷ children) NoParts place child make fine at = absurd make
+part-fine renaming nodes items (one ∷ children) (Part role tree parts) zero child make fine at =
+    subst (λ (c : ℕ × ℕ). Fine renaming nodes items c.0) (same_Some one child at) (record { tree = tree; makes = make.1; all = fine.0 })
+part-fine renaming nodes items (one ∷ children) (Part role tree parts) (suc place) child make fine at =
+    part-fine renaming nodes items children parts place child make.2 fine.1 at
 
 child-fine :
-    (nodes : UnitNodes) (items : List Item) (parent place : ℕ) (child : ℕ × ℕ) (tree : SyntaxTree) → Makes nodes parent tree → AllFine items tree
-    → slice_get (node_at nodes parent).children place ≡ Some child → Fine nodes items child.0
-child-fine nodes items parent place child (Node kind token name number parts) makes fine at =
-    let is = node-of nodes parent kind token name number parts makes in
-    part-fine nodes items is.0 parts place child is.2 fine.1 (ap (λ children. slice_get children place) (sym is.1.are_children) ∙ at)
+    (renaming : Renaming) (nodes : UnitNodes) (items : List Item) (parent place : ℕ) (child : ℕ × ℕ) (tree : SyntaxTree) → Makes renaming nodes parent tree → AllFine items tree
+    → slice_get (node_at nodes parent).children place ≡ Some child → Fine renaming nodes items child.0
+child-fine renaming nodes items parent place child (Node kind token name number parts) makes fine at =
+    let is = node-of renaming nodes parent kind token name number parts makes in
+    part-fine renaming nodes items is.0 parts place child is.2 fine.1 (ap (λ children. slice_get children place) (sym is.1.are_children) ∙ at)
 
 pub last-or-part : (handle count : ℕ) → handle < count → (handle ≡ count - 1) ⊎ (handle + 1 < count)
 last-or-part handle count within = grind arith
 
-module _ (nodes : UnitNodes) (items : List Item) (unit : IsLaidUnit nodes) (root : Makes nodes (length nodes - 1) (unit_tree items)) where
-  reach-in : (count handle : ℕ) → handle < length nodes → length nodes ≤ handle + count → Fine nodes items handle
+module _ (renaming : Renaming) (nodes : UnitNodes) (items : List Item) (unit : IsLaidUnit nodes) (root : Makes renaming nodes (length nodes - 1) (unit_tree items)) where
+  reach-in : (count handle : ℕ) → handle < length nodes → length nodes ≤ handle + count → Fine renaming nodes items handle
   reach-in zero handle within far = absurd (omega (arith, within, far))
   reach-in (suc count) handle within far =
       elim (last-or-part handle (length nodes) within) [
-        | inl last ↦ record { tree = unit_tree items; makes = subst (λ h. Makes nodes h (unit_tree items)) (sym last) root; all = unit-fine items }
+        | inl last ↦ record { tree = unit_tree items; makes = subst (λ h. Makes renaming nodes h (unit_tree items)) (sym last) root; all = unit-fine items }
         | inr part ↦
             let one = unit.laid.parents handle (omega arith) (omega (arith, part)) in
             let child = child-of nodes one.0 one.1 handle one.2 in
             let behind = child-before nodes unit one.0 one.1 (handle, child.0) child.1 child.2 in
             let parent = reach-in count one.0 child.1 (omega (arith, far, behind)) in
-            child-fine nodes items one.0 one.1 (handle, child.0) parent.tree parent.makes parent.all child.2
+            child-fine renaming nodes items one.0 one.1 (handle, child.0) parent.tree parent.makes parent.all child.2
       ]
 
-  pub reach : (handle : ℕ) → handle < length nodes → Fine nodes items handle
+  pub reach : (handle : ℕ) → handle < length nodes → Fine renaming nodes items handle
   reach handle within = reach-in (length nodes) handle within (omega arith)
 
   -- the node above one that isn't the last

@@ -17,7 +17,7 @@ use Rattle.meaning_constants.specs.Sizes.{sizes_by}
 use Rattle.meaning_typing.specs.Aggregates.{KnownAggregates}
 use Rattle.meaning_typing.specs.EnumRows.{enumerator_name_fact, is_enumerator}
 use Rattle.meaning_typing.specs.Expressions.{address_row, address_taken, assigned, assignment_row, indirection_of, indirection_row, store_broken}
-use Rattle.meaning_typing.specs.Facts.{Fact, Expression, Declared, ExpressionFact, DeclaredFact, Addressed, NotAddress, fact_at, operand_of, place, type_of_value, value}
+use Rattle.meaning_typing.specs.Facts.{Fact, Expression, Declared, ExpressionFact, DeclaredFact, Addressed, NotAddress, operand_of, place, type_of_value, value}
 use Rattle.meaning_typing.specs.MemberRows.{aggregates_before}
 use Rattle.meaning_typing.specs.Names.{address_of_name, declared_behind, name_row, named_place, type_of_name}
 use Rattle.meaning_typing.specs.Rows.{Row, converted_by, fails_with, gives, known, nothing, unless_broken}

@@ -8,18 +8,19 @@ use Rattle.meaning_tree.specs.Nodes.{TreeNode, NodeList, HasNode, StandsFor, Sta
 use Rattle.meaning_tree.specs.Forms.{kind_of}
 use Rattle.meaning_tree.specs.Trees.{SyntaxTree, Node, Parts, NoParts, Part}
 use Rattle.meaning_typing.specs.Units.{UnitNodes, no_node, children_at, kind_at, node_at, unit_list}
-use Rattle.meaning_first_units.specs.Units.{own_number, without_link}
+use Rattle.meaning_unit_nodes.specs.Laws.{with_names, parts_with_names}
+use Rattle.meaning_first_units.specs.Units.{Renaming, own_number, without_link}
 
 -- the nodes without links, by their handles
 abbrev pub plain : UnitNodes → NodeList (List ℕ)
 plain nodes = unit_list (map without_link nodes)
 
--- a node stands for a tree, and children for parts, where links are left out
-abbrev pub Makes : UnitNodes → ℕ → SyntaxTree → Type 0
-Makes nodes handle tree = StandsFor (plain nodes) handle tree
+-- a node stands for a tree, and children for parts, where links are left out and names are others
+abbrev pub Makes : Renaming → UnitNodes → ℕ → SyntaxTree → Type 0
+Makes renaming nodes handle tree = StandsFor (plain nodes) handle (with_names renaming tree)
 
-abbrev pub Make : UnitNodes → List (ℕ × ℕ) → Parts (List ℕ) → Type 0
-Make nodes children parts = StandFor (plain nodes) children parts
+abbrev pub Make : Renaming → UnitNodes → List (ℕ × ℕ) → Parts (List ℕ) → Type 0
+Make renaming nodes children parts = StandFor (plain nodes) children (parts_with_names renaming parts)
 
 -- what is seen of the node
 pub record IsNode (nodes : UnitNodes) (handle : ℕ) (kind : NodeKind) (token : ℕ) (name : List ℕ) (number : ℕ) (children : List (ℕ × ℕ)) : Type 0 where
@@ -58,10 +59,10 @@ node-seen nodes handle node has =
 -- By the tree
 
 pub node-of :
-    (nodes : UnitNodes) (handle : ℕ) (kind : NodeKind) (token : ℕ) (name : List ℕ) (number : ℕ) (parts : Parts (List ℕ))
-    → Makes nodes handle (Node kind token name number parts)
-    → (children : List (ℕ × ℕ)) × IsNode nodes handle kind token name number children × Make nodes children parts
-node-of nodes handle kind token name number parts makes = (makes.0, node-seen nodes handle _ makes.1, makes.2)
+    (renaming : Renaming) (nodes : UnitNodes) (handle : ℕ) (kind : NodeKind) (token : ℕ) (name : List ℕ) (number : ℕ) (parts : Parts (List ℕ))
+    → Makes renaming nodes handle (Node kind token name number parts)
+    → (children : List (ℕ × ℕ)) × IsNode nodes handle kind token (renaming name) number children × Make renaming nodes children parts
+node-of renaming nodes handle kind token name number parts makes = (makes.0, node-seen nodes handle _ makes.1, makes.2)
 
 abbrev pub handles_of : List (ℕ × ℕ) → List ℕ
 handles_of children = map (λ child. child.0) children
@@ -72,40 +73,40 @@ pub children-are :
     → IsNode nodes handle kind token name number children → children_at nodes handle ≡ handles_of children
 children-are nodes handle kind token name number children is = ap handles_of is.are_children
 
-pub no-part : (nodes : UnitNodes) (children : List (ℕ × ℕ)) → Make nodes children NoParts → children ≡ []
-no-part nodes [] make = refl
-no-part nodes (child ∷ children) make = absurd make
+pub no-part : (renaming : Renaming) (nodes : UnitNodes) (children : List (ℕ × ℕ)) → Make renaming nodes children NoParts → children ≡ []
+no-part renaming nodes [] make = refl
+no-part renaming nodes (child ∷ children) make = absurd make
 
 -- one part behind others
-pub record FirstPart (nodes : UnitNodes) (children : List (ℕ × ℕ)) (role : Role) (tree : SyntaxTree) (parts : Parts (List ℕ)) : Type 0 where
+pub record FirstPart (renaming : Renaming) (nodes : UnitNodes) (children : List (ℕ × ℕ)) (role : Role) (tree : SyntaxTree) (parts : Parts (List ℕ)) : Type 0 where
   pub child : ℕ × ℕ
   pub others : List (ℕ × ℕ)
   pub are : children ≡ child ∷ others
   pub in_role : role ≡ role_of child.1
-  pub makes : Makes nodes child.0 tree
-  pub make : Make nodes others parts
+  pub makes : Makes renaming nodes child.0 tree
+  pub make : Make renaming nodes others parts
 
 pub first-part :
-    (nodes : UnitNodes) (children : List (ℕ × ℕ)) (role : Role) (tree : SyntaxTree) (parts : Parts (List ℕ)) → Make nodes children (Part role tree parts)
-    → FirstPart nodes children role tree parts
-first-part nodes [] role tree parts make = absurd make
-first-part nodes (child ∷ children) role tree parts make =
+    (renaming : Renaming) (nodes : UnitNodes) (children : List (ℕ × ℕ)) (role : Role) (tree : SyntaxTree) (parts : Parts (List ℕ)) → Make renaming nodes children (Part role tree parts)
+    → FirstPart renaming nodes children role tree parts
+first-part renaming nodes [] role tree parts make = absurd make
+first-part renaming nodes (child ∷ children) role tree parts make =
     record { child = child; others = children; are = refl; in_role = make.0; makes = make.1; make = make.2 }
 
 -- a node without parts
 pub leaf-of :
-    (nodes : UnitNodes) (handle : ℕ) (kind : NodeKind) (token : ℕ) (name : List ℕ) (number : ℕ) → Makes nodes handle (Node kind token name number NoParts)
-    → IsNode nodes handle kind token name number []
-leaf-of nodes handle kind token name number makes =
-    let is = node-of nodes handle kind token name number NoParts makes in
-    subst (IsNode nodes handle kind token name number) (no-part nodes is.0 is.2) is.1
+    (renaming : Renaming) (nodes : UnitNodes) (handle : ℕ) (kind : NodeKind) (token : ℕ) (name : List ℕ) (number : ℕ) → Makes renaming nodes handle (Node kind token name number NoParts)
+    → IsNode nodes handle kind token (renaming name) number []
+leaf-of renaming nodes handle kind token name number makes =
+    let is = node-of renaming nodes handle kind token name number NoParts makes in
+    subst (IsNode nodes handle kind token (renaming name) number) (no-part renaming nodes is.0 is.2) is.1
 
--- the kind of a node is that of its tree, and so is its name
-pub makes-kind : (nodes : UnitNodes) (handle : ℕ) (tree : SyntaxTree) → Makes nodes handle tree → kind_at nodes handle ≡ kind_of tree
-makes-kind nodes handle (Node kind token name number parts) makes = (node-of nodes handle kind token name number parts makes).1.is_kind
+-- the kind of a node is that of its tree, and its name is that of its tree renamed
+pub makes-kind : (renaming : Renaming) (nodes : UnitNodes) (handle : ℕ) (tree : SyntaxTree) → Makes renaming nodes handle tree → kind_at nodes handle ≡ kind_of tree
+makes-kind renaming nodes handle (Node kind token name number parts) makes = (node-of renaming nodes handle kind token name number parts makes).1.is_kind
 
 abbrev pub name_of : SyntaxTree → List ℕ
 name_of (Node kind token name number parts) = name
 
-pub makes-name : (nodes : UnitNodes) (handle : ℕ) (tree : SyntaxTree) → Makes nodes handle tree → (node_at nodes handle).name ≡ name_of tree
-makes-name nodes handle (Node kind token name number parts) makes = (node-of nodes handle kind token name number parts makes).1.is_name
+pub makes-name : (renaming : Renaming) (nodes : UnitNodes) (handle : ℕ) (tree : SyntaxTree) → Makes renaming nodes handle tree → (node_at nodes handle).name ≡ renaming (name_of tree)
+makes-name renaming nodes handle (Node kind token name number parts) makes = (node-of renaming nodes handle kind token name number parts makes).1.is_name

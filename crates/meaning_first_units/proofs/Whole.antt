@@ -25,13 +25,13 @@ use Rattle.meaning_typing.proofs.Surroundings.{surroundings_are_found}
 use Rattle.meaning_judgements.specs.WholeFacts.{AreWholeFacts}
 use Rattle.meaning_judgements.proofs.FactLemmas.{whole_facts_are_found}
 use Rattle.meaning_first_units.specs.Laws.{IsSilent, SilenceIsHandedOver}
-use Rattle.meaning_first_units.specs.Units.{IsFirstFormUnit}
+use Rattle.meaning_first_units.specs.Units.{IsFirstFormUnit, Renaming}
 use Rattle.meaning_first_units.proofs.Declared.{function-shape}
 use Rattle.meaning_first_units.proofs.Named.{around-is, root, some-nodes}
 use Rattle.meaning_first_units.proofs.Standing.{Make, Makes, node-of}
 use Rattle.meaning_first_units.proofs.Statements.{QuietAccess, QuietConversion, statement-quiet}
 
-module _ (nodes : UnitNodes) (items : List Item) (surroundings : List Surrounding) (facts : List Fact) (unit : IsLaidUnit nodes) (form : IsFirstFormUnit nodes items)
+module _ (renaming : Renaming) (nodes : UnitNodes) (items : List Item) (surroundings : List Surrounding) (facts : List Fact) (unit : IsLaidUnit nodes) (form : IsFirstFormUnit renaming nodes items)
     (are : AreSurroundings nodes surroundings) (known : AreWholeFacts nodes surroundings facts) (silent : IsSilent nodes) where
   abbrev IsEvaluated : ℕ → Type 0
   IsEvaluated handle = (surrounding_at surroundings handle).is_evaluated ≡ true
@@ -39,7 +39,7 @@ module _ (nodes : UnitNodes) (items : List Item) (surroundings : List Surroundin
   -- an evaluated part of what is evaluated
   part-evaluated : (parent place : ℕ) (child : ℕ × ℕ) → IsEvaluated parent → slice_get (node_at nodes parent).children place ≡ Some child → Evaluated ≡ role_of child.1 → IsEvaluated child.0
   part-evaluated parent place child evaluated at in_role =
-      ap (λ (s : Surrounding). s.is_evaluated) (around-is nodes items surroundings facts unit form are known parent place child at)
+      ap (λ (s : Surrounding). s.is_evaluated) (around-is renaming nodes items surroundings facts unit form are known parent place child at)
       ∙ ap (λ role. (surrounding_at surroundings parent).is_evaluated && evaluates role) (sym in_role)
       ∙ ap (λ b. b && true) evaluated
 
@@ -58,26 +58,26 @@ module _ (nodes : UnitNodes) (items : List Item) (surroundings : List Surroundin
 
   body-quiet :
       (before : List Item) → ((item : Item) → Contains before item → Contains items item) → (first : ℕ) (statements : List Statement) (children : List (ℕ × ℕ))
-      → AreEvaluated children → Make nodes children (parts_of Evaluated (statement_trees first statements)) → All IsQuietPlaced (placed_body before first statements)
+      → AreEvaluated children → Make renaming nodes children (parts_of Evaluated (statement_trees first statements)) → All IsQuietPlaced (placed_body before first statements)
   body-quiet before among first [] children evaluated make = All-nil IsQuietPlaced
   body-quiet before among first (statement ∷ statements) [] evaluated make = absurd make
   body-quiet before among first (statement ∷ statements) (child ∷ children) evaluated make =
       All-cons IsQuietPlaced (record { before = before; first = first; statement = statement }) (placed_body before (first + length (statement_spelled statement)) statements)
-      (statement-quiet nodes items surroundings facts unit form are known silent before among child.0 first statement make.1 (evaluated 0 child refl make.0))
+      (statement-quiet renaming nodes items surroundings facts unit form are known silent before among child.0 first statement make.1 (evaluated 0 child refl make.0))
       (body-quiet before among (first + length (statement_spelled statement)) statements children (λ place. evaluated (suc place)) make.2)
 
   item-quiet :
       (before : List Item) → ((item : Item) → Contains before item → Contains items item) → (first : ℕ) (item : Item) (handle : ℕ) → IsEvaluated handle
-      → Makes nodes handle (item_tree first item) → All IsQuietPlaced (placed_body before (first + tokens_before_body) (item_statements item))
+      → Makes renaming nodes handle (item_tree first item) → All IsQuietPlaced (placed_body before (first + tokens_before_body) (item_statements item))
   item-quiet before among first (Object words stars name) handle evaluated makes = All-nil IsQuietPlaced
   item-quiet before among first (Function name statements) handle evaluated makes =
-      let shape = function-shape nodes handle first name statements makes in
+      let shape = function-shape renaming nodes handle first name statements makes in
       let body = part-evaluated handle 2 shape.body evaluated (ap (λ children. slice_get children 2) shape.parts) (sym shape.evaluated) in
       body-quiet before among (first + 6) statements shape.statement_handles (parts-evaluated shape.body.0 shape.statement_handles body shape.statements_are) shape.make
 
   items-quiet :
       (before behind : List Item) → items ≡ before ++ behind → (first : ℕ) (children : List (ℕ × ℕ)) → AreEvaluated children
-      → Make nodes children (parts_of Evaluated (item_trees first behind)) → All IsQuietPlaced (placed_behind before first behind)
+      → Make renaming nodes children (parts_of Evaluated (item_trees first behind)) → All IsQuietPlaced (placed_behind before first behind)
   items-quiet before [] all first children evaluated make = All-nil IsQuietPlaced
   items-quiet before (item ∷ behind) all first [] evaluated make = absurd make
   items-quiet before (item ∷ behind) all first (child ∷ children) evaluated make =
@@ -90,9 +90,9 @@ module _ (nodes : UnitNodes) (items : List Item) (surroundings : List Surroundin
   all-quiet : All IsQuietPlaced (placed_in items)
   all-quiet =
       let last = length nodes - 1 in
-      let makes = root nodes items surroundings facts unit form are known in
-      let node = node-of nodes last kinds.TranslationUnit 0 [] 0 (parts_of Evaluated (item_trees 0 items)) makes in
-      let top = get_or_from_slice_get surroundings last (of_unit last) (of_unit (length surroundings)) (are.unit (some-nodes nodes items surroundings facts unit form are known)) in
+      let makes = root renaming nodes items surroundings facts unit form are known in
+      let node = node-of renaming nodes last kinds.TranslationUnit 0 [] 0 (parts_of Evaluated (item_trees 0 items)) makes in
+      let top = get_or_from_slice_get surroundings last (of_unit last) (of_unit (length surroundings)) (are.unit (some-nodes renaming nodes items surroundings facts unit form are known)) in
       items-quiet [] items refl 0 node.0 (parts-evaluated last node.0 (ap (λ (s : Surrounding). s.is_evaluated) top) node.1.are_children) node.2
 
 -- Lists of placed statements
@@ -104,12 +104,12 @@ flat-all P f (x ∷ xs) all = All-append P (f x) (flat_map f xs) (All-head (λ y
 -- The law
 
 pub silence_is_handed_over : SilenceIsHandedOver
-silence_is_handed_over nodes items unit form silent =
+silence_is_handed_over renaming nodes items unit form silent =
     record { sound = All-nil (Fails (unit_tree items)); complete = λ failure fails. absurd (none failure fails); ordered = tt }
   where
     quiet : All (λ placed. All QuietAccess (placed_accesses placed) × All QuietConversion (placed_conversions placed)) (placed_in items)
     quiet =
-        all-quiet nodes items (surroundings_of nodes) (whole_facts_of nodes (surroundings_of nodes)) unit form (surroundings_are_found nodes unit)
+        all-quiet renaming nodes items (surroundings_of nodes) (whole_facts_of nodes (surroundings_of nodes)) unit form (surroundings_are_found nodes unit)
         (whole_facts_are_found nodes (surroundings_of nodes)) silent
 
     accesses : All QuietAccess (accesses_in (unit_tree items))

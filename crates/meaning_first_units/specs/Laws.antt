@@ -9,12 +9,14 @@ use Rattle.meaning_first_rules.specs.Failures.{IsListing}
 use Rattle.meaning_typing.specs.Units.{UnitNodes}
 use Rattle.meaning_typing.specs.laws.Surroundings.{IsLaidUnit}
 use Rattle.meaning_judgements.specs.WholeRules.{WholeFails}
-use Rattle.meaning_first_units.specs.Units.{IsFirstFormUnit}
+use Rattle.meaning_first_units.specs.Units.{IsFirstFormUnit, Renaming}
 
 -- no rule of the class of address spaces fails in the unit
 abbrev pub IsSilent : UnitNodes → Type 0
 IsSilent nodes = (failure : Failure) → WholeFails nodes failure → rule_class failure.rule ≢ AddressSpace
 
--- where none fails by the rules of all units, none does by those of the form
+-- where none fails by the rules of all units, none does by those of the form, whatever names stand for those of the items
 abbrev pub SilenceIsHandedOver : Type 0
-SilenceIsHandedOver = (nodes : UnitNodes) (items : List Item) → IsLaidUnit nodes → IsFirstFormUnit nodes items → IsSilent nodes → IsListing (unit_tree items) []
+SilenceIsHandedOver =
+    (renaming : Renaming) (nodes : UnitNodes) (items : List Item) → IsLaidUnit nodes → IsFirstFormUnit renaming nodes items → IsSilent nodes
+    → IsListing (unit_tree items) []

@@ -27,8 +27,8 @@ by-tree : (items : List Item) (tree : SyntaxTree) → AllFine items tree → is_
 by-tree items (Node kind token name number parts) all = by-kind items kind token name number parts all.0
 
 pub first_forms_initialize_nothing : FirstFormsInitializeNothing
-first_forms_initialize_nothing nodes items unit form handle within =
+first_forms_initialize_nothing renaming nodes items unit form handle within =
     let surroundings = surroundings_of nodes in
-    let top = root nodes items surroundings (whole_facts_of nodes surroundings) unit form (surroundings_are_found nodes unit) (whole_facts_are_found nodes surroundings) in
-    let found = reach nodes items unit top handle within in
-    ap is_initializing (makes-kind nodes handle found.tree found.makes) ∙ by-tree items found.tree found.all
+    let top = root renaming nodes items surroundings (whole_facts_of nodes surroundings) unit form (surroundings_are_found nodes unit) (whole_facts_are_found nodes surroundings) in
+    let found = reach renaming nodes items unit top handle within in
+    ap is_initializing (makes-kind renaming nodes handle found.tree found.makes) ∙ by-tree items found.tree found.all

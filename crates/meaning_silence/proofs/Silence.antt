@@ -25,9 +25,9 @@ use Rattle.meaning_silence.proofs.Rows.{judgements_are_whole}
 use Rattle.meaning_silence.proofs.Untold.{unit-off}
 
 pub silent_units_are_safe : SilentUnitsAreSafe
-silent_units_are_safe nodes items unit form silent =
+silent_units_are_safe renaming nodes items unit form silent =
     let tree_form : IsTreeInForm (unit_tree items) = record { items = items; fit = form.fit; bound = form.bound; is_tree = refl } in
-    unit_is_safe (unit_tree items) tree_form (silence_is_handed_over nodes items unit form silent)
+    unit_is_safe (unit_tree items) tree_form (silence_is_handed_over renaming nodes items unit form silent)
 
 -- What is told
 
@@ -72,11 +72,11 @@ silent-by-judgement nodes surroundings facts classes listing _ is unit are known
     (some ∙ ap Some is))
 
 pub judged_units_are_safe : JudgedUnitsAreSafe
-judged_units_are_safe nodes items classes listing unit form judged on off =
-    let whole = judgements_are_whole nodes (Holds listing) (first_forms_initialize_nothing nodes items unit form) judged in
-    silent_units_are_safe nodes items unit form
+judged_units_are_safe renaming nodes items classes listing unit form judged on off =
+    let whole = judgements_are_whole nodes (Holds listing) (first_forms_initialize_nothing renaming nodes items unit form) judged in
+    silent_units_are_safe renaming nodes items unit form
     (silent-by-judgement nodes whole.0 whole.1 classes listing (Holds listing) refl unit whole.2 whole.3 whole.4 on off)
 
 pub untold_units_are_safe : UntoldUnitsAreSafe
-untold_units_are_safe nodes items shown classes listing unit form judged on none =
-    judged_units_are_safe nodes items classes listing unit form judged on (unit-off shown classes listing none)
+untold_units_are_safe renaming nodes items shown classes listing unit form judged on none =
+    judged_units_are_safe renaming nodes items classes listing unit form judged on (unit-off shown classes listing none)

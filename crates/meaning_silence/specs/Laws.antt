@@ -20,7 +20,7 @@ use Rattle.meaning_units.specs.Laws.{AreAllNested}
 use Rattle.meaning_units.specs.WholeRows.{AreRows, facts_of, row_at}
 use Rattle.meaning_units.specs.WholeRules.{IsJudgement}
 use Rattle.meaning_first_units.specs.Laws.{IsSilent}
-use Rattle.meaning_first_units.specs.Units.{IsFirstFormUnit}
+use Rattle.meaning_first_units.specs.Units.{IsFirstFormUnit, Renaming}
 use Rattle.meaning_machine.specs.Runs.{IsSafe}
 use Rattle.meaning_silence.specs.Initializing.{InitializesNothing}
 
@@ -46,13 +46,16 @@ WholeJudgementsAreJudgements =
 
 -- a unit of the first form initializes nothing
 abbrev pub FirstFormsInitializeNothing : Type 0
-FirstFormsInitializeNothing = (nodes : UnitNodes) (items : List Item) → IsLaidUnit nodes → IsFirstFormUnit nodes items → InitializesNothing nodes
+FirstFormsInitializeNothing =
+    (renaming : Renaming) (nodes : UnitNodes) (items : List Item) → IsLaidUnit nodes → IsFirstFormUnit renaming nodes items → InitializesNothing nodes
 
 -- Silence
 
 -- where no rule of the class of address spaces fails, no run meets a fault
 abbrev pub SilentUnitsAreSafe : Type 0
-SilentUnitsAreSafe = (nodes : UnitNodes) (items : List Item) → IsLaidUnit nodes → IsFirstFormUnit nodes items → IsSilent nodes → IsSafe (unit_tree items)
+SilentUnitsAreSafe =
+    (renaming : Renaming) (nodes : UnitNodes) (items : List Item) → IsLaidUnit nodes → IsFirstFormUnit renaming nodes items → IsSilent nodes
+    → IsSafe (unit_tree items)
 
 -- each failure of the listing is of a class that is off
 abbrev pub AreOff : List Class → List Failure → Type 0
@@ -61,12 +64,13 @@ AreOff classes listing = (failure : Failure) → Contains listing failure → is
 -- so it is where the class is on and no failure that is told is of a class that is on
 abbrev pub JudgedUnitsAreSafe : Type 0
 JudgedUnitsAreSafe =
-    (nodes : UnitNodes) (items : List Item) (classes : List Class) (listing : List Failure) → IsLaidUnit nodes → IsFirstFormUnit nodes items
-    → IsJudgement nodes (Holds listing) → is_on classes AddressSpace ≡ true → AreOff classes listing → IsSafe (unit_tree items)
+    (renaming : Renaming) (nodes : UnitNodes) (items : List Item) (classes : List Class) (listing : List Failure) → IsLaidUnit nodes
+    → IsFirstFormUnit renaming nodes items → IsJudgement nodes (Holds listing) → is_on classes AddressSpace ≡ true → AreOff classes listing
+    → IsSafe (unit_tree items)
 
 -- and where nothing is written of it
 abbrev pub UntoldUnitsAreSafe : Type 0
 UntoldUnitsAreSafe =
-    (nodes : UnitNodes) (items : List Item) (shown : ShownUnit) (classes : List Class) (listing : List Failure) → IsLaidUnit nodes
-    → IsFirstFormUnit nodes items → IsJudgement nodes (Holds listing) → is_on classes AddressSpace ≡ true → unit_lines shown classes listing ≡ []
+    (renaming : Renaming) (nodes : UnitNodes) (items : List Item) (shown : ShownUnit) (classes : List Class) (listing : List Failure) → IsLaidUnit nodes
+    → IsFirstFormUnit renaming nodes items → IsJudgement nodes (Holds listing) → is_on classes AddressSpace ≡ true → unit_lines shown classes listing ≡ []
     → IsSafe (unit_tree items)

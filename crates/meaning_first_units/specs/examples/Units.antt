@@ -1,11 +1,21 @@
--- Worked examples: the nodes of a small file, each behind its parts, and the nearest lists that are not of its items.
+-- Worked examples: the nodes of a small file, each behind its parts and with numbers for names, and the nearest lists that are not of
+-- its items.
 use Rattle.std.specs.Prelude.{ℕ, List, [], ◌∷◌, ◌++◌, codes}
 use Rattle.vocabulary.specs.declared.node_kind.NodeKind.{NodeKind}
 use Rattle.vocabulary.specs.declared.node_kind.NodeKind.TheVariants.{TranslationUnit, Declaration, FunctionDefinition, Specifiers, ExternSpecifier, IntSpecifier, VoidSpecifier, Declarator, FunctionDeclarator, Parameter, CompoundStatement, ExpressionStatement, Assignment, Name}
 use Rattle.meaning_tree.specs.Nodes.{TreeNode}
+use Rattle.meaning_unit_nodes.specs.Numbered.{number_told}
 use Rattle.meaning_syntax.specs.Items.{Item, Object, Function, Assign}
 use Rattle.meaning_typing.specs.Units.{UnitNodes}
-use Rattle.meaning_first_units.specs.Units.{IsFirstFormUnit}
+use Rattle.meaning_first_units.specs.Units.{IsFirstFormUnit, Renaming}
+
+-- "x" has the number 1 and "f" the number 2; any other name would have the number 3
+abbrev pub number_of_name : Renaming
+number_of_name = number_told ([] ∷ codes "x" ∷ codes "f" ∷ [])
+
+-- all names have one number
+abbrev pub one_number : Renaming
+one_number = number_told ([] ∷ [])
 
 -- a node, with the handles and the tags of its children: 0 of an evaluated one, 2 of a part of a type
 abbrev pub node : NodeKind → (token : ℕ) → (name : List ℕ) → (number : ℕ) → (children : List (ℕ × ℕ)) → TreeNode (List ℕ)
@@ -20,7 +30,7 @@ object_nodes =
     leaf ExternSpecifier 0
     ∷ leaf IntSpecifier 1
     ∷ node Specifiers 0 [] 0 ((0, 2) ∷ (1, 2) ∷ [])
-    ∷ node Declarator 2 (codes "x") 0 []
+    ∷ node Declarator 2 (1 ∷ []) 0 []
     ∷ node Declaration 0 [] 0 ((2, 2) ∷ (3, 0) ∷ [])
     ∷ []
 
@@ -33,9 +43,9 @@ function_nodes target source =
     ∷ node Specifiers 7 [] 0 ((7, 2) ∷ [])
     ∷ node Parameter 7 [] 0 ((8, 2) ∷ [])
     ∷ node FunctionDeclarator 6 [] 0 ((9, 2) ∷ [])
-    ∷ node Declarator 5 (codes "f") 0 ((10, 2) ∷ [])
-    ∷ node Name 10 (codes "x") target []
-    ∷ node Name 12 (codes "x") source []
+    ∷ node Declarator 5 (2 ∷ []) 0 ((10, 2) ∷ [])
+    ∷ node Name 10 (1 ∷ []) target []
+    ∷ node Name 12 (1 ∷ []) source []
     ∷ node Assignment 11 [] 0 ((12, 0) ∷ (13, 0) ∷ [])
     ∷ node ExpressionStatement 10 [] 0 ((14, 0) ∷ [])
     ∷ node CompoundStatement 9 [] 14 ((15, 0) ∷ [])
@@ -52,9 +62,11 @@ items_of name = Object [] 0 name ∷ Function (codes "f") (Assign name name ∷ 
 
 pub record UnitExamples : Type 0 where
   -- the names are linked with the declarator of the object
-  pub file : IsFirstFormUnit (file_nodes 3 3) (items_of (codes "x"))
+  pub file : IsFirstFormUnit number_of_name (file_nodes 3 3) (items_of (codes "x"))
   -- they aren't those of another object
-  pub other_name : IsFirstFormUnit (file_nodes 3 3) (items_of (codes "y")) → ⊥
+  pub other_name : IsFirstFormUnit number_of_name (file_nodes 3 3) (items_of (codes "y")) → ⊥
   -- a name isn't linked with the declarator of the function, nor left without a link
-  pub to_function : IsFirstFormUnit (file_nodes 3 11) (items_of (codes "x")) → ⊥
-  pub to_nothing : IsFirstFormUnit (file_nodes 3 0) (items_of (codes "x")) → ⊥
+  pub to_function : IsFirstFormUnit number_of_name (file_nodes 3 11) (items_of (codes "x")) → ⊥
+  pub to_nothing : IsFirstFormUnit number_of_name (file_nodes 3 0) (items_of (codes "x")) → ⊥
+  -- one number for both names tells nothing apart, whatever the nodes are
+  pub not_apart : (nodes : UnitNodes) → IsFirstFormUnit one_number nodes (items_of (codes "x")) → ⊥

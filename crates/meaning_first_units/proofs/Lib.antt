@@ -13,4 +13,8 @@ pub mod Types
 pub mod Named
 pub mod Statements
 pub mod Whole
+pub mod Unlinked
+pub mod Telling
+pub mod Ordering
+pub mod Trees
 pub mod Worked

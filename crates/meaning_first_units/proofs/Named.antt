@@ -10,8 +10,9 @@ use Rattle.vocabulary.specs.declared.node_kind.NodeKind.TheVariants as kinds
 use Rattle.vocabulary.specs.Roles.{role_of}
 use Rattle.meaning_types.specs.Types.{TypeTree, no_flags}
 use Rattle.meaning_tree.specs.Forms.{kind_of}
-use Rattle.meaning_tree.specs.Nodes.{end_of}
+use Rattle.meaning_tree.specs.Nodes.{IsTreeOf, end_of}
 use Rattle.meaning_tree.specs.Trees.{SyntaxTree, Node}
+use Rattle.meaning_unit_nodes.specs.Laws.{with_names}
 use Rattle.meaning_syntax.specs.Items.{Word, Item, Object, Function}
 use Rattle.meaning_syntax.specs.Binding.{item_name}
 use Rattle.meaning_syntax.specs.Trees.{unit_tree}
@@ -39,7 +40,7 @@ use Rattle.meaning_first_units.proofs.Types.{common-one, linked-one}
 
 -- Kinds
 
-fine-kind : (items : List Item) (tree : SyntaxTree) → AllFine items tree → (kind : NodeKind) → kind ≡ kind_of tree → (is_quiet kind || is_declarator_kind kind) ≡ true
+pub fine-kind : (items : List Item) (tree : SyntaxTree) → AllFine items tree → (kind : NodeKind) → kind ≡ kind_of tree → (is_quiet kind || is_declarator_kind kind) ≡ true
 fine-kind items (Node kinds.Declaration token name number parts) fine kind is = ap (λ k. is_quiet k || is_declarator_kind k) is
 fine-kind items (Node kinds.FunctionDefinition token name number parts) fine kind is = ap (λ k. is_quiet k || is_declarator_kind k) is
 fine-kind items (Node own token name number parts) fine kind is = ap (λ k. is_quiet k || is_declarator_kind k) is ∙ fine.0.0
@@ -70,15 +71,19 @@ abbrev fact_name : Fact → List ℕ
 fact_name (Declared declaration) = declaration.name
 fact_name fact = []
 
+pub root-of : (renaming : Renaming) (nodes : UnitNodes) (items : List Item) → IsTreeOf (plain nodes) (with_names renaming (unit_tree items))
+    → Makes renaming nodes (length nodes - 1) (unit_tree items)
+root-of renaming nodes items is_tree =
+    let last : end_of (plain nodes) - 1 ≡ length nodes - 1 = omega (arith, length-map nodes without_link) in
+    subst (λ handle. Makes renaming nodes handle (unit_tree items)) last is_tree.1
+
 module _ (renaming : Renaming) (nodes : UnitNodes) (items : List Item) (surroundings : List Surrounding) (facts : List Fact) (unit : IsLaidUnit nodes) (form : IsFirstFormUnit renaming nodes items)
     (are : AreSurroundings nodes surroundings) (known : AreWholeFacts nodes surroundings facts) where
   pub some-nodes : 0 < length nodes
   some-nodes = omega (arith, form.is_tree.0, length-map nodes without_link)
 
   pub root : Makes renaming nodes (length nodes - 1) (unit_tree items)
-  root =
-      let last : end_of (plain nodes) - 1 ≡ length nodes - 1 = omega (arith, length-map nodes without_link) in
-      subst (λ handle. Makes renaming nodes handle (unit_tree items)) last form.is_tree.1
+  root = root-of renaming nodes items form.is_tree
 
   pub fact-is : (handle : ℕ) → handle < length nodes → fact_at facts handle ≡ (whole_row_at nodes surroundings (take handle facts) handle).fact
   fact-is handle within = get_or_from_slice_get facts handle _ Unknown (known.each handle within)

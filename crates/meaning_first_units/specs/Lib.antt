@@ -1,3 +1,4 @@
 pub mod Units
+pub mod Trees
 pub mod Laws
 pub mod examples

@@ -4,6 +4,7 @@ use Rattle.std.specs.Prelude.{◌≡◌, ℕ, ◌<◌, true, List, [], ◌∷◌
 use Rattle.std.specs.List.{list_all}
 use Rattle.vocabulary.specs.declared.node_kind.NodeKind.{NodeKind}
 use Rattle.vocabulary.specs.declared.node_kind.NodeKind.TheVariants.{AttributeList, CompoundStatement, Declaration, Declarator, Name}
+use Rattle.meaning_tree.specs.Trees.{SyntaxTree, Node, Parts, NoParts, Part}
 use Rattle.meaning_tree.specs.Nodes.{TreeNode, IsTreeOf}
 use Rattle.meaning_unit_nodes.specs.Laws.{with_names}
 use Rattle.meaning_syntax.specs.Items.{Word, Noderef, AddressSpace, Item, Object, Function, item_fits}
@@ -23,6 +24,15 @@ own_number kind number = number
 
 abbrev pub without_link : TreeNode (List ℕ) → TreeNode (List ℕ)
 without_link node = record node { number = own_number node.kind node.number }
+
+-- a tree without such numbers
+abbrev mutual
+  pub without_links : SyntaxTree → SyntaxTree
+  without_links (Node kind token name number parts) = Node kind token name (own_number kind number) (parts_without_links parts)
+
+  pub parts_without_links : Parts (List ℕ) → Parts (List ℕ)
+  parts_without_links NoParts = NoParts
+  parts_without_links (Part role tree parts) = Part role (without_links tree) (parts_without_links parts)
 
 -- Names
 

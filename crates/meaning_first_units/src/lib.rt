@@ -6,4 +6,4 @@
 
 mod silence;
 
-pub use silence::{silence_is_handed_over, worked_examples};
+pub use silence::{silence_is_handed_over, trees_of_the_form_are_units, worked_examples};

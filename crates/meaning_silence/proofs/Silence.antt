@@ -7,6 +7,7 @@ use Rattle.vocabulary.specs.declared.class.Class.TheVariants.{AddressSpace}
 use Rattle.meaning_operands.specs.Failures.{Failure, Broken}
 use Rattle.meaning_warnings.specs.Listing.{IsListing, is_on}
 use Rattle.meaning_rules.specs.Rules.{Judgement, Holds, BreaksConstraint, PassesObjectSize, first_refusal, least_broken, least_token}
+use Rattle.meaning_unit_nodes.specs.Numbered.{number_told, spellings_told, unit_nodes}
 use Rattle.meaning_syntax.specs.Trees.{IsInFirstForm as IsTreeInForm, unit_tree}
 use Rattle.meaning_typing.specs.Facts.{Fact}
 use Rattle.meaning_typing.specs.Surroundings.{Surrounding, AreSurroundings}
@@ -16,9 +17,11 @@ use Rattle.meaning_judgements.specs.WholeFacts.{AreWholeFacts}
 use Rattle.meaning_judgements.specs.WholeRules.{IsWholeJudged, holds, refused, whole_broken_in, whole_failures_in, whole_passed_in}
 use Rattle.meaning_judgements.proofs.JudgementLemmas.{failures_are_gathered}
 use Rattle.meaning_first_units.specs.Laws.{IsSilent}
+use Rattle.meaning_first_units.proofs.Trees.{trees_of_the_form_are_units}
 use Rattle.meaning_first_units.proofs.Whole.{silence_is_handed_over}
+use Rattle.meaning_machine.specs.Runs.{IsSafe}
 use Rattle.meaning_machine.proofs.Worlds.{unit_is_safe}
-use Rattle.meaning_silence.specs.Laws.{AreOff, JudgedUnitsAreSafe, SilentUnitsAreSafe, UntoldUnitsAreSafe}
+use Rattle.meaning_silence.specs.Laws.{AreOff, JudgedTreesAreSafe, JudgedUnitsAreSafe, SilentUnitsAreSafe, UntoldUnitsAreSafe}
 use Rattle.meaning_silence.proofs.Initializing.{first_forms_initialize_nothing}
 use Rattle.meaning_silence.proofs.Listed.{listed}
 use Rattle.meaning_silence.proofs.Rows.{judgements_are_whole}
@@ -80,3 +83,11 @@ judged_units_are_safe renaming nodes items classes listing unit form judged on o
 pub untold_units_are_safe : UntoldUnitsAreSafe
 untold_units_are_safe renaming nodes items shown classes listing unit form judged on none =
     judged_units_are_safe renaming nodes items classes listing unit form judged on (unit-off shown classes listing none)
+
+-- Trees
+
+pub judged_trees_are_safe : JudgedTreesAreSafe
+judged_trees_are_safe tokens tree classes listing form told linked judged on off =
+    let unit = trees_of_the_form_are_units tokens tree form told linked in
+    subst IsSafe (sym form.is_tree)
+    (judged_units_are_safe (number_told (spellings_told tokens)) (unit_nodes tokens tree) form.items classes listing unit.0 unit.1 judged on off)

@@ -1,14 +1,18 @@
--- What the judgement of units says of those that initialize nothing, and what silence says of units of the first form.
+-- What the judgement of units says of those that initialize nothing, and what silence says of units and trees of the first form.
 use Rattle.std.specs.Prelude.{◌≡◌, ℕ, ◌<◌, true, false, List, [], take, length, Contains}
 use Rattle.vocabulary.specs.Rules.{rule_class}
 use Rattle.vocabulary.specs.declared.class.Class.{Class}
 use Rattle.vocabulary.specs.declared.class.Class.TheVariants.{AddressSpace}
+use Rattle.meaning_text.specs.Tokens.{Tok}
 use Rattle.meaning_operands.specs.Failures.{Failure}
 use Rattle.meaning_warnings.specs.Listing.{is_on, unit_lines}
 use Rattle.meaning_warnings.specs.Places.{ShownUnit}
 use Rattle.meaning_rules.specs.Rules.{Judgement, Holds}
+use Rattle.meaning_tree.specs.Trees.{SyntaxTree}
+use Rattle.meaning_unit_nodes.specs.Linked.{AreLinked}
+use Rattle.meaning_unit_nodes.specs.Numbered.{unit_nodes}
 use Rattle.meaning_syntax.specs.Items.{Item}
-use Rattle.meaning_syntax.specs.Trees.{unit_tree}
+use Rattle.meaning_syntax.specs.Trees.{IsInFirstForm, unit_tree}
 use Rattle.meaning_typing.specs.Rows.{Row}
 use Rattle.meaning_typing.specs.Surroundings.{Surrounding, AreSurroundings}
 use Rattle.meaning_typing.specs.Units.{UnitNodes}
@@ -20,7 +24,8 @@ use Rattle.meaning_units.specs.Laws.{AreAllNested}
 use Rattle.meaning_units.specs.WholeRows.{AreRows, facts_of, row_at}
 use Rattle.meaning_units.specs.WholeRules.{IsJudgement}
 use Rattle.meaning_first_units.specs.Laws.{IsSilent}
-use Rattle.meaning_first_units.specs.Units.{IsFirstFormUnit, Renaming}
+use Rattle.meaning_first_units.specs.Trees.{AreNamesTold}
+use Rattle.meaning_first_units.specs.Units.{IsFirstFormUnit, Renaming, without_links}
 use Rattle.meaning_machine.specs.Runs.{IsSafe}
 use Rattle.meaning_silence.specs.Initializing.{InitializesNothing}
 
@@ -74,3 +79,11 @@ UntoldUnitsAreSafe =
     (renaming : Renaming) (nodes : UnitNodes) (items : List Item) (shown : ShownUnit) (classes : List Class) (listing : List Failure) → IsLaidUnit nodes
     → IsFirstFormUnit renaming nodes items → IsJudgement nodes (Holds listing) → is_on classes AddressSpace ≡ true → unit_lines shown classes listing ≡ []
     → IsSafe (unit_tree items)
+
+-- so is a tree that is in the form without the numbers that link its nodes, by the judgement of its nodes: its names are told by the tokens,
+-- and each is linked with what declares it
+abbrev pub JudgedTreesAreSafe : Type 0
+JudgedTreesAreSafe =
+    (tokens : List Tok) (tree : SyntaxTree) (classes : List Class) (listing : List Failure) → IsInFirstForm (without_links tree)
+    → AreNamesTold tokens tree → AreLinked (unit_nodes tokens tree) → IsJudgement (unit_nodes tokens tree) (Holds listing)
+    → is_on classes AddressSpace ≡ true → AreOff classes listing → IsSafe (without_links tree)

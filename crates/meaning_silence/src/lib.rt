@@ -10,6 +10,6 @@
 mod promise;
 
 pub use promise::{
-    first_forms_initialize_nothing, judged_units_are_safe, silent_units_are_safe,
-    units_without_initializers_are_whole,
+    first_forms_initialize_nothing, judged_trees_are_safe, judged_units_are_safe,
+    silent_units_are_safe, units_without_initializers_are_whole,
 };

@@ -1,5 +1,5 @@
 // The promise of silence.
-ghost use Rattle.meaning_silence.specs.Laws.{FirstFormsInitializeNothing, JudgedUnitsAreSafe, JudgementsAreWhole, RowsAreWhole, SilentUnitsAreSafe, UntoldUnitsAreSafe, WholeJudgementsAreJudgements};
+ghost use Rattle.meaning_silence.specs.Laws.{FirstFormsInitializeNothing, JudgedTreesAreSafe, JudgedUnitsAreSafe, JudgementsAreWhole, RowsAreWhole, SilentUnitsAreSafe, UntoldUnitsAreSafe, WholeJudgementsAreJudgements};
 
 /// The rows and the judgement of a unit that initializes nothing are those by the rules that know of no initializers; and the
 /// judgement by these is its own, where it is laid and no structure lies in itself.
@@ -23,4 +23,9 @@ pub fn silent_units_are_safe()
 pub fn judged_units_are_safe()
     ensures listing { JudgedUnitsAreSafe }
     ensures text { UntoldUnitsAreSafe }
+{}
+
+/// Nor one of a unit whose tree is in the first form but for the numbers that link its nodes, by the judgement of the nodes of this tree.
+pub fn judged_trees_are_safe()
+    ensures { JudgedTreesAreSafe }
 {}

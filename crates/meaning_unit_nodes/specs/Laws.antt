@@ -1,12 +1,14 @@
 -- What holds of the nodes of units.
-use Rattle.std.specs.Prelude.{◌≡◌, ℕ, true, List}
+use Rattle.std.specs.Prelude.{◌≡◌, ℕ, true, List, map}
 use Rattle.std.specs.List.{list_any}
 use Rattle.std.specs.Str.{bytes_eq}
 use Rattle.meaning_text.specs.Tokens.{Tok}
 use Rattle.meaning_tree.specs.Trees.{SyntaxTree, Node, Parts, NoParts, Part}
-use Rattle.meaning_tree.specs.Nodes.{TreeNode, NodeList, IsTreeOf}
+use Rattle.meaning_tree.specs.Nodes.{TreeNode, NodeList, IsTreeOf, ChildrenStandBefore}
 use Rattle.meaning_tree.specs.Laid.{IsLaid}
+use Rattle.meaning_tree.specs.Listed.{renamed_node}
 use Rattle.meaning_unit_nodes.specs.Written.{nodes_in}
+use Rattle.meaning_unit_nodes.specs.Linked.{AreLinked}
 use Rattle.meaning_unit_nodes.specs.Numbered.{spellings_told, number_told, unit_nodes}
 
 -- nodes of which the first one has handle 0
@@ -20,6 +22,10 @@ NodesStandForTheirTree = (tree : SyntaxTree) → IsTreeOf (list_from_0 (nodes_in
 -- and those of each tree in it are one run
 abbrev pub NodesAreLaid : Type 0
 NodesAreLaid = (tree : SyntaxTree) → IsLaid (list_from_0 (nodes_in tree))
+
+-- and each stands behind its parts
+abbrev pub NodesStandBehindTheirParts : Type 0
+NodesStandBehindTheirParts = (tree : SyntaxTree) → ChildrenStandBefore (list_from_0 (nodes_in tree))
 
 -- Numbers for names
 
@@ -41,3 +47,10 @@ abbrev pub NumbersTellApart : Type 0
 NumbersTellApart =
     (toks : List Tok) (spelling other : List ℕ) → list_any (bytes_eq spelling) (spellings_told toks) ≡ true
     → number_told (spellings_told toks) spelling ≡ number_told (spellings_told toks) other → spelling ≡ other
+
+-- Links
+
+-- names that are linked stay so under other names
+abbrev pub NamesStayLinked : Type 0 → Type 0
+NamesStayLinked Spelling =
+    (renaming : Spelling → List ℕ) (nodes : List (TreeNode Spelling)) → AreLinked nodes → AreLinked (map (renamed_node renaming) nodes)

@@ -6,4 +6,6 @@
 
 mod nodes;
 
-pub use nodes::{nodes_stand_for_their_tree, numbers_tell_spellings_apart, worked_examples};
+pub use nodes::{
+    names_stay_linked, nodes_stand_for_their_tree, numbers_tell_spellings_apart, worked_examples,
+};

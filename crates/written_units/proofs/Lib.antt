@@ -1,2 +1,3 @@
 mod FillingLemmas
 mod WrittenLemmas
+mod LinkingLemmas

@@ -1,8 +1,9 @@
-// Short units of two nodes and one over them, some of which don't stand in the order in which they are written.
+// Short units of two nodes and perhaps one over them, some of which don't stand in the order in which they are written, or have a name that
+// isn't linked.
 ghost use Rattle.std.specs.Prelude.{◌≡◌, ◌<◌, ◌≤◌, All, IfOk};
 ghost use Rattle.meaning_tree.specs.Nodes.{end_of};
 
-use crate::is_written;
+use crate::{are_linked, is_written};
 use c_tree::{AddFault, Handle, Node, Unit};
 use sparse_model::{NameId, NodeKind, Role};
 use std::alloc::{AllocError, Global};
@@ -120,5 +121,24 @@ fn a_unit_is_one_tree(rt: HostRuntime) -> Result<(), Fail> {
     add_leaf(&rt, rt.alloc(), &mut unit, NodeKind::Name)?;
     let found = is_written(rt.alloc(), &unit, 8)?;
     assert_eq!(rt; found, false);
+    Ok(())
+}
+
+// Both nodes have the same name, and the number of the first handle.
+#[test]
+fn names_are_linked_with_what_declares_them(rt: HostRuntime) -> Result<(), Fail> {
+    let cases = [
+        (NodeKind::Declarator, NodeKind::Name, true),
+        (NodeKind::Enumerator, NodeKind::Name, true),
+        (NodeKind::PointerDeclarator, NodeKind::Name, false),
+        (NodeKind::Name, NodeKind::Declarator, false),
+        (NodeKind::PointerDeclarator, NodeKind::Declarator, true),
+    ];
+    for (first, second, expected) in cases {
+        let mut unit = Unit::new(rt.alloc());
+        add_leaf(&rt, rt.alloc(), &mut unit, first)?;
+        add_leaf(&rt, rt.alloc(), &mut unit, second)?;
+        assert_eq!(rt; are_linked(&unit), expected);
+    }
     Ok(())
 }

@@ -80,13 +80,13 @@ class DifferingJudge(judging.Judge):
     def parameter_object(self, declared):
         return types.value_of(declared) if declared.form in ("array", "function") else declared
 
-    def link(self, declarator, of, sums):
+    def link(self, declarator, of, carried):
         for earlier, _ in self.linked.get(declarator.name, []):
             lengths = {each.length for each in (earlier, of)} if earlier.form == of.form == "array" else ()
             known = types.changed(of, length=earlier.length) if None in lengths else of
             if known is not earlier:
                 self.found.breaks(36, declarator.at)
-        super().link(declarator, of, sums)
+        super().link(declarator, of, carried)
 
 
 def is_refused(text):

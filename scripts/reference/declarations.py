@@ -37,6 +37,13 @@ class Declared(NamedTuple):
     is_static: bool = False
 
 
+class Carried(NamedTuple):
+    """What a declaration carries, or all of one name do: the sums of what its contexts take and give, and that it doesn't return."""
+
+    sums: tuple | None
+    noreturn: bool
+
+
 class Attributes(NamedTuple):
     """What some attribute lists come to."""
 
@@ -490,15 +497,15 @@ class Declarations(Initializing):
             while parts and parts[0][1].kind == "AttributeList":
                 lists.append(parts.pop(0)[1])
             of = self.with_attributes(self.derived(base, part, node.at), lists, node.at)
-            sums = contexts(own_lists(specifiers, part, lists))
+            carried = carries(specifiers, part, lists)
             if parts and parts[0][1].kind == "Initializer":
                 initializer = parts.pop(0)[1].parts[0][1]
-                self.declare_initialized(node, specifiers, part, of, sums, initializer, is_evaluated)
+                self.declare_initialized(node, specifiers, part, of, carried, initializer, is_evaluated)
             else:
-                self.declare(node, specifiers, part, of, sums)
+                self.declare(node, specifiers, part, of, carried)
             leading = ()
 
-    def declare(self, node, specifiers, declarator, of, sums, is_definition=False):
+    def declare(self, node, specifiers, declarator, of, carried, is_definition=False):
         """A declarator declares its name."""
         is_file, is_extern = self.is_at_file_scope(), has(specifiers, "ExternSpecifier")
         if has(specifiers, "TypedefSpecifier"):
@@ -512,7 +519,7 @@ class Declarations(Initializing):
             of = self.found.refuses(10, declarator.at)
         self.declare_object(node, specifiers, declarator, of, is_definition or is_file and not is_extern and is_object)
         if is_linked and of is not None:
-            self.link(declarator, of, sums)
+            self.link(declarator, of, carried)
 
     def declare_typedef(self, node, declarator, of):
         self.found.names.setdefault(node.at, declarator.name)
@@ -534,7 +541,7 @@ class Declarations(Initializing):
         is_function = of is not None and of.form == "function"
         return self.is_at_file_scope() or has(specifiers, "ExternSpecifier") or is_function
 
-    def declare_initialized(self, node, specifiers, declarator, of, sums, initializer, is_evaluated):
+    def declare_initialized(self, node, specifiers, declarator, of, carried, initializer, is_evaluated):
         """A declarator with an initializer declares its name; names in the initializer see what is declared, and those behind it the
         completed type."""
         if has(specifiers, "TypedefSpecifier"):
@@ -548,7 +555,7 @@ class Declarations(Initializing):
         self.declare_object(node, specifiers, declarator, of, is_file)
         earlier = self.linked.setdefault(declarator.name, []) if is_linked else []
         number = len(earlier)
-        earlier += [(of, sums)] if of is not None else []
+        earlier += [(of, carried)] if of is not None else []
         values = self.judges(initializer, is_evaluated)
         del earlier[number : number + 1]
         if is_linked and not is_file:
@@ -558,7 +565,7 @@ class Declarations(Initializing):
             self.declared[declarator.at] = self.declared[declarator.at]._replace(type=of)
         if is_linked and of is not None:
             self.define(declarator)
-            self.link(declarator, of, sums)
+            self.link(declarator, of, carried)
 
     def completed(self, declarator, of, initializer, values, is_static):
         """The type of an object behind its initializer."""
@@ -604,13 +611,18 @@ class Declarations(Initializing):
             return of
         return self.found.refuses(41, declarator.at, declarator.name)
 
-    def link(self, declarator, of, sums):
+    def link(self, declarator, of, carried):
         """A name with linkage is declared, perhaps again."""
         earlier = self.linked.setdefault(declarator.name, [])
-        other = next((each for each, its in earlier if not types.agree(each, of) or None not in (its, sums) and its != sums), None)
+        other = next((each for each, its in earlier if not types.agree(each, of) or differ(its.sums, carried.sums)), None)
         if other is not None:
             self.found.fails("A7", declarator.at, other, of, word=declarator.name)
-        earlier.append((of, sums))
+        earlier.append((of, carried))
+
+    def carried(self, name):
+        """What the declarations of a name with linkage carry, wherever they stand: the contexts of the first that has some."""
+        each = [its for _, its in self.linked[name]]
+        return Carried(next((its.sums for its in each if its.sums is not None), None), any(its.noreturn for its in each))
 
     def type_of_linked(self, name):
         """The type of the first declaration so far that is known, with a length that a later one has."""
@@ -643,7 +655,7 @@ class Declarations(Initializing):
         (_, specifiers), (_, declarator), *parts = node.parts
         lists = [part for _, part in parts if part.kind == "AttributeList"]
         of = self.with_attributes(self.derived(self.specified(specifiers, node.at), declarator, node.at), lists, node.at)
-        self.declare(node, specifiers, declarator, of, contexts(own_lists(specifiers, declarator, lists)), True)
+        self.declare(node, specifiers, declarator, of, carries(specifiers, declarator, lists), True)
         self.define(declarator)
         if of is not None and of.inner.is_aggregate() and not types.is_complete(of.inner):
             self.found.refuses(10, declarator.at)
@@ -667,6 +679,18 @@ def own_lists(specifiers, declarator, lists):
     """The lists that say something of the declared function or object itself."""
     inside = [each for _, part in declarator.parts if part.kind == "ParenthesizedAttributes" for _, each in part.parts]
     return [*all_lists(specifiers), *inside, *lists]
+
+
+def carries(specifiers, declarator, lists):
+    """What a declarator carries: neither what stands behind a star nor what is said of a typedef's type is among it."""
+    own = own_lists(specifiers, declarator, lists)
+    noreturn = has(specifiers, "NoreturnSpecifier") or any(has(each, "NoreturnAttribute") for each in own)
+    return Carried(contexts(own), noreturn)
+
+
+def differ(sums, others):
+    """Whether both carry contexts, with other sums."""
+    return None not in (sums, others) and sums != others
 
 
 def is_bare(parameter):

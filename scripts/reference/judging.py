@@ -1,12 +1,11 @@
 """What the judge says of a unit, from the rules alone: the types of its nodes, the rules that fail, the least broken constraint."""
-from . import pairs, reading, trees, types
+from . import contexts, pairs, reading, trees, types
 from .commands import BadWord, Command, line
 from .declarations import Declarations, NotBuilt, Scope
 from .expressions import Expressions
 from .macros import Passed
 from .pairs import Fact
 from .preprocessing import NoSuchFile, Refusal, Unit, text_of
-from .scanning import Place
 from .statements import Around, Inside, Labels, Loop, Switch
 from .texts import Found
 
@@ -263,17 +262,6 @@ def parse_refusal(unit):
     return REFUSED, line(unit.paths, unit.tokens[at].place, text.encode("latin-1"))
 
 
-def has_contexts(root):
-    """Whether a context stands in a tree, as an attribute or as a statement."""
-    waiting = [root]
-    while waiting:
-        node = waiting.pop()
-        if node.kind in ("ContextAttribute", "ContextStatement"):
-            return True
-        waiting += [part for _, part in node.parts]
-    return False
-
-
 def judged(unit, classes):
     """The status of what the judge says of a preprocessed unit, and its lines."""
     refused = parse_refusal(unit)
@@ -281,15 +269,15 @@ def judged(unit, classes):
         return refused
     builder = Indexed(unit.tokens)
     root = builder.unit()
-    found = Judge(builder.hidden).unit(root)
+    judge = Judge(builder.hidden)
+    found = judge.unit(root)
     refusal = found.refusal()
     if refusal is not None:
         at, text = refusal
         if at is None:
             return LIMIT, b"ksparse: limit: %b\n" % text
         return REFUSED, line(unit.paths, builder.tokens[at].place, text)
-    if has_contexts(root):
-        return REFUSED, line(unit.paths, Place(1, 1, 1), b"error[29]: form not built")
+    contexts.unit_fails(judge, root)
     undefined = [(place, b"warning: undefined preprocessor identifier '%b'" % name) for place, name in unit.undefined]
     shown = undefined * (b"undef" in classes) + list(found.lines(builder.tokens, classes))
     return WARNED if shown else CLEAN, b"".join(line(unit.paths, *each) for each in shown)

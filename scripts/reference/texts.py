@@ -20,6 +20,9 @@ RULES = {
     "B5": (12, b"bitwise", b"fouled restricted %b compared or tested"),
     "B6": (13, b"bitwise", b"case label of a different restricted type"),
     "B7": (14, b"bitwise", b"bad assignment operator on restricted %b"),
+    "C1": (15, b"context", b"context imbalance in '%b' - different counts at this point"),
+    "C2": (16, b"context", b"context imbalance in '%b' - unexpected release"),
+    "C3": (17, b"context", b"context imbalance in '%b' - wrong count at exit (%d instead of %d)"),
     "N1": (18, b"non-pointer-null", b"using plain integer as NULL pointer"),
     "S1": (19, b"decl", b"symbol '%b' was not declared. Should it be static?"),
     "S2": (20, b"shadow", b"symbol '%b' shadows an earlier one"),
@@ -55,12 +58,12 @@ def constraint_text(number, name):
 
 
 class Failure(NamedTuple):
-    """A rule that fails at a token: what its text says besides, and the types that it names."""
+    """A rule that fails at a token: what its text says besides, one word or several parts, and the types that it names."""
 
     token: int
     rule: str
     part: int
-    word: bytes
+    word: bytes | tuple
     types: tuple
 
     def order(self):
@@ -69,7 +72,8 @@ class Failure(NamedTuple):
     def lines(self, names):
         """The texts of its lines."""
         _, _, text = RULES[self.rule]
-        words = [types.restricted_name(self.types[0], names)] if self.rule in NAMED else [self.word] * text.count(b"%b")
+        said = self.word if isinstance(self.word, tuple) else (self.word,) * text.count(b"%b")
+        words = [types.restricted_name(self.types[0], names)] if self.rule in NAMED else said
         if self.rule == "B4":
             of, to = self.types
             name = types.restricted_name(of if of.is_restricted() else to, names)

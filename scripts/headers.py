@@ -99,8 +99,6 @@ def compare(program, tree, file, folder):
     return f"{first_difference(ours_tokens, theirs_tokens)} {times}", False
 
 
-# What a check says of a unit that is read whole and has contexts, which aren't judged yet
-READ_WHOLE = re.compile(r"\S+:1:1: error\[29\]: form not built")
 REFUSED = re.compile(r"(\S+):(\d+):(\d+): error\[(\d+)\]: (.*)")
 ASSEMBLY = {b"asm", b"__asm", b"__asm__"}
 # So many refused declarations of a file are left out, one behind the other.
@@ -116,8 +114,8 @@ def checked(program, words, tree, folder):
 
 
 def is_read_whole(said):
-    """Whether a check that says this refuses nothing of the unit but its contexts."""
-    return READ_WHOLE.fullmatch(said) or not any(map(REFUSED.fullmatch, said.splitlines()))
+    """Whether a check that says this refuses nothing of the unit."""
+    return not any(map(REFUSED.fullmatch, said.splitlines()))
 
 
 def end_of_group(tokens, at):

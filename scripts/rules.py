@@ -5,7 +5,7 @@ Nothing here is taken from the program. `answer` gives the status of a check and
 """
 import re
 
-from reference.scanning import Opening, Place, meant, scan
+from reference.scanning import Opening, meant, scan
 
 PLAIN = re.compile(rb"[A-Za-z_][A-Za-z0-9_]*")
 
@@ -172,11 +172,9 @@ def line(place, text):
 
 
 def answer(text):
-    """The status of the check of `t.c` with this text, and what goes to standard error."""
+    """The status of the check of `t.c` with this text, and what goes to standard error. Raises `NotInForm` where it isn't in the form."""
     try:
         failures = Reader(list(scan(1, text))).unit()
     except Opening as opening:
         return 2, line(*opening.args)
-    except NotInForm:
-        return 2, line(Place(1, 1, 1), b"error[29]: form not built")
     return (1 if failures else 0), b"".join(line(*failure) for failure in failures)

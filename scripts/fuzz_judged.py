@@ -16,6 +16,7 @@ import sys
 import tempfile
 
 import refusals
+from made_contexts import Contexts
 from made_judged import Maker
 from made_whole import Whole
 from reference import judging, typed
@@ -27,7 +28,7 @@ OFF = [
     b"-Wcast-to-as", b"-Wcast-truncate", b"-Wdecl", b"-Wshadow", b"-Wreturn-void", b"-Wdo-while", b"-Wstrict-prototypes",
     b"-Wone-bit-signed-bitfield",
 ]
-ON = [b"-Wno-bitwise", b"-Wno-address-space", b"-Wno-non-pointer-null"]
+ON = [b"-Wno-bitwise", b"-Wno-address-space", b"-Wno-non-pointer-null", b"-Wno-context"]
 
 
 def plain_maker(chance):
@@ -36,8 +37,11 @@ def plain_maker(chance):
 
 
 def maker(chance):
-    """A maker of units, half of which have all forms; of the others one in four has no operators."""
-    return Whole(chance) if chance.randrange(2) else Maker(chance, has_operators=chance.randrange(4) > 0)
+    """A maker of units: of five two have all forms, two are functions with contexts, and one has expressions, sometimes no operators."""
+    kind = chance.randrange(5)
+    if kind < 4:
+        return Whole(chance) if kind < 2 else Contexts(chance)
+    return Maker(chance, has_operators=chance.randrange(4) > 0)
 
 
 def words_of(chance):

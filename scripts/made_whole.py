@@ -31,6 +31,9 @@ extern enum rest er;
 extern struct pair give(void);
 extern struct other *take(struct pair, int);
 extern struct unknown lost(void);
+extern void locks(int) __attribute__((context(0, 1)));
+extern void unlocks(int) __attribute__((context(l, 1, 0)));
+extern void ends(int) __attribute__((noreturn));
 """
 MEMBERS = {
     "pair": {"int": ["ma", "mf", "mu"], "p": ["mb"]}, "other": {"int": ["mz", "mh"]}, "word": {"int": ["mi", "ml", "mg"], "p": ["mc"]},
@@ -195,7 +198,7 @@ struct @ { int a : 3 ; } @b ; & @b . a ;
 struct @ { int a ; struct unknown : 3 ; } ;""".splitlines()
 
 
-KEYWORDS = {"struct", "union", "enum", "le16", "le32"}
+KEYWORDS = {"struct", "union", "enum", "le16", "le32", "__attribute__", "context", "noreturn", "l", "0", "1"}
 TAGS = {"pair", "other", "unknown", "word", "wide", "num", "big", "rest"}
 
 
@@ -547,6 +550,13 @@ class Whole(Maker):
 
     # Statements
 
+    def called(self, shape, depth):
+        """A call, now and then of a function that takes a lock, gives it back or doesn't return."""
+        if shape != "void" or self.often(60):
+            return super().called(shape, depth)
+        name = self.chance.choice(["locks", "locks", "unlocks", "( locks )", "ends"])
+        return postfix(name, "(", (self.expression("int", depth - 1), ASSIGNMENT), ")")
+
     def condition(self, depth):
         shape = self.scalar()
         if self.slips(4):
@@ -555,9 +565,12 @@ class Whole(Maker):
 
     def statement(self, depth):
         """One of all statements."""
-        kind = self.chance.randrange(30)
+        kind = self.chance.randrange(32)
         if depth <= 0 or kind < 10:
             return super().statement(max(depth, 0))
+        if kind >= 30:
+            locked = f"{{ __context__ ( l , 1 ) ; {self.statement(depth - 1)} __context__ ( l , - 1 ) ; }}"
+            return self.chance.choice(["__context__ ( 1 ) ;", "__context__ ( l , - 1 ) ;", locked, locked])
         if kind < 13:
             behind = f" else {self.sub(depth)}" if self.often(40) else ""
             # (the inner one takes the `else` that stands next)

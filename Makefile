@@ -95,6 +95,7 @@ PREPROCESSED := aggregates_assertions aggregates_attributes aggregates_enumerato
 
 rows:
 	$(PYTHON) scripts/preprocessing_rows.py $$(grep -lE '^[$$] (workbench|trees)' crates/cases/data/*.txt) $(PREPROCESSED:%=crates/cases/data/%.txt)
+	$(PYTHON) scripts/control_paths.py
 	$(PYTHON) scripts/judged_rows.py crates/fixtures/data crates/cases/data/judged_*.txt crates/cases/data/contexts_*.txt crates/cases/data/types_of_*.txt
 
 # What gcc says of expressions, and of structures and unions, beside the committed examples; and the memory that it makes of initializers.

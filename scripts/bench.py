@@ -4,13 +4,13 @@ libraries that no command makes yet.
 
 usage: bench.py PROGRAM WORKBENCH FLOWS JUDGED [FAMILY..]
 
-With families, as `macros`, `#if`, `headers`, `-E`, `parsing`, `judging` or `flows`, only these are measured.
+With families, as `macros`, `#if`, `headers`, `-E`, `parsing`, `judging`, `contexts` or `flows`, only these are measured.
 
 Prints for each file its bytes and tokens, the processor time of a check, also by the token, and the peak
 memory, also by the token where it is large. Where valgrind is installed, a column has the instructions by the
 token, above those of a check of an empty file: they don't depend on what else the machine does. They are
 counted on a smaller file of the same kind. A second table has those of each stage of a check, a third one has `-E` of files
-and their headers, files that the grammar reads and no rule judges, files that JUDGED judges, the calls, which WORKBENCH
+and their headers, files that the grammar reads, files that the judge judges, functions with contexts, the calls, which WORKBENCH
 makes, and control flow graphs, which FLOWS walks.
 
 Exits 1 where a file of the first form takes more than a tenth longer by the token than a smaller one does,
@@ -30,6 +30,7 @@ import sys
 import tempfile
 from typing import Callable, NamedTuple
 
+import bench_contexts
 import bench_flows
 import bench_texts as texts
 
@@ -101,9 +102,13 @@ LARGEST = (
 LEVELS = (b"*", b"<<", b"<", b"==", b"&", b"^", b"|", b"&&", b"||")
 
 
+# How a check may end of a text that the grammar reads
+READ = (0, 1, 2)
+
+
 class Family(NamedTuple):
     """Files that the program is measured on: their name, the text of a size, or texts by their paths, the sizes, the most seconds
-    of the largest, how many times as long one of ten times the size may take, and the words before the file with the status.
+    of the largest, how many times as long one of ten times the size may take, and the words before the file with the statuses.
 
     Where no sizes are given, nothing but the tokens of a unit and the bytes of a file bounds them.
     """
@@ -114,7 +119,7 @@ class Family(NamedTuple):
     most_seconds: float = MOST_SECONDS
     most_ratio: int = MOST_CALL_RATIO
     words: tuple = ("-E",)
-    status: int = 0
+    statuses: tuple = (0,)
 
     def measured_sizes(self):
         """The sizes that are given, or the largest that may be and a tenth of it."""
@@ -125,15 +130,15 @@ class Family(NamedTuple):
 
 
 def of_parsing(name, before, front, middle, back, after, sizes=None):
-    """A text that the grammar reads and no rule judges: something again and again, and its end as often."""
+    """A text that the grammar reads, whatever the judge says of it: something again and again, and its end as often."""
     make = lambda count: before + front * count + middle + back * count + after
-    return Family("parsing: " + name, make, sizes, words=(), status=2)
+    return Family("parsing: " + name, make, sizes, words=(), statuses=READ)
 
 
 def of_judging(name, before, front, middle, back, after, sizes=None, most_ratio=MOST_CALL_RATIO, status=0):
     """The same for a text that the judge judges; the status is 1 where it warns."""
     make = lambda count: before + front * count + middle + back * count + after
-    return Family("judging: " + name, make, sizes, most_ratio=most_ratio, words=(), status=status)
+    return Family("judging: " + name, make, sizes, most_ratio=most_ratio, words=(), statuses=(status,))
 
 
 class Call(NamedTuple):
@@ -273,7 +278,7 @@ FAMILIES = (
     Family("-E: nested calls", texts.nested_calls, (1000, 10000, 100000)),
     Family("-E: a chain", texts.chain, (1000, 10000, 100000), most_ratio=MOST_CHAIN_RATIO),
     Family("-E: tokens that vanish", texts.tokens_that_vanish, (75,)),
-    Family("parsing: functions of a kernel", texts.functions_of_a_kernel, words=(), status=2),
+    Family("parsing: functions of a kernel", texts.functions_of_a_kernel, words=(), statuses=READ),
     of_parsing("a chain of -", b"int a; int x = ", b"- ", b"a", b"", b";"),
     of_parsing("a sum", b"int a; int x = ", b"a + ", b"a", b"", b";"),
     *(of_parsing(f"operands of {it.decode()}", b"int a; int x = ", b"a %b " % it, b"a", b"", b";") for it in LEVELS),
@@ -311,9 +316,9 @@ FAMILIES = (
     of_parsing("lists in one another", b"int x = ", b"{", b"1", b"}", b";", (3000, 30000)),
     of_parsing("structures in one another", b"", b"struct { ", b"int y;", b" } x;", b"", (1300, 13000)),
     of_parsing("if in if", b"void f(void) { ", b"if (1) ", b";", b"", b" }", (6000, 60000)),
-    Family("parsing: enumerators", texts.enumerators, most_ratio=MOST_NAMES_RATIO, words=(), status=2),
-    Family("parsing: names of one scope", texts.names_of_one_body, most_ratio=MOST_NAMES_RATIO, words=(), status=2),
-    Family("parsing: words before declarators", texts.words_before_declarators, words=(), status=2),
+    Family("parsing: enumerators", texts.enumerators, most_ratio=MOST_NAMES_RATIO, words=(), statuses=READ),
+    Family("parsing: names of one scope", texts.names_of_one_body, most_ratio=MOST_NAMES_RATIO, words=(), statuses=READ),
+    Family("parsing: words before declarators", texts.words_before_declarators, words=(), statuses=READ),
 )
 
 # What flags a pointer of these texts has.
@@ -404,6 +409,9 @@ JUDGING = (
     Family("judging: initialized objects", texts.initialized_objects, (20000, 200000), most_ratio=MOST_NAMES_RATIO, words=()),
     of_judging("arguments that warn", FLAGGED + b"u; int g(int *); void f(void) { ", b"g(u); ", b"", b"", b" }", status=1),
 )
+
+# Functions with contexts
+CONTEXTS = tuple(Family(name, make, sizes, words=()) for name, make, sizes in bench_contexts.KINDS)
 
 
 class Checker:
@@ -629,7 +637,7 @@ def family_grows_in_step(program, family):
     """Whether a run takes only so many times as long where its size is ten times as large, and the largest no longer than it may.
     Prints its lines.
     """
-    checker = Checker(family.name, [program, *family.words], (family.status,))
+    checker = Checker(family.name, [program, *family.words], family.statuses)
     seconds = {}
     for size in family.measured_sizes():
         text = family.make(size)
@@ -659,7 +667,7 @@ def calls_pass(program, workbench, flows, families):
         return not families or name.split(":")[0] in families
 
     passed = True
-    for family in [*FAMILIES, *JUDGING]:
+    for family in [*FAMILIES, *JUDGING, *CONTEXTS]:
         if is_asked(family.name) and not family_grows_in_step(program, family):
             passed = False
     if is_asked(DOUBLED.name) and not doubles_in_time(workbench):

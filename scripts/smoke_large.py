@@ -10,6 +10,7 @@ import sys
 import tempfile
 from typing import NamedTuple
 
+import bench_contexts
 from bench_flows import back_to_first, cases, row
 
 # How many blocks a long flow has, and how many successors a wide one.
@@ -133,6 +134,9 @@ ITEMS = 900_000
 DESIGNATED = 100_000
 BRACES = 30_000
 CHARACTERS = 8_000_000
+
+# So often stands one operand in another that is passed behind either outcome.
+DOUBLINGS = 40
 
 # What chains stand behind, all in the first line.
 UNIT = "typedef unsigned short __attribute__((bitwise)) t; void f(int a, t h, int *p, char *s, char c) { "
@@ -307,9 +311,24 @@ def chains_differ(ksparse):
     return sum(differs(it.name, [ksparse, *it.words, "t.c"], "t.c", it.text(), ("", it.told(), it.status())) for it in CHAINS)
 
 
+def contexts_differ(ksparse):
+    """How many functions with contexts are judged otherwise, each kind as large as it is measured: silent, and with one more that fails.
+    Where each part doubles what is passed, memory is wanting at once."""
+
+    def check_differs(name, text, answer):
+        return differs(name, [ksparse, "t.c"], "t.c", text.decode(), ("", *answer))
+
+    failures = check_differs("operands that double", bench_contexts.doubling(DOUBLINGS), ("", 6))
+    for name, make, sizes in bench_contexts.KINDS:
+        text = make(sizes[-1])
+        failing, told = bench_contexts.last_fails(text)
+        failures += check_differs(name, text, SILENT) + check_differs(f"{name}, and one that fails", failing, (told, 1))
+    return failures
+
+
 def main():
     flows, workbench, ksparse = map(os.path.abspath, sys.argv[1:])
-    failures = flows_differ(flows) + workbench_differs(workbench) + checks_differ(ksparse) + chains_differ(ksparse)
+    failures = flows_differ(flows) + workbench_differs(workbench) + checks_differ(ksparse) + chains_differ(ksparse) + contexts_differ(ksparse)
     print(f"smoke: {failures} differences in large texts")
     return 1 if failures else 0
 

@@ -29,8 +29,8 @@ use decl_judge::{kind_at, token_at};
 use sparse_model::NodeKind;
 use std::alloc::{AllocError, Global};
 
-// How many cells a body may have, copies counted in.
-const MOST_CELLS: usize = 20_000_000;
+/// How many cells a body may have, copies counted in.
+pub const MOST_CELLS: usize = 20_000_000;
 
 /// What is left to do for the cells of a body.
 #[derive(Clone, Copy)]
@@ -59,8 +59,8 @@ fn push_visits(
     Ok(())
 }
 
-// Whether what `__builtin_expect` expects is passed behind either outcome of its value.
-fn stands_twice(kind: NodeKind, is_tested: bool, parts: usize) -> bool
+/// Whether what `__builtin_expect` expects is passed behind either outcome of its value.
+pub fn stands_twice(kind: NodeKind, is_tested: bool, parts: usize) -> bool
     ensures { result ≡ stands_twice kind is_tested parts }
 {
     match kind {

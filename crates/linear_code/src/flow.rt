@@ -16,6 +16,7 @@ ghost use Rattle.linear_code.specs.Known.{judged_unit};
 ghost use Rattle.linear_code.specs.Passed.{KnowsLists};
 ghost use Rattle.linear_code.specs.Sizes.{HasSmallNumbers};
 
+use crate::bound::has_few_cells;
 use crate::cells::cells_of;
 use crate::changes::body_of;
 use crate::facts::ControlFacts;
@@ -59,6 +60,9 @@ pub fn linearize<J: ControlFacts>(
     ensures walkable { IfOk result (λ flow. IsWalkable flow) }
     ensures small { IfOk result (λ flow. (most : ℕ) → HasSmallNumbers most (judged_unit unit.now (J.known facts.now)) → size_of_graph (graph_of flow) ≤ most_cells * most) }
 {
+    if !has_few_cells(alloc, unit, facts, function)? {
+        return Err(AllocError);
+    }
     let cells = cells_of(alloc, unit, facts, function)?;
     let brace = kept_token(unit, body_of(unit, function));
     flow_of(alloc, cells.as_slice(), brace)

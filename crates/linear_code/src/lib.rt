@@ -4,6 +4,7 @@
 //! isn't known here. Start reading at [`linearize`].
 #![tactic(auto)]
 
+mod bound;
 mod callee;
 mod cells;
 mod changes;

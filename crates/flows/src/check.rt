@@ -1,10 +1,11 @@
 // What the walk asks for of a flow.
-ghost use Rattle.std.specs.Prelude.{◌≡◌, ◌+◌, ◌-◌, ◌^◌, ◌<◌, IfErr, IfNone, IfOk, IfSome, MatchOption, None, Some, length, map, unsigned_abs};
-ghost use Rattle.meaning_paths.specs.Graphs.{size_of_step, size_of_steps};
+ghost use Rattle.std.specs.Prelude.{◌≡◌, ◌-◌, IfErr, IfNone, IfOk, None, Some, length, map};
+ghost use Rattle.meaning_paths.specs.Graphs.{size_of_steps};
 ghost use Rattle.control_flow.specs.Seen.{block_of, graph_of_blocks, step_of, targets};
 ghost use Rattle.flows.specs.Asked.{IsAsked, all_below, asked_fault, begins_with_point, block_fault, fault_from};
 
 use crate::wrong::Wrong;
+use context_walk::left_of;
 use control_flow::{Block, Step};
 use tag_list::TagList;
 
@@ -84,33 +85,4 @@ fn are_below(next: &TagList, blocks: usize) -> bool
         }
     }
     true
-}
-
-// What is left of a sum behind the numbers of steps, if they are no more.
-fn left_of(sum: u64, steps: &[Step]) -> Option<u64>
-    ensures { MatchOption result
-        (sum < size_of_steps (map step_of steps.now))
-        (λ left. left + size_of_steps (map step_of steps.now) ≡ sum) }
-{
-    let mut left = sum;
-    let mut rest = steps;
-    'steps: while let Some((step, others)) = rest.split_first() {
-        left = left_of_step(left, *step)?;
-        rest = others;
-    }
-    Some(left)
-}
-
-fn left_of_step(sum: u64, step: Step) -> Option<u64>
-    ensures { MatchOption result
-        (sum < size_of_step (step_of step))
-        (λ left. left + size_of_step (step_of step) ≡ sum) }
-{
-    match step {
-        Step::Point(_, _) | Step::End(_) => Some(sum),
-        Step::Add(_, by) => sum.checked_sub(by.unsigned_abs()),
-        Step::Call(_, enters, leaves) => sum
-            .checked_sub(enters.unsigned_abs())?
-            .checked_sub(leaves.unsigned_abs()),
-    }
 }

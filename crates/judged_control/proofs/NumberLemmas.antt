@@ -12,7 +12,8 @@ use Rattle.node_facts.specs.declared.fact.NodeFact.{NodeFact}
 use Rattle.node_facts.specs.Facts.{nodes_seen}
 use Rattle.linear_code.specs.Known.{function_known, function_note}
 use Rattle.meaning_statements.specs.Statements.{constant_if, integer_kind, label_constant}
-use Rattle.judged_control.specs.Judged.{constant_known, known_of}
+use Rattle.meaning_contexts.specs.Units.{constant_known}
+use Rattle.judged_control.specs.Judged.{known_of}
 
 by-type : (expression : ExpressionFact) (width : Option ℕ) (type_ : TypeTree)
     → kind_of (loaded_type width type_) ≡ integer_kind (Expression (record expression { type_ = type_; width = width }))

@@ -1,13 +1,13 @@
 -- What control asks of a unit that was judged.
-use Rattle.std.specs.Prelude.{◌≡◌, ◌≤◌, ◌^◌, ℤ, pos, List, Option, Some, None, All, length}
+use Rattle.std.specs.Prelude.{◌≡◌, ◌≤◌, ◌^◌, List, All, length}
 use Rattle.sparse_model.specs.declared.ids.NameId.{NameId}
 use Rattle.meaning_tree.specs.Nodes.{NodeList}
-use Rattle.meaning_typing.specs.Facts.{Fact, Expression, fact_at}
+use Rattle.meaning_typing.specs.Facts.{Fact, fact_at}
 use Rattle.meaning_typing.specs.Surroundings.{Surrounding}
 use Rattle.meaning_typing.specs.Units.{UnitNodes}
 use Rattle.meaning_statements.specs.StatementRows.{number_at}
 use Rattle.meaning_objects.specs.Carried.{contexts_of_object, is_noreturn}
-use Rattle.meaning_control.specs.Nodes.{JudgedUnit}
+use Rattle.meaning_contexts.specs.Units.{constant_known, number_or_zero}
 use Rattle.c_types.specs.Table.{TypeTable}
 use Rattle.decl_judge.specs.Units.{nodes_of}
 use Rattle.node_facts.specs.declared.fact.NodeFact.{NodeFact}
@@ -24,34 +24,13 @@ use Rattle.linear_code.specs.Known.{KnownFacts}
 
 -- By what is known of nodes
 
--- the number of an expression that is constant (C11 6.6 p6)
-abbrev pub constant_known : Fact → Option ℤ
-constant_known (Expression expression) = expression.constant
-constant_known fact = None
-
--- each `case` of a unit that is accepted has a number
-abbrev pub number_or_zero : Option ℤ → ℤ
-number_or_zero None = pos 0
-number_or_zero (Some number) = number
-
+-- what a `judged_of` has besides its nodes
 abbrev pub known_of : UnitNodes → List Surrounding → List Fact → KnownFacts
 known_of nodes surroundings facts =
     record {
       facts = facts;
       constant = λ expression. constant_known (fact_at facts expression);
       case_number = λ statement. number_or_zero (number_at nodes surroundings facts statement);
-      contexts = contexts_of_object nodes surroundings facts;
-      is_noreturn = is_noreturn nodes surroundings facts;
-    }
-
--- the unit, as control sees it
-abbrev pub judged_of : UnitNodes → List Surrounding → List Fact → JudgedUnit
-judged_of nodes surroundings facts =
-    record {
-      nodes = nodes;
-      facts = facts;
-      constant = (known_of nodes surroundings facts).constant;
-      case_number = (known_of nodes surroundings facts).case_number;
       contexts = contexts_of_object nodes surroundings facts;
       is_noreturn = is_noreturn nodes surroundings facts;
     }

@@ -1,5 +1,6 @@
 // What control asks of a node by its handle: what is known of all nodes in, what it asks out.
 ghost use Rattle.std.specs.Prelude.{◌≡◌, ◌≤◌, ◌^◌, All, List, MatchOption, length};
+ghost use Rattle.meaning_contexts.specs.Units.{constant_known, number_or_zero};
 ghost use Rattle.meaning_control.specs.Nodes.{declares_function};
 ghost use Rattle.meaning_statements.specs.Jumps.{switch_of};
 ghost use Rattle.meaning_statements.specs.StatementRows.{number_at, switched_fact};
@@ -13,7 +14,7 @@ ghost use Rattle.node_facts.specs.Facts.{IsKnownNodeFact, node_seen, nodes_seen}
 ghost use Rattle.statement_judge.specs.Enclosing.{AreEnclosings};
 ghost use Rattle.judged_objects.specs.Kept.{AreObjects};
 ghost use Rattle.linear_code.specs.Known.{function_known};
-ghost use Rattle.judged_control.specs.Judged.{constant_known, function_noted, known_of, number_or_zero};
+ghost use Rattle.judged_control.specs.Judged.{function_noted, known_of};
 
 use crate::numbers::{constant_in, number_of_label};
 use c_tree::{Handle, Unit};

@@ -1,6 +1,7 @@
 // What is known of a unit that was judged, as control asks it.
-use c_tree::Unit;
+use c_tree::{Handle, Unit};
 use c_types::Types;
+use control_flow::ContextNote;
 use judged_objects::JudgedObjects;
 use node_facts::NodeFacts;
 use node_surroundings::Surroundings;
@@ -30,8 +31,9 @@ impl<'a> Model for JudgedFacts<'a> {
 }
 
 impl<'a> JudgedFacts<'a> {
-    ghost use Rattle.std.specs.Prelude.{◌≡◌};
-    ghost use Rattle.judged_control.specs.Judged.{IsJudged, JudgedNodes};
+    ghost use Rattle.std.specs.Prelude.{◌≡◌, option_map};
+    ghost use Rattle.linear_code.specs.Known.{note_of};
+    ghost use Rattle.judged_control.specs.Judged.{IsJudged, JudgedNodes, known_of_nodes};
 
     /// What a judge knows of a unit: of each node what it stands in, what is known of it and which statements are around it, and of
     /// the objects what `judged_objects` found.
@@ -54,5 +56,12 @@ impl<'a> JudgedFacts<'a> {
             enclosings,
             objects,
         }
+    }
+
+    /// The counts with which the object or function of a declarator is entered and left, where it has contexts.
+    pub fn contexts(&self, declarator: Handle) -> Option<ContextNote>
+        ensures { result ≡ option_map note_of ((known_of_nodes self.now).contexts declarator) }
+    {
+        self.objects.note_of(self.facts, declarator).contexts
     }
 }

@@ -3,7 +3,7 @@ ghost use Rattle.std.specs.Prelude.{◌≡◌};
 ghost use Rattle.meaning_statements.specs.Statements as statements;
 ghost use Rattle.meaning_typing.specs.Facts as meaning;
 ghost use Rattle.node_facts.specs.Facts.{IsKnownFact, IsKnownNodeFact, fact_seen, node_seen};
-ghost use Rattle.judged_control.specs.Judged.{constant_known, number_or_zero};
+ghost use Rattle.meaning_contexts.specs.Units.{constant_known, number_or_zero};
 
 use c_types::Types;
 use const_fold::part_of;

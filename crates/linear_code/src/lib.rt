@@ -18,7 +18,7 @@ mod quiet;
 mod run;
 
 pub use cells::{cells_make_their_body, cells_of};
-pub use changes::has_changes;
+pub use changes::{body_of, has_changes};
 pub use conditions::is_condition;
 pub use facts::{ControlFacts, FunctionNote};
 pub use flow::linearize;

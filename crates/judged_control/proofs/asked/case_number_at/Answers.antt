@@ -5,7 +5,7 @@ use Rattle.meaning_typing.specs.Facts.{fact_at}
 use Rattle.meaning_statements.specs.Statements.{number_of_label}
 use Rattle.decl_judge.proofs.AskedLemmas.{known_at, seen_at}
 use Rattle.node_facts.specs.Facts.{IsKnownNodeFact, node_seen, nodes_seen}
-use Rattle.judged_control.specs.Judged.{number_or_zero}
+use Rattle.meaning_contexts.specs.Units.{number_or_zero}
 use Rattle.judged_control.proofs.asked.case_number_at.Goals as goal
 
 pub number_of_label-requires-clause-switched : goal.number_of_label-requires-clause-switched

@@ -1,7 +1,7 @@
 use Rattle.std.proofs.Common.{sym, subst, ap, ◌∙◌}
 use Rattle.decl_judge.proofs.AskedLemmas.{known_at, seen_at}
 use Rattle.node_facts.specs.Facts.{IsKnownNodeFact, node_seen}
-use Rattle.judged_control.specs.Judged.{constant_known}
+use Rattle.meaning_contexts.specs.Units.{constant_known}
 use Rattle.judged_control.proofs.asked.constant_at.Goals as goal
 
 pub constant_in-requires : goal.constant_in-requires

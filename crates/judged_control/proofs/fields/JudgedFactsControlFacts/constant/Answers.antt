@@ -1,7 +1,8 @@
 use Rattle.std.proofs.Common.{ap, ◌∙◌}
 use Rattle.meaning_typing.specs.Facts.{fact_at}
 use Rattle.node_facts.specs.Facts.{nodes_seen}
-use Rattle.judged_control.specs.Judged.{JudgedNodes, constant_known}
+use Rattle.meaning_contexts.specs.Units.{constant_known}
+use Rattle.judged_control.specs.Judged.{JudgedNodes}
 use Rattle.judged_control.proofs.fields.JudgedFactsControlFacts.constant.Goals as goal
 
 pub returns : goal.returns

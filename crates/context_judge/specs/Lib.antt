@@ -1,0 +1,4 @@
+pub mod Kinds
+pub mod Bodies
+pub mod Asked
+pub mod Found

@@ -1,0 +1,14 @@
+//! The judge of contexts: a unit that was judged in, the failures of the rules on contexts over all paths of its functions out.
+//!
+//! Function by function: one whose body changes no count costs a look at its nodes, any other its flow (`linear_code`) and a walk over
+//! that (`context_walk`). What is to be found is said in `meaning_contexts`. How types are judged, and how a failure is told, isn't known
+//! here. Start reading at [`context_failures`].
+#![tactic(auto)]
+
+mod answer;
+mod functions;
+mod judging;
+mod told;
+mod unit;
+
+pub use judging::context_failures;

@@ -1,13 +1,12 @@
 pub mod Classes
+pub mod Balanced
 pub mod CleanIsSafe
-pub mod Contexts
 pub mod Counts
 pub mod Endings
 pub mod FirstForm
 pub mod FrontLemmas
 pub mod IdentifierLemmas
 pub mod Judging
-pub mod Listings
 pub mod Numbered
 pub mod ParsingLemmas
 pub mod ReadingLemmas

@@ -137,11 +137,12 @@ module _ (names : List (List ℕ)) (toks : UnitTokens) (numbered : IsNumberedUni
         identities = λ token. identity-shown token i;
       }
 
-  listing-shown : listing_shown names judged ≡ map (meaning_names.spelled_failure (spellings_in unit)) (found_seen judged.types judged.failures)
-  listing-shown =
-      sym (failures-shown names numbered.empty judged.types judged.failures)
-      ∙ ap (λ (spellings : List (List ℕ)). map (meaning_names.spelled_failure spellings) (found_seen judged.types judged.failures)) numbered.table
+  listing-shown : (failures : List Failure) → listing_shown names judged.types failures
+      ≡ map (meaning_names.spelled_failure (spellings_in unit)) (found_seen judged.types failures)
+  listing-shown failures =
+      sym (failures-shown names numbered.empty judged.types failures)
+      ∙ ap (λ (spellings : List (List ℕ)). map (meaning_names.spelled_failure spellings) (found_seen judged.types failures)) numbered.table
 
-  pub warnings-shown : (classes : List Class) → unit_lines (shown_over names toks judged.types) classes (listing_shown names judged)
-      ≡ warnings_of classes unit (found_seen judged.types judged.failures)
-  warnings-shown classes = λ i. unit_lines (unit-shown i) classes (listing-shown i)
+  pub warnings-shown : (classes : List Class) (failures : List Failure) → unit_lines (shown_over names toks judged.types) classes (listing_shown names judged.types failures)
+      ≡ warnings_of classes unit (found_seen judged.types failures)
+  warnings-shown classes failures = λ i. unit_lines (unit-shown i) classes (listing-shown failures i)

@@ -5,7 +5,7 @@ use Rattle.meaning_tree.specs.Trees.{SyntaxTree}
 use Rattle.meaning_tree.specs.Nodes.{NodeList}
 use Rattle.meaning_derivation.specs.Actions.{act}
 use Rattle.meaning_derivation.specs.Units.{DerivesTree}
-use Rattle.meaning_operands.specs.Failures.{Failure}
+use Rattle.meaning_operands.specs.Failures as meaning
 use Rattle.meaning_typing.specs.Surroundings.{Surrounding}
 use Rattle.meaning_typing.specs.Units.{UnitNodes}
 use Rattle.meaning_unit_nodes.specs.Numbered.{spellings_told, unit_nodes}
@@ -13,6 +13,7 @@ use Rattle.meaning_warnings.specs.Places.{ShownUnit, begins_at, path_of}
 use Rattle.meaning_answer.specs.Lines.{error_reply}
 use Rattle.meaning_answer.specs.Reply.{Reply}
 use Rattle.meaning_answer.specs.Units.{ParsedUnit, spellings_in}
+use Rattle.sparse_model.specs.declared.failure.Failure.{Failure}
 use Rattle.sparse_model.specs.declared.ids.NameId.{NameId}
 use Rattle.c_tokens.specs.Seen.{Extends, text_of, toks_of}
 use Rattle.c_types.specs.Table.{TypeTable}
@@ -20,7 +21,6 @@ use Rattle.c_preproc.specs.Units.{IsKnownUnit, failures_from}
 use Rattle.c_preproc.specs.declared.unit.UnitTokens.{UnitTokens}
 use Rattle.decl_judge.specs.Units.{nodes_of}
 use Rattle.expression_rows.specs.declared.row.Broken.{Broken}
-use Rattle.type_judge.specs.declared.judging.Judged.{Judged}
 use Rattle.warn_print.specs.Seen.{failure_seen, identity_in, tag_in}
 use Rattle.ksparse.specs.Written.{paths_of}
 
@@ -68,6 +68,6 @@ shown_over names toks types =
       identities = identity_in names types;
     }
 
--- the failures of its listing, as they are shown
-abbrev pub listing_shown : List (List ℕ) → Judged → List Failure
-listing_shown names judged = map (failure_seen names judged.types) judged.failures
+-- these failures, as they are shown over these types
+abbrev pub listing_shown : List (List ℕ) → TypeTable → List Failure → List meaning.Failure
+listing_shown names types failures = map (failure_seen names types) failures

@@ -1,3 +1,4 @@
+pub mod Balanced
 pub mod Ending
 pub mod FirstForm
 pub mod Loading

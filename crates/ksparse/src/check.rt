@@ -2,8 +2,7 @@
 ghost use Rattle.std.specs.Prelude.{◌≡◌, ◌≤◌, false, true, IfOk, length};
 ghost use Rattle.meaning_answer.specs.Answers.{IsCheckReply, TellsUnit};
 ghost use Rattle.meaning_answer.specs.Reply.{Clean};
-ghost use Rattle.meaning_answer.specs.Units.{ending_behind, has_context, is_context, judged_reply, warned_reply};
-ghost use Rattle.meaning_rules.specs.Rules.{Holds};
+ghost use Rattle.meaning_answer.specs.Units.{IsWholeListing, TellsWarnings, ending_behind, warned_reply};
 ghost use Rattle.meaning_tree.specs.Laid.{IsLaid};
 ghost use Rattle.meaning_warnings.specs.Listing.{AreOrdered, unit_lines};
 ghost use Rattle.meaning_unit_nodes.specs.Numbered.{spellings_told};
@@ -13,7 +12,7 @@ ghost use Rattle.c_tokens.specs.Seen.{toks_of};
 ghost use Rattle.decl_judge.specs.Units.{nodes_of};
 ghost use Rattle.expr_judge.specs.Found.{found_seen};
 ghost use Rattle.parse_state.specs.Finished.{spelled};
-ghost use Rattle.type_judge.specs.Judging.{IsJudgedSo};
+ghost use Rattle.type_judge.specs.Judging.{HasTypeIds, IsJudgedSo};
 ghost use Rattle.ksparse.specs.Ending.{ending_seen};
 ghost use Rattle.ksparse.specs.Judged.{IsNumberedUnit, IsWrittenTree, listing_shown, shown_over, unit_seen};
 ghost use Rattle.ksparse.specs.Safe.{AreGuarding, AreSafeTokens};
@@ -21,15 +20,18 @@ ghost use Rattle.ksparse.specs.Written.{paths_of, reply_seen};
 
 use crate::exit::Exit;
 use crate::parsing::tell_fault;
-use crate::refusal::{constraint, limit, not_built};
+use crate::refusal::{constraint, limit};
 use crate::reply::Written;
 use crate::silence::{are_guarding, is_silent_form};
 use c_parse::parse;
 use c_preproc::UnitTokens;
 use c_tokens::Names;
 use c_tree::Unit;
+use c_types::Types;
+use context_judge::context_failures;
+use failure_listing::in_order;
 use meaning_machine::silence_is_safe;
-use sparse_model::{ClassSet, NodeKind};
+use sparse_model::{ClassSet, FailureList};
 use std::alloc::{AllocError, Global};
 use type_judge::{JudgeFault, Judged, judge};
 use unit_names::renumbered;
@@ -169,7 +171,7 @@ fn judge_unit(
     }
 }
 
-// The warnings of a unit of which nothing is refused; one with contexts isn't built yet.
+// The warnings of a unit of which nothing is refused, with those of its control paths.
 fn tell(
     alloc: Global,
     names: &Names,
@@ -180,14 +182,28 @@ fn tell(
 ) -> Result<Written, AllocError>
     requires numbered { IsNumberedUnit names.now toks.now }
     requires whole { unit.now.first ≡ 0 }
-    requires listing { AreOrdered (listing_shown names.now judged.now) }
-    ensures { (is : IsJudgedSo (nodes_of unit.now) judged.now) → IfOk result (λ written. reply_seen written
-        ≡ judged_reply classes.now (unit_seen names.now toks.now (nodes_of unit.now) is.surroundings) (Holds (found_seen judged.now.types judged.now.failures))) }
+    requires laid { IsLaid unit.now }
+    requires ids { HasTypeIds judged.now }
+    ensures { (is : IsJudgedSo (nodes_of unit.now) judged.now) → IfOk result (λ written. TellsWarnings classes.now
+        (unit_seen names.now toks.now (nodes_of unit.now) is.surroundings) (found_seen judged.now.types judged.now.failures) (reply_seen written)) }
 {
-    if has_contexts(unit) {
-        return not_built(alloc, names, &toks.files);
-    }
-    warn(alloc, names, toks, classes, judged)
+    let whole = whole_listing(alloc, unit, judged)?;
+    warn(alloc, names, toks, classes, &judged.types, &whole)
+}
+
+// All that fails in a unit of which nothing is refused: its listing, with what fails on its control paths.
+fn whole_listing(alloc: Global, unit: &Unit, judged: &Judged) -> Result<FailureList, AllocError>
+    requires whole { unit.now.first ≡ 0 }
+    requires laid { IsLaid unit.now }
+    requires ids { HasTypeIds judged.now }
+    ensures lists { IfOk result (λ whole. (is : IsJudgedSo (nodes_of unit.now) judged.now) → IsWholeListing (nodes_of unit.now) is.surroundings
+        (found_seen judged.now.types judged.now.failures) (found_seen judged.now.types whole)) }
+    ensures ordered { IfOk result (λ whole. AreOrdered (found_seen judged.now.types whole)) }
+{
+    let paths = context_failures(alloc, unit, judged)?;
+    let mut found = Vec::from_slice(alloc, judged.failures.as_slice())?;
+    found.extend_from_slice(paths.as_slice())?;
+    in_order(alloc, &FailureList::from_vec(found))
 }
 
 // The warnings of a listing.
@@ -196,46 +212,21 @@ fn warn(
     names: &Names,
     toks: &UnitTokens,
     classes: &ClassSet,
-    judged: &Judged,
+    types: &Types,
+    listing: &FailureList,
 ) -> Result<Written, AllocError>
-    requires listing { AreOrdered (listing_shown names.now judged.now) }
+    requires listing { AreOrdered (listing_shown names.now types.now listing.now) }
     ensures { IfOk result (λ written. reply_seen written
-        ≡ warned_reply (unit_lines (shown_over names.now toks.now judged.now.types) classes.now (listing_shown names.now judged.now))) }
+        ≡ warned_reply (unit_lines (shown_over names.now toks.now types.now) classes.now (listing_shown names.now types.now listing.now))) }
 {
-    let show = Show {
-        names,
-        toks,
-        types: &judged.types,
-    };
-    let err = print_all(alloc, &judged.failures, classes, &show)?;
+    let show = Show { names, toks, types };
+    let err = print_all(alloc, listing, classes, &show)?;
     let exit = exit_of(err.as_slice());
     Ok(Written {
         out: Vec::new(alloc),
         err,
         exit,
     })
-}
-
-// Whether some node of the unit is the attribute or the statement of a context.
-fn has_contexts(unit: &Unit) -> bool
-    requires { unit.now.first ≡ 0 }
-    ensures { result ≡ has_context (nodes_of unit.now) }
-{
-    for handle in 0..unit.len() {
-        if is_context(unit.kind(handle)) {
-            return true;
-        }
-    }
-    false
-}
-
-fn is_context(kind: NodeKind) -> bool
-    ensures { result ≡ is_context kind }
-{
-    matches!(
-        kind,
-        NodeKind::ContextAttribute | NodeKind::ContextStatement
-    )
 }
 
 // How a command ends that writes these warnings.

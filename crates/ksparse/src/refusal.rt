@@ -1,7 +1,7 @@
 // The line of each refusal, as a reply.
 ghost use Rattle.std.specs.Prelude.{◌≡◌, [], ℕ, IfOk, List, Some, slice_get};
 ghost use Rattle.c_tokens.specs.Seen.{at_of, text_of, toks_of};
-ghost use Rattle.meaning_answer.specs.Lines.{bad_word_reply, error_reply, limit_reply, missing_file_reply, not_built_reply};
+ghost use Rattle.meaning_answer.specs.Lines.{bad_word_reply, error_reply, limit_reply, missing_file_reply};
 ghost use Rattle.meaning_warnings.specs.Places.{begins_at, path_of};
 ghost use Rattle.ksparse.specs.Judged.{constraint_reply};
 ghost use Rattle.ksparse.specs.Written.{paths_of, reply_seen};
@@ -15,10 +15,7 @@ use sparse_model::{ErrorKind, FileNames, LimitKind, NameId, Place};
 use std::alloc::{AllocError, Global};
 use warn_print::error_text;
 
-/// The number of the checked file.
-const MAIN_FILE: u32 = 1;
-
-/// Its beginning.
+/// The beginning of the checked file.
 pub(crate) const START: Place = Place {
     file: 1,
     line: 1,
@@ -47,19 +44,6 @@ pub(crate) fn limit(alloc: Global, kind: LimitKind) -> Result<Written, AllocErro
     ensures { IfOk result (λ written. reply_seen written ≡ limit_reply kind) }
 {
     Written::line(alloc, Exit::Limit, b"ksparse: limit: ", kind.name())
-}
-
-/// A unit with contexts, which aren't judged yet.
-pub(crate) fn not_built(
-    alloc: Global,
-    names: &Names,
-    files: &FileNames,
-) -> Result<Written, AllocError>
-    ensures { IfOk result (λ written. reply_seen written ≡ not_built_reply (paths_of names.now files.now)) }
-{
-    names.apart();
-    let path = path_in(files, MAIN_FILE);
-    error(alloc, names, ErrorKind::FormNotBuilt, path, START, NO_NAME)
 }
 
 /// The constraint that a unit breaks, at its token.

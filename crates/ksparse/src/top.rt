@@ -4,6 +4,7 @@ ghost use Rattle.meaning_outside.specs.Faults.{Rose, Told, ToldOfTwo};
 ghost use Rattle.meaning_outside.specs.Files.{FileMap};
 ghost use Rattle.meaning_outside.specs.Loads.{AgreesWith, EachPathIsLoadedOnce, LoadsStay, loads_since};
 ghost use Rattle.meaning_answer.specs.Delivery.{Completes, IsOutcome};
+ghost use Rattle.ksparse.specs.Balanced.{IsBalancedIfClean};
 ghost use Rattle.ksparse.specs.Ending.{ending_seen};
 ghost use Rattle.ksparse.specs.Safe.{IsSafeIfClean};
 ghost use Rattle.ksparse.specs.Sinks.{TellsWhatItTook};
@@ -53,6 +54,10 @@ pub fn ksparse<F: Files, O: Sink, E: Sink>(
 
     // Clean says that no run of the file that the words name meets a fault, whatever map it is taken from.
     ensures safe { IsSafeIfClean words.now (loads_since (F.loads files.old) (F.loads files.new))
+        (ending_seen result) }
+
+    // And, where the class of contexts is on, that each path through a function of it leaves with as many contexts as the function says.
+    ensures balanced { IsBalancedIfClean words.now (loads_since (F.loads files.old) (F.loads files.new))
         (ending_seen result) }
 
     // Faults are told exactly by the counts.

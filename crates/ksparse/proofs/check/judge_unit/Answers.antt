@@ -6,11 +6,8 @@ use Rattle.expression_rows.specs.Rows.{broken_seen}
 use Rattle.expr_judge.specs.Found.{found_seen}
 use Rattle.type_judge.specs.Judging.{IsRefusedFor}
 use Rattle.ksparse.specs.Written.{reply_seen}
-use Rattle.ksparse.proofs.Judging.{constraint-told, limit-passed, shown-ordered, unit-told}
+use Rattle.ksparse.proofs.Judging.{constraint-told, limit-passed, unit-told}
 use Rattle.ksparse.proofs.check.judge_unit.Goals as goal
-
-pub tell-requires-clause-listing : goal.tell-requires-clause-listing
-tell-requires-clause-listing c = shown-ordered c.args.names.now (nodes_of c.args.unit.now) c.in-Ok.judged c.in-Ok.ensures.judged
 
 pub returns-in-Ok : goal.returns-in-Ok
 returns-in-Ok c =

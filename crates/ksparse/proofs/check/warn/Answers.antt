@@ -10,5 +10,5 @@ use Rattle.ksparse.proofs.check.warn.Goals as goal
 pub returns : goal.returns
 returns c =
     warned-so (reply_seen (record { out = c.new.result; err = c.in_ok-err.err; exit = c.exit_of-exit.result })) _ c.new.ensures.items
-    (listed-lines _ _ (listing_shown c.args.names.now c.args.judged.now) _ c.requires.listing c.in_ok-err.ensures)
+    (listed-lines _ _ (listing_shown c.args.names.now c.args.types.now c.args.listing.now) _ c.requires.listing c.in_ok-err.ensures)
     (c.exit_of-exit.ensures ∙ ap ending_behind c.as_slice.ensures.value)

@@ -2,6 +2,7 @@ use Rattle.std.proofs.Common.{ap}
 use Rattle.meaning_outside.specs.Loads.{loads_since}
 use Rattle.ksparse.specs.Ending.{ending_seen}
 use Rattle.ksparse.specs.Written.{reply_seen}
+use Rattle.ksparse.proofs.Balanced.{answer-balanced}
 use Rattle.ksparse.proofs.Counts.{told_by_none, told_of_two_by_none}
 use Rattle.ksparse.proofs.Endings.{no_read_fault, no_write_fault, delivered_outcome, delivered_completes}
 use Rattle.ksparse.proofs.top.ksparse.Goals as goal
@@ -32,6 +33,10 @@ returns-then-deliver-clause-complete g c =
 
 pub returns-then-deliver-clause-safe : goal.returns-then-deliver-clause-safe
 returns-then-deliver-clause-safe g c = c.in-Ok.ensures.safe
+
+pub returns-then-deliver-clause-balanced : goal.returns-then-deliver-clause-balanced
+returns-then-deliver-clause-balanced g c = λ clean files agrees.
+    answer-balanced c.args.words.now files (reply_seen c.in-Ok.written) (c.in-Ok.ensures.right files agrees) clean
 
 pub returns-then-deliver-clause-read : goal.returns-then-deliver-clause-read
 returns-then-deliver-clause-read g c =

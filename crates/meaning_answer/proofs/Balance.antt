@@ -24,7 +24,7 @@ use Rattle.meaning_answer.specs.laws.Balance.{AreBalancedTokens, CleanChecksAreB
 use Rattle.meaning_answer.proofs.ContextsListed.{both-empty, like-behind, none-listed}
 
 -- warnings that end clean are none
-clean-empty : (warnings : List ℕ) → ending_behind warnings ≡ Clean → warnings ≡ []
+pub clean-empty : (warnings : List ℕ) → ending_behind warnings ≡ Clean → warnings ≡ []
 clean-empty [] clean = refl
 clean-empty (byte ∷ bytes) clean = absurd (cc clean)
 
@@ -62,7 +62,7 @@ stop-unclean : (stop : Stop) (reply : Reply) → reply ≡ stop_reply stop → r
 stop-unclean (Refuses refusal) reply is clean = let ending = ap (λ (r : Reply). r.ending) is in cc (ending, clean)
 stop-unclean (Passes kind) reply is clean = let ending = ap (λ (r : Reply). r.ending) is in cc (ending, clean)
 
-refusal-unclean : (files : List (List ℕ)) (tokens : List Tok) (fault : Fault) (stands : ℕ) (reply : Reply) → reply ≡ refusal_reply files tokens fault stands
+pub refusal-unclean : (files : List (List ℕ)) (tokens : List Tok) (fault : Fault) (stands : ℕ) (reply : Reply) → reply ≡ refusal_reply files tokens fault stands
     → reply.ending ≡ Clean → ⊥
 refusal-unclean files tokens (IsError kind) stands reply is clean = let ending = ap (λ (r : Reply). r.ending) is in cc (ending, clean)
 refusal-unclean files tokens (PassesLimit limit) stands reply is clean = let ending = ap (λ (r : Reply). r.ending) is in cc (ending, clean)

@@ -45,7 +45,7 @@ values_in (Done last left) = last.values
 values_in (Fails fault decided stands) = []
 
 -- tokens derive one tree at most
-only_tree : (tokens : List Tok) (tree other : SyntaxTree) → DerivesTree act tokens tree → DerivesTree act tokens other → tree ≡ other
+pub only_tree : (tokens : List Tok) (tree other : SyntaxTree) → DerivesTree act tokens tree → DerivesTree act tokens other → tree ≡ other
 unfolding values_in
 only_tree tokens tree other one another =
     let same : one.0.values ≡ another.0.values =

@@ -3,7 +3,7 @@
 use Rattle.std.specs.Prelude.{◌≡◌, ℕ, ◌<◌, true, List, [], ◌∷◌, map, flat_map, Contains, if◌then◌else◌}
 use Rattle.std.specs.List.{list_all}
 use Rattle.vocabulary.specs.declared.node_kind.NodeKind.{NodeKind}
-use Rattle.vocabulary.specs.declared.node_kind.NodeKind.TheVariants.{AttributeList, CompoundStatement, Declaration, Declarator, Name}
+use Rattle.vocabulary.specs.declared.node_kind.NodeKind.TheVariants.{AttributeList, CompoundStatement, Declaration, Declarator, Name, Specifiers}
 use Rattle.meaning_tree.specs.Trees.{SyntaxTree, Node, Parts, NoParts, Part}
 use Rattle.meaning_tree.specs.Nodes.{TreeNode, IsTreeOf}
 use Rattle.meaning_unit_nodes.specs.Laws.{with_names}
@@ -14,12 +14,14 @@ use Rattle.meaning_syntax.specs.Trees.{unit_tree}
 use Rattle.meaning_typing.specs.Units.{UnitNodes, child_at, kind_at, node_at, unit_list}
 
 -- the number of a node that isn't there to link it with another node or with a token: that of a name is the handle of its declarator,
--- of a declarator that of what it hides, and of a body or a list of attributes the index of a token
+-- of a declarator that of what it hides, of a body or a list of attributes the index of a token, and of specifiers a note of what storage
+-- class their words say
 abbrev pub own_number : NodeKind → ℕ → ℕ
 own_number Name number = 0
 own_number Declarator number = 0
 own_number CompoundStatement number = 0
 own_number AttributeList number = 0
+own_number Specifiers number = 0
 own_number kind number = number
 
 abbrev pub without_link : TreeNode (List ℕ) → TreeNode (List ℕ)

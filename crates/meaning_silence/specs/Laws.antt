@@ -1,5 +1,5 @@
 -- What the judgement of units says of those that initialize nothing, and what silence says of units and trees of the first form.
-use Rattle.std.specs.Prelude.{◌≡◌, ℕ, ◌<◌, true, false, List, [], take, length, Contains}
+use Rattle.std.specs.Prelude.{◌≡◌, ◌≢◌, ℕ, ◌<◌, true, false, List, [], take, length, Contains}
 use Rattle.vocabulary.specs.Rules.{rule_class}
 use Rattle.vocabulary.specs.declared.class.Class.{Class}
 use Rattle.vocabulary.specs.declared.class.Class.TheVariants.{AddressSpace}
@@ -62,7 +62,11 @@ SilentUnitsAreSafe =
     (renaming : Renaming) (nodes : UnitNodes) (items : List Item) → IsLaidUnit nodes → IsFirstFormUnit renaming nodes items → IsSilent nodes
     → IsSafe (unit_tree items)
 
--- each failure of the listing is of a class that is off
+-- each failure of the listing is of another class
+abbrev pub AreOfOtherClasses : List Failure → Type 0
+AreOfOtherClasses listing = (failure : Failure) → Contains listing failure → rule_class failure.rule ≢ AddressSpace
+
+-- each is of a class that is off
 abbrev pub AreOff : List Class → List Failure → Type 0
 AreOff classes listing = (failure : Failure) → Contains listing failure → is_on classes (rule_class failure.rule) ≡ false
 
@@ -84,6 +88,6 @@ UntoldUnitsAreSafe =
 -- and each is linked with what declares it
 abbrev pub JudgedTreesAreSafe : Type 0
 JudgedTreesAreSafe =
-    (tokens : List Tok) (tree : SyntaxTree) (classes : List Class) (listing : List Failure) → IsInFirstForm (without_links tree)
-    → AreNamesTold tokens tree → AreLinked (unit_nodes tokens tree) → IsJudgement (unit_nodes tokens tree) (Holds listing)
-    → is_on classes AddressSpace ≡ true → AreOff classes listing → IsSafe (without_links tree)
+    (tokens : List Tok) (tree : SyntaxTree) (listing : List Failure) → IsInFirstForm (without_links tree) → AreNamesTold tokens tree
+    → AreLinked (unit_nodes tokens tree) → IsJudgement (unit_nodes tokens tree) (Holds listing) → AreOfOtherClasses listing
+    → IsSafe (without_links tree)

@@ -29,7 +29,7 @@ abbrev pub object_nodes : UnitNodes
 object_nodes =
     leaf ExternSpecifier 0
     ∷ leaf IntSpecifier 1
-    ∷ node Specifiers 0 [] 0 ((0, 2) ∷ (1, 2) ∷ [])
+    ∷ node Specifiers 0 [] 2 ((0, 2) ∷ (1, 2) ∷ [])
     ∷ node Declarator 2 (1 ∷ []) 0 []
     ∷ node Declaration 0 [] 0 ((2, 2) ∷ (3, 0) ∷ [])
     ∷ []

@@ -1,5 +1,5 @@
-//! Calls of single layers as the layer above makes them: texts to the trees of the form that is judged, the choice of a row of
-//! the grammar, what the rules say of operands, and what is kept of names.
+//! Calls of single layers as the layer above makes them: the choice of a row of the grammar, what the rules say of operands, and
+//! what is kept of names.
 //!
 //! Tests alone, each a short function over what is worked out by hand from the rules. What a contract below says needs no
 //! row here; these ask whether the contracts say what was meant. What a tool of `workbench` shows is an archive of `cases`,
@@ -15,5 +15,3 @@ mod made_types;
 mod names;
 #[cfg(test)]
 mod operands;
-#[cfg(test)]
-mod trees;

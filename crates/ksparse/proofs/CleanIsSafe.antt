@@ -4,15 +4,12 @@ use Rattle.vocabulary.specs.declared.class.Class.{Class}
 use Rattle.meaning_outside.specs.Files.{FileMap}
 use Rattle.meaning_outside.specs.Loads.{Loaded, AgreesWith}
 use Rattle.meaning_text.specs.Tokens.{Tok}
-use Rattle.meaning_text.specs.Terminals.{terminals_of}
 use Rattle.meaning_tree.specs.Trees.{SyntaxTree}
-use Rattle.meaning_syntax.proofs.Derivations.{derived_trees_are_in_first_form}
 use Rattle.meaning_derivation.specs.Actions.{act}
 use Rattle.meaning_derivation.specs.State.{Fault, IsError, PassesLimit}
 use Rattle.meaning_derivation.specs.Units.{DerivesTree}
 use Rattle.meaning_preprocessing.specs.State.{Stop, Refuses, Passes}
 use Rattle.meaning_preprocessing.specs.Unit.{UnitEnd, Ends, EndsEarly}
-use Rattle.meaning_machine.specs.laws.Runs.{SilenceIsSafe}
 use Rattle.meaning_answer.specs.Reply.{Ending, Reply, Clean}
 use Rattle.meaning_answer.specs.Requests.{Options, Request, Check, request_of}
 use Rattle.meaning_answer.specs.Lines.{stop_reply, refusal_reply}
@@ -20,22 +17,17 @@ use Rattle.meaning_answer.specs.Answers.{files_of, IsCheckReply, IsCheckEnd}
 use Rattle.c_tokens.specs.Seen.{toks_of}
 use Rattle.c_preproc.specs.Units.{IsUnit}
 use Rattle.c_preproc.specs.declared.unit.UnitTokens.{UnitTokens}
-use Rattle.ksparse.specs.FirstForm.{IsSilentForm}
-use Rattle.ksparse.specs.Safe.{AreGuarding, AreSafeTokens, IsSafeUnit, NamesSafeUnit, IsSafeIfClean}
+use Rattle.meaning_safety.specs.Safe.{AreSafeTokens}
+use Rattle.ksparse.specs.Safe.{IsSafeUnit, NamesSafeUnit, IsSafeIfClean}
 use Rattle.ksparse.specs.Written.{paths_of}
-
--- tokens of which the form's judge says nothing are safe
-pub silent-safe : SilenceIsSafe → (classes : List Class) (tokens : List Tok) → (AreGuarding classes → IsSilentForm tokens) → AreSafeTokens classes tokens
-silent-safe law classes tokens silent guards tree derives =
-    law tree (derived_trees_are_in_first_form (terminals_of tokens) tree derives) (silent guards tree derives)
 
 -- Endings that aren't clean
 
-stop-unclean : (stop : Stop) (reply : Reply) → reply ≡ stop_reply stop → reply.ending ≡ Clean → ⊥
+pub stop-unclean : (stop : Stop) (reply : Reply) → reply ≡ stop_reply stop → reply.ending ≡ Clean → ⊥
 stop-unclean (Refuses refusal) reply is clean = let ending = ap (λ (r : Reply). r.ending) is in cc
 stop-unclean (Passes kind) reply is clean = let ending = ap (λ (r : Reply). r.ending) is in cc
 
-refusal-unclean : (files : List (List ℕ)) (tokens : List Tok) (fault : Fault) (stands : ℕ) (reply : Reply) → reply ≡ refusal_reply files tokens fault stands
+pub refusal-unclean : (files : List (List ℕ)) (tokens : List Tok) (fault : Fault) (stands : ℕ) (reply : Reply) → reply ≡ refusal_reply files tokens fault stands
     → reply.ending ≡ Clean → ⊥
 refusal-unclean files tokens (IsError kind) stands reply is clean = let ending = ap (λ (r : Reply). r.ending) is in cc
 refusal-unclean files tokens (PassesLimit limit) stands reply is clean = let ending = ap (λ (r : Reply). r.ending) is in cc

@@ -3,10 +3,11 @@ pub mod Balanced
 pub mod CleanIsSafe
 pub mod Counts
 pub mod Endings
-pub mod FirstForm
 pub mod FrontLemmas
 pub mod IdentifierLemmas
 pub mod Judging
+pub mod LinkedTrees
+pub mod LinkTests
 pub mod Numbered
 pub mod ParsingLemmas
 pub mod ReadingLemmas

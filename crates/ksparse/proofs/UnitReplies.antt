@@ -1,12 +1,10 @@
 -- The reply to a request, by the unit that was preprocessed.
-use Rattle.std.proofs.Common.{◌≡◌, ◌≤◌, ℕ, List, Option, Some, None, IfSome, length, sym, subst, arith}
+use Rattle.std.proofs.Common.{◌≡◌, ℕ, List, Option, Some, None, IfSome, sym, subst}
 use Rattle.vocabulary.specs.declared.class.Class.{Class}
 use Rattle.meaning_outside.specs.Files.{FileMap}
 use Rattle.meaning_text.specs.Tokens.{Tok}
-use Rattle.meaning_outside.specs.Loads.{Loaded, AgreesWith}
 use Rattle.meaning_preprocessing.specs.State.{Stop}
-use Rattle.meaning_preprocessing.specs.Unit.{UnitEnd, Ends, EndsEarly, PreprocessedUnit, IsPreprocessedUnit, unit_limits}
-use Rattle.meaning_preprocessing.specs.laws.Units.{UnitsAreWithinTheLimit}
+use Rattle.meaning_preprocessing.specs.Unit.{UnitEnd, Ends, EndsEarly, PreprocessedUnit, IsPreprocessedUnit}
 use Rattle.c_tokens.specs.Seen.{toks_of}
 use Rattle.c_preproc.specs.Units.{IsUnit, EndsEarlySo}
 use Rattle.c_preproc.specs.States.{stop_of}
@@ -17,7 +15,6 @@ use Rattle.meaning_answer.specs.Requests.{Options, Check, Expand}
 use Rattle.meaning_answer.specs.Answers.{IsCheckReply, IsCheckEnd, IsRequestReply, expanded_reply, expand_reply}
 use Rattle.ksparse.specs.Stopping.{TellsStop}
 use Rattle.ksparse.specs.Written.{paths_of}
-use Rattle.ksparse.proofs.TokenLemmas.{length-toks_of}
 
 -- what is told of files and tokens is told of those that are spelled alike
 pub told-alike :
@@ -31,15 +28,6 @@ told-alike classes reply {files} {others} {tokens} {other_tokens} {undefined} {o
 
 module _ (options : Options) (path : List ℕ) (names : List (List ℕ)) where
   module _ (unit : UnitTokens) where
-    -- there are no more tokens than the limit
-    pub few_tokens :
-        UnitsAreWithinTheLimit → (loads : List Loaded) → (found : (files : FileMap) × AgreesWith files loads)
-        → ((files : FileMap) → AgreesWith files loads → IsUnit options.preprocessing files path names unit) → length unit.tokens ≤ 2000000
-    few_tokens law loads found right =
-        let is = (right found.0 found.1).2 in
-        let within = subst (λ (u : PreprocessedUnit). length u.tokens ≤ unit_limits.unit_tokens) is.2 (law is.0 options.preprocessing found.0 path) in
-        omega (arith, length-toks_of names unit.tokens, within)
-
     pub check_right :
         (files : FileMap) (reply : Reply) → IsUnit options.preprocessing files path names unit
         → IsCheckReply options.classes (paths_of names unit.files) (toks_of names unit.tokens) (toks_of names unit.undef_tokens) reply

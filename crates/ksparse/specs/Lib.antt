@@ -1,6 +1,5 @@
 pub mod Balanced
 pub mod Ending
-pub mod FirstForm
 pub mod Loading
 pub mod Judged
 pub mod Options

@@ -1,32 +1,18 @@
 -- What silence means: no run of the unit that the words name meets a fault, where that is a unit of the first form.
-use Rattle.std.specs.Prelude.{◌≡◌, ℕ, true, List}
+use Rattle.std.specs.Prelude.{◌≡◌, ℕ, List}
 use Rattle.vocabulary.specs.declared.class.Class.{Class}
-use Rattle.vocabulary.specs.declared.class.Class.TheVariants.{AddressSpace, Bitwise, Context}
 use Rattle.meaning_outside.specs.Files.{FileMap}
 use Rattle.meaning_outside.specs.Loads.{Loaded, AgreesWith}
 use Rattle.meaning_text.specs.Tokens.{Tok}
-use Rattle.meaning_text.specs.Terminals.{terminals_of}
 use Rattle.meaning_tree.specs.Trees.{SyntaxTree}
-use Rattle.meaning_syntax.specs.Trees.{Derives}
-use Rattle.meaning_warnings.specs.Listing.{is_on}
 use Rattle.meaning_derivation.specs.Actions.{act}
 use Rattle.meaning_derivation.specs.Units.{DerivesTree}
 use Rattle.meaning_preprocessing.specs.Unit.{Ends, PreprocessedUnit, IsPreprocessedUnit}
 use Rattle.meaning_answer.specs.Reply.{Ending, Clean}
 use Rattle.meaning_answer.specs.Requests.{Request, BadWord, MissingFile, Check, Expand, request_of}
-use Rattle.meaning_machine.specs.Runs.{IsSafe}
+use Rattle.meaning_safety.specs.Safe.{AreSafeTokens}
 
--- the classes are on whose rules keep runs from faults
-pub record AreGuarding (classes : List Class) : Type 0 where
-  pub address_space : is_on classes AddressSpace ≡ true
-  pub bitwise : is_on classes Bitwise ≡ true
-  pub context : is_on classes Context ≡ true
-
--- each tree that the tokens derive in the first form is safe where those classes are on
-abbrev pub AreSafeTokens : List Class → List Tok → Type 0
-AreSafeTokens classes tokens = AreGuarding classes → (tree : SyntaxTree) → Derives (terminals_of tokens) tree → IsSafe tree
-
--- Preprocessing comes to its end, and its tokens derive a tree, by the whole grammar; and those of the first form are safe.
+-- Preprocessing comes to its end, its tokens derive a tree, by the whole grammar; and they are safe.
 pub record IsSafeUnit (classes : List Class) (unit : PreprocessedUnit) : Type 0 where
   pub ends : (undefined : List Tok) × (paths : List (List ℕ)) × (unit.end ≡ Ends undefined paths)
   pub parsed : (tree : SyntaxTree) × DerivesTree act unit.tokens tree

@@ -21,8 +21,6 @@ use crate::refusal::{bad_word, error, limit, missing_file};
 use crate::reply::Written;
 use c_preproc::{PreFault, preprocess};
 use c_tokens::Names;
-use meaning_outside::loads_of_each_path_once_agree;
-use meaning_preprocessing::each_path_has_one_unit;
 use sparse_model::Options;
 use sparse_outside::{Files, Words};
 use std::alloc::{AllocError, Global};
@@ -99,8 +97,6 @@ fn check_file<F: Files>(
     ensures cause { Told (F.faults files.old) (F.faults files.new) (IsErrOf result Stop.ReadFault) }
     ensures keeps { F.holds files.new ≡ F.holds files.old }
 {
-    loads_of_each_path_once_agree();
-    each_path_has_one_unit();
     let mut names = Names::new(alloc)?;
     match preprocess(alloc, options, files, &mut names, path) {
         Ok(toks) => Ok(check_tokens(alloc, names, toks, &options.classes)?),

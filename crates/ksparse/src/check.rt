@@ -1,10 +1,11 @@
 // The check of preprocessed tokens: parsing, then the judgement of their tree, then its text.
-ghost use Rattle.std.specs.Prelude.{◌≡◌, ◌≤◌, false, true, IfOk, length};
+ghost use Rattle.std.specs.Prelude.{◌≡◌, IfOk, length};
 ghost use Rattle.meaning_answer.specs.Answers.{IsCheckReply, TellsUnit};
 ghost use Rattle.meaning_answer.specs.Reply.{Clean};
 ghost use Rattle.meaning_answer.specs.Units.{IsWholeListing, TellsWarnings, ending_behind, warned_reply};
 ghost use Rattle.meaning_tree.specs.Laid.{IsLaid};
 ghost use Rattle.meaning_warnings.specs.Listing.{AreOrdered, unit_lines};
+ghost use Rattle.meaning_safety.specs.Safe.{AreSafeTokens, DeriveLinkedTree};
 ghost use Rattle.meaning_unit_nodes.specs.Numbered.{spellings_told};
 ghost use Rattle.c_parse.specs.Answers.{DerivesUnit};
 ghost use Rattle.c_preproc.specs.Units.{IsKnownUnit, failures_from};
@@ -15,14 +16,12 @@ ghost use Rattle.parse_state.specs.Finished.{spelled};
 ghost use Rattle.type_judge.specs.Judging.{HasTypeIds, IsJudgedSo};
 ghost use Rattle.ksparse.specs.Ending.{ending_seen};
 ghost use Rattle.ksparse.specs.Judged.{IsNumberedUnit, IsWrittenTree, listing_shown, shown_over, unit_seen};
-ghost use Rattle.ksparse.specs.Safe.{AreGuarding, AreSafeTokens};
 ghost use Rattle.ksparse.specs.Written.{paths_of, reply_seen};
 
 use crate::exit::Exit;
 use crate::parsing::tell_fault;
 use crate::refusal::{constraint, limit};
 use crate::reply::Written;
-use crate::silence::{are_guarding, is_silent_form};
 use c_parse::parse;
 use c_preproc::UnitTokens;
 use c_tokens::Names;
@@ -30,13 +29,13 @@ use c_tree::Unit;
 use c_types::Types;
 use context_judge::context_failures;
 use failure_listing::in_order;
-use meaning_machine::silence_is_safe;
+use meaning_safety::clean_checks_are_safe;
 use sparse_model::{ClassSet, FailureList};
 use std::alloc::{AllocError, Global};
 use type_judge::{JudgeFault, Judged, judge};
 use unit_names::renumbered;
 use warn_print::{Show, print_all};
-use written_units::is_written;
+use written_units::{are_linked, is_written};
 
 /// Checks the tokens of a unit, and answers for what parsing or a constraint refuses them, or what the rules whose classes are on
 /// say of them. It takes over the unit and its names, whose memory is free again before the unit is judged.
@@ -47,7 +46,6 @@ pub fn check_tokens(
     classes: &ClassSet,
 ) -> Result<Written, AllocError>
     requires known { IsKnownUnit names toks }
-    requires few { length toks.tokens ≤ 2000000 }
     requires failures { toks.undefs ≡ failures_from 0 toks.undef_tokens }
     ensures right { IfOk result (λ written. IsCheckReply classes.now (paths_of names toks.files)
         (toks_of names toks.tokens) (toks_of names toks.undef_tokens) (reply_seen written)) }
@@ -55,33 +53,8 @@ pub fn check_tokens(
     // Where nothing is told no run of a unit of the first form meets a fault.
     ensures safe { IfOk result (λ written. ending_seen written.exit ≡ Clean → AreSafeTokens classes.now (toks_of names toks.tokens)) }
 {
-    silence_is_safe();
-    let silent = is_silent_form(alloc, &names, toks.tokens.as_slice())?;
-    let written = check_renumbered(alloc, names, toks, classes)?;
-    if misses_failure(silent, classes, written.exit) {
-        // No unit comes here: where a rule of the form fails, so does one of all units.
-        return Err(AllocError);
-    }
-    Ok(written)
-}
-
-// Whether nothing is told though a rule of the first form fails, whose classes are on.
-fn misses_failure(silent: bool, classes: &ClassSet, exit: Exit) -> bool
-    ensures { result ≡ false → ending_seen exit ≡ Clean → AreGuarding classes.now → silent ≡ true }
-{
-    if silent {
-        return false;
-    }
-    if are_guarding(classes) {
-        return is_clean(exit);
-    }
-    false
-}
-
-fn is_clean(exit: Exit) -> bool
-    ensures { ending_seen exit ≡ Clean → result ≡ true }
-{
-    matches!(exit, Exit::Clean)
+    clean_checks_are_safe();
+    check_renumbered(alloc, names, toks, classes)
 }
 
 // The check of tokens under names of their own.
@@ -93,8 +66,9 @@ fn check_renumbered(
 ) -> Result<Written, AllocError>
     requires known { IsKnownUnit names toks }
     requires failures { toks.undefs ≡ failures_from 0 toks.undef_tokens }
-    ensures { IfOk result (λ written. IsCheckReply classes.now (paths_of names toks.files)
+    ensures right { IfOk result (λ written. IsCheckReply classes.now (paths_of names toks.files)
         (toks_of names toks.tokens) (toks_of names toks.undef_tokens) (reply_seen written)) }
+    ensures linked { IfOk result (λ written. ending_seen written.exit ≡ Clean → DeriveLinkedTree (toks_of names toks.tokens)) }
 {
     let found = renumbered(alloc, &names, &toks)?;
     drop(names);
@@ -113,8 +87,9 @@ fn check_unit(
 ) -> Result<Written, AllocError>
     requires numbered { IsNumberedUnit names.now toks.now }
     requires told { told ≡ length (spellings_told (toks_of names.now toks.now.tokens)) }
-    ensures { IfOk result (λ written. IsCheckReply classes.now (paths_of names.now toks.now.files)
+    ensures right { IfOk result (λ written. IsCheckReply classes.now (paths_of names.now toks.now.files)
         (toks_of names.now toks.now.tokens) (toks_of names.now toks.now.undef_tokens) (reply_seen written)) }
+    ensures linked { IfOk result (λ written. ending_seen written.exit ≡ Clean → DeriveLinkedTree (toks_of names.now toks.now.tokens)) }
 {
     match parse(alloc, names, toks.tokens.as_slice()) {
         Ok(unit) => check_tree(alloc, names, toks, told, classes, &unit),
@@ -122,7 +97,7 @@ fn check_unit(
     }
 }
 
-// The judgement of a tree, whose nodes stand as they are written.
+// The judgement of a tree, whose nodes stand as they are written and whose names are linked.
 fn check_tree(
     alloc: Global,
     names: &Names,
@@ -136,14 +111,18 @@ fn check_tree(
     requires tree { DerivesUnit (toks_of names.now toks.now.tokens) (spelled names.now unit.now) }
     requires whole { unit.now.first ≡ 0 }
     requires laid { IsLaid unit.now }
-    ensures { IfOk result (λ written. TellsUnit classes.now (paths_of names.now toks.now.files)
+    ensures right { IfOk result (λ written. TellsUnit classes.now (paths_of names.now toks.now.files)
         (toks_of names.now toks.now.tokens) (toks_of names.now toks.now.undef_tokens) (reply_seen written)) }
+    ensures linked { IfOk result (λ written. DeriveLinkedTree (toks_of names.now toks.now.tokens)) }
 {
     names.apart();
+    if !are_linked(unit) {
+        // No unit that was parsed comes here, nor below.
+        return Err(AllocError);
+    }
     if is_written(alloc, unit, told)? {
         judge_unit(alloc, names, toks, classes, unit)
     } else {
-        // No unit that was parsed comes here.
         Err(AllocError)
     }
 }

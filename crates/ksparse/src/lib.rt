@@ -17,7 +17,6 @@ mod parsing;
 mod reading;
 mod refusal;
 mod reply;
-mod silence;
 mod top;
 mod write;
 

@@ -1,16 +1,9 @@
 use Rattle.std.proofs.lemmas.Result.{IfOk-weaker}
-use Rattle.meaning_outside.specs.Loads.{loads_since}
 use Rattle.ksparse.specs.Words.{options_seen}
 use Rattle.ksparse.specs.Written.{reply_seen}
 use Rattle.ksparse.proofs.CleanIsSafe.{clean-safe}
-use Rattle.ksparse.proofs.UnitReplies.{few_tokens, check_right, check_stopped}
+use Rattle.ksparse.proofs.UnitReplies.{check_right, check_stopped}
 use Rattle.ksparse.proofs.answer.check_file.Goals as goal
-
-pub check_tokens-requires-clause-few : goal.check_tokens-requires-clause-few
-check_tokens-requires-clause-few g c =
-    let loads = loads_since (g.F.Files.loads c.args.files.now) (g.F.Files.loads c.preprocess.new.files) in
-    few_tokens (options_seen c.args.options.now) c.args.path.now c.preprocess.new.names c.in-Ok.toks c.each_path_has_one_unit.ensures.limit loads
-    (c.loads_of_each_path_once_agree.ensures loads c.in-Ok.ensures.once) c.in-Ok.ensures.unit
 
 pub returns-in_ok-check_tokens-in-Ok-clause-right : goal.returns-in_ok-check_tokens-in-Ok-clause-right
 returns-in_ok-check_tokens-in-Ok-clause-right g c = λ map agrees.

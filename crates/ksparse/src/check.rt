@@ -162,6 +162,7 @@ fn tell(
     requires numbered { IsNumberedUnit names.now toks.now }
     requires whole { unit.now.first ≡ 0 }
     requires laid { IsLaid unit.now }
+    requires so { IsJudgedSo (nodes_of unit.now) judged.now }
     requires ids { HasTypeIds judged.now }
     ensures { (is : IsJudgedSo (nodes_of unit.now) judged.now) → IfOk result (λ written. TellsWarnings classes.now
         (unit_seen names.now toks.now (nodes_of unit.now) is.surroundings) (found_seen judged.now.types judged.now.failures) (reply_seen written)) }
@@ -174,6 +175,7 @@ fn tell(
 fn whole_listing(alloc: Global, unit: &Unit, judged: &Judged) -> Result<FailureList, AllocError>
     requires whole { unit.now.first ≡ 0 }
     requires laid { IsLaid unit.now }
+    requires so { IsJudgedSo (nodes_of unit.now) judged.now }
     requires ids { HasTypeIds judged.now }
     ensures lists { IfOk result (λ whole. (is : IsJudgedSo (nodes_of unit.now) judged.now) → IsWholeListing (nodes_of unit.now) is.surroundings
         (found_seen judged.now.types judged.now.failures) (found_seen judged.now.types whole)) }

@@ -18,7 +18,7 @@ returns-clause-lists c =
     IfOk-weaker c.in_order-2.result _ _
     (λ whole lists. λ is. (
       found_seen judged.types paths,
-      (is.rows, is.are_rows, c.in_ok-paths.ensures is),
+      (is.rows, is.are_rows, c.in_ok-paths.ensures.failures is),
       joined-lists judged.types judged.failures paths c.from_vec.result whole (joined c) lists,
     ))
     c.in_order-2.ensures.lists

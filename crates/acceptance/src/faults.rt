@@ -130,6 +130,49 @@ fn a_sink_holds_a_front(rt: HostRuntime) -> Result<(), Fail> {
     Ok(())
 }
 
+// Two hundred warnings, all at the place of one macro.
+const MANY: &[File] = &[(
+    "t.c",
+    "extern int __attribute__((noderef)) *u;\n#define FIVE *u; *u; *u; *u; *u;\n#define FIFTY FIVE FIVE FIVE FIVE FIVE FIVE FIVE FIVE FIVE FIVE\n#define ALL FIFTY FIFTY FIFTY FIFTY\nvoid f(void) { ALL }\n",
+)];
+
+const ONE_OF_MANY: &str = "t.c:5:16: warning: dereference of noderef expression\n";
+
+// The text of all of them.
+fn many_warnings(alloc: Global) -> Result<Vec<u8>, AllocError> {
+    let mut text = Vec::new(alloc);
+    for _ in 0..200 {
+        text.extend_from_slice(ONE_OF_MANY.as_bytes())?;
+    }
+    Ok(text)
+}
+
+// Sizes that lie a byte less than a line apart meet each place of a line.
+#[test]
+fn a_sink_holds_a_front_of_many_warnings(rt: HostRuntime) -> Result<(), Fail> {
+    let warnings = many_warnings(rt.alloc())?;
+    let whole = run_with(rt.alloc(), &["t.c"], MANY, &[], warnings.len())?;
+    assert_ran(
+        &rt,
+        "room for all",
+        &whole,
+        Exit::Warned,
+        warnings.as_slice(),
+    );
+    for room in (0..warnings.len()).step_by(52) {
+        let case = format!(in rt.alloc(); "room for {room}")?;
+        let ran = run_with(rt.alloc(), &["t.c"], MANY, &[], room)?;
+        assert_ran(
+            &rt,
+            case.as_str(),
+            &ran,
+            Exit::WriteFault,
+            &warnings[..room],
+        );
+    }
+    Ok(())
+}
+
 // What `-E` leaves where standard output has so much room, and standard error none.
 fn expand_into(alloc: Global, room: usize) -> Result<Ran, AllocError> {
     let words = list(alloc, &["-E", "t.c"])?;

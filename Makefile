@@ -43,6 +43,12 @@ build/types: $(SOURCES) | kit
 	mkdir -p build
 	cp crates/expression_types_cli/out/expression_types_cli $@
 
+# The flows of a file's functions, for developers: build/lowered FILE
+build/lowered: $(SOURCES) | kit
+	$(PYTHON) scripts/build.py $(RT) lowered_cli /dev/null
+	mkdir -p build
+	cp crates/lowered_cli/out/lowered_cli $@
+
 # How a file is read, for developers: build/trees FILE
 build/trees: $(SOURCES) | kit
 	$(PYTHON) scripts/build.py $(RT) trees_cli /dev/null

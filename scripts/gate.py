@@ -24,6 +24,7 @@ USES = (
     ("smoke_cc.py", ("ksparse_cli",)),
     ("smoke_large.py", ("flows", "workbench_cli", "ksparse_cli")),
     ("drivers.py", ("ksparse_cli",)),
+    ("control_paths.py", ("lowered_cli",)),
 )
 # How long, in seconds, nothing is said of what is left.
 QUIET = 60

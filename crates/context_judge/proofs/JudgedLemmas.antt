@@ -2,7 +2,6 @@
 use Rattle.std.proofs.Common.{◌≡◌, ◌≤◌, ◌^◌, List, length, sym, ap, subst, ◌∙◌, arith}
 use Rattle.std.proofs.lemmas.List.{length-map}
 use Rattle.sparse_model.specs.declared.ids.NameId.{NameId}
-use Rattle.meaning_operands.specs.Failures.{Failure}
 use Rattle.meaning_tree.specs.Nodes.{NodeList, ChildrenStandBefore}
 use Rattle.meaning_tree.specs.Laid.{IsLaid}
 use Rattle.meaning_typing.specs.Facts.{Fact}
@@ -10,7 +9,7 @@ use Rattle.meaning_typing.specs.Rows.{Row}
 use Rattle.meaning_typing.specs.Surroundings.{Surrounding}
 use Rattle.meaning_typing.proofs.Surroundings.{surroundings_are_unique}
 use Rattle.meaning_units.specs.WholeRows.{facts_of}
-use Rattle.meaning_contexts.specs.Failures.{AreContextFailures}
+use Rattle.meaning_control.specs.Nodes.{JudgedUnit}
 use Rattle.meaning_contexts.specs.Units.{judged_of}
 use Rattle.decl_judge.specs.Units.{named_node, nodes_of}
 use Rattle.node_facts.specs.Facts.{name_seen, node_seen, nodes_seen}
@@ -70,8 +69,8 @@ module _ (unit : NodeList NameId) (whole : unit.first ≡ 0) (laid : IsLaid unit
   }
 
   -- by what is kept, as by what is known
-  pub failures-are : (failures : List Failure) → AreContextFailures (judged_unit unit (known_of_nodes kept)) failures
-      → AreContextFailures (judged_of (nodes_of unit) is.surroundings (facts_of is.rows)) failures
-  failures-are failures are =
-      subst (λ (now : List Surrounding). AreContextFailures (judged_of (nodes_of unit) now (facts_of is.rows)) failures) (sym same-surroundings)
-      (subst (λ (facts : List Fact). AreContextFailures (judged_of (nodes_of unit) (surroundings_seen surroundings) facts) failures) is.known are)
+  pub as-known : (Holds : JudgedUnit → Type 0) → Holds (judged_unit unit (known_of_nodes kept))
+      → Holds (judged_of (nodes_of unit) is.surroundings (facts_of is.rows))
+  as-known Holds holds =
+      subst (λ (now : List Surrounding). Holds (judged_of (nodes_of unit) now (facts_of is.rows))) (sym same-surroundings)
+      (subst (λ (facts : List Fact). Holds (judged_of (nodes_of unit) (surroundings_seen surroundings) facts)) is.known holds)

@@ -17,8 +17,8 @@ use control_flow::{ContextAnswer, ContextNote};
 use linear_code::{ControlFacts, body_of, has_changes, linearize, quiet_functions_change_nothing};
 use std::alloc::{AllocError, Global};
 
-// Whether a function has a body, whose closing brace stands at a token.
-fn has_body(unit: &Unit, function: Handle) -> bool
+/// Whether a function has a body, whose closing brace stands at a token; each of a unit has one that was parsed.
+pub fn has_body(unit: &Unit, function: Handle) -> bool
     requires whole { unit.now.first ≡ 0 }
     requires kind { meaning.kind_at (nodes_of unit.now) function ≡ kinds.FunctionDefinition }
     ensures { (known : KnownFacts) → (result ≡ true) ↔ HasBody unit.now known function }

@@ -21,8 +21,8 @@ use judged_control::JudgedFacts;
 use sparse_model::{Failure, FailureList};
 use std::alloc::{AllocError, Global};
 
-// The counts with which a function is entered and left, which are 0 where it has no contexts.
-fn note_at(facts: &JudgedFacts, declarator: Handle) -> ContextNote
+/// The counts with which the function of a declarator is entered and left, which are 0 where it has no contexts.
+pub fn note_at(facts: &JudgedFacts, declarator: Handle) -> ContextNote
     ensures { result ≡ note_of (sums_or_none ((known_of_nodes facts.now).contexts declarator)) }
 {
     match facts.contexts(declarator) {

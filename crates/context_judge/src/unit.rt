@@ -34,7 +34,7 @@ fn is_do(kind: NodeKind) -> bool
 }
 
 /// Whether a node of this kind is a function.
-pub(crate) fn is_function(kind: NodeKind) -> bool
+pub fn is_function(kind: NodeKind) -> bool
     ensures { result ≡ is_function kind }
 {
     match kind {
@@ -78,8 +78,8 @@ pub(crate) fn has_contexts(unit: &Unit) -> bool
     false
 }
 
-/// Whether the number of each `do` is that of a token.
-pub(crate) fn knows_tokens(unit: &Unit) -> bool
+/// Whether the number of each `do` is that of a token; it is in each unit that was parsed.
+pub fn knows_tokens(unit: &Unit) -> bool
     requires { unit.now.first ≡ 0 }
     ensures { (result ≡ true) ↔ KnowsTokens (nodes_of unit.now) }
 {

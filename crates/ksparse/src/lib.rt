@@ -26,6 +26,7 @@ pub use command::{Command, WordFault, read_words};
 pub use examples::worked_examples;
 pub use exit::Exit;
 pub use parsing::tell_fault;
+pub use refusal::{constraint, limit};
 pub use reply::Written;
 pub use top::ksparse;
 pub use write::deliver;

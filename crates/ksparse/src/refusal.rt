@@ -40,14 +40,14 @@ pub(crate) fn missing_file(alloc: Global) -> Result<Written, AllocError>
 }
 
 /// A quantity passed its number.
-pub(crate) fn limit(alloc: Global, kind: LimitKind) -> Result<Written, AllocError>
+pub fn limit(alloc: Global, kind: LimitKind) -> Result<Written, AllocError>
     ensures { IfOk result (λ written. reply_seen written ≡ limit_reply kind) }
 {
     Written::line(alloc, Exit::Limit, b"ksparse: limit: ", kind.name())
 }
 
 /// The constraint that a unit breaks, at its token.
-pub(crate) fn constraint(
+pub fn constraint(
     alloc: Global,
     names: &Names,
     toks: &UnitTokens,

@@ -2,11 +2,12 @@
 use Rattle.std.proofs.Common.{sym, subst, arith}
 use Rattle.std.proofs.lemmas.Result.{IfOk-weaker}
 use Rattle.meaning_contexts.specs.Failures.{AreContextFailures}
+use Rattle.meaning_control.specs.Nodes.{JudgedUnit}
 use Rattle.expr_judge.specs.Found.{found_seen}
 use Rattle.linear_code.specs.Known.{judged_unit}
 use Rattle.judged_control.specs.Judged.{JudgedNodes, known_of_nodes}
 use Rattle.context_judge.specs.Asked.{IsReady}
-use Rattle.context_judge.proofs.JudgedLemmas.{failures-are, is-judged, is-ready}
+use Rattle.context_judge.proofs.JudgedLemmas.{as-known, is-judged, is-ready}
 use Rattle.context_judge.proofs.judging.failures_found.Goals as goal
 
 pub new-facts-requires : goal.new-facts-requires
@@ -26,8 +27,9 @@ returns-clause-failures c =
     let types = c.args.judged.now.types in
     IfOk-weaker c.all_failures.result _ _
     (λ failures seen is.
-    failures-are c.args.unit.now c.requires.whole c.requires.laid c.each_node_stands_for_one_tree.ensures.order c.args.judged.now is
-    c.in_ok-surroundings.surroundings c.in_ok-surroundings.ensures.exact (found_seen types failures)
+    as-known c.args.unit.now c.requires.whole c.requires.laid c.each_node_stands_for_one_tree.ensures.order c.args.judged.now is
+    c.in_ok-surroundings.surroundings c.in_ok-surroundings.ensures.exact
+    (λ (unit : JudgedUnit). AreContextFailures unit (found_seen types failures))
     (subst (λ (kept : JudgedNodes). AreContextFailures (judged_unit c.args.unit.now (known_of_nodes kept)) (found_seen types failures)) c.new-facts.ensures
     (seen types)))
     c.all_failures.ensures.seen

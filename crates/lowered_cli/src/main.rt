@@ -1,0 +1,21 @@
+//! The program `lowered`: its library's call over the files of the system, standard output and standard error.
+#![tactic(auto)]
+
+use lowered_flows::show_flows;
+use sparse_outside::{RealFiles, RealSink, Words};
+use std::env;
+use std::process::ExitCode;
+
+fn main(rt: HostRuntime) -> anyhow::Result<ExitCode> {
+    let mut args = env::args(&rt)?;
+    args.next();
+    let mut words = Words::new(rt.alloc());
+    for word in args {
+        words.push(word.as_bytes())?;
+    }
+    let mut files = RealFiles::new(&rt);
+    let mut out = RealSink::new(rt.stdout());
+    let mut err = RealSink::new(rt.stderr());
+    let exit = show_flows(rt.alloc(), &words, &mut files, &mut out, &mut err);
+    Ok(ExitCode::from(exit.status()))
+}

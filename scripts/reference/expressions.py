@@ -581,7 +581,7 @@ class Expressions:
             return None
         left = Fact(types.value_of(of))
         if kind in BITWISE:
-            self.meeting(node.at, left, value)
+            self.meeting(node.at, Fact(types.loaded(of, place.width)), value)
         elif first_restricted((left, value)):
             self.found.fails("B7", node.at, first_restricted((left, value)))
         return left

@@ -1,6 +1,6 @@
 // What is declared where it stands (C11 6.7, 6.9): a declaration and what is kept of those before it in, what it breaks at its name and
 // which rules fail there out. The parts of its declarator aren't known here.
-ghost use Rattle.std.specs.Prelude.{◌≡◌, ◌≤◌, ◌^◌, IfOk, OnOk, length, option_map};
+ghost use Rattle.std.specs.Prelude.{◌≡◌, ◌≤◌, ◌^◌, IfOk, IfSome, OnOk, length, option_map};
 ghost use Rattle.meaning_rules.specs.Rules.{least_broken};
 ghost use Rattle.meaning_typing.specs.Facts.{Declared};
 ghost use Rattle.meaning_typing.specs.Surroundings.{surrounding_at};
@@ -11,7 +11,7 @@ ghost use Rattle.c_types.specs.Table.{IsTypeId};
 ghost use Rattle.decl_judge.specs.Units.{nodes_of};
 ghost use Rattle.expr_judge.specs.Rows.{Tells};
 ghost use Rattle.expression_rows.specs.Arguments.{Appends};
-ghost use Rattle.expression_rows.specs.Rows.{broken_seen};
+ghost use Rattle.expression_rows.specs.Rows.{IsKnownFailure, broken_seen, failure_listed};
 ghost use Rattle.node_facts.specs.Facts.{IsKnownNodeFact, declared_seen, node_seen};
 ghost use Rattle.node_surroundings.specs.Seen.{surrounding_seen, surroundings_seen};
 ghost use Rattle.declaration_judge.specs.Kept.{IsKeptOf, facts_seen};
@@ -23,13 +23,14 @@ use crate::row::and_breaks;
 use c_tree::{Handle, Unit};
 use decl_judge::token_at;
 use declaration_rows::{
-    declared_object_broken, definition_broken, hiding_declarator_failure, undeclared_failure,
+    declared_object_broken, definition_broken, has_initializer, hiding_declarator_failure,
+    is_unbounded, undeclared_failure,
 };
 use expr_judge::{NodeRow, append, declaration_of};
 use expression_rows::{Broken, lesser};
 use node_facts::{DeclaredFact, NodeFact};
 use node_surroundings::{Surrounding, Surroundings};
-use sparse_model::FailureList;
+use sparse_model::{Failure, FailureList};
 use std::alloc::AllocError;
 
 // The least that it breaks at its name.
@@ -82,6 +83,27 @@ pub fn defined_name_broken(
     }
 }
 
+// The failure of a declaration that differs from an earlier one: where its initializer says its length, it is asked behind that.
+fn differing(
+    unit: &Unit,
+    surroundings: &Surroundings,
+    kept: &Declarations,
+    handle: Handle,
+    surrounding: Surrounding,
+    declaration: DeclaredFact,
+) -> Result<Option<Failure>, AllocError>
+    requires whole { unit.now.first ≡ 0 }
+    requires kept { IsKeptOf (nodes_of unit.now) (surroundings_seen surroundings.now) kept.now }
+    requires of { IsTypeId kept.now.types declaration.of }
+    ensures listed { IfOk result (λ failure. failure_listed kept.now.types failure ≡ meaning.differing_failures (nodes_of unit.now) (surroundings_seen surroundings.now) (facts_seen kept.now) handle (surrounding_seen surrounding) (declared_seen kept.now.types declaration)) }
+    ensures known { IfOk result (λ failure. IfSome failure (IsKnownFailure kept.now.types)) }
+{
+    if is_unbounded(&kept.types, declaration.of) && has_initializer(unit, surrounding) {
+        return Ok(None);
+    }
+    redeclared_otherwise(unit, surroundings, kept, handle, surrounding, declaration)
+}
+
 // The rules that fail there are appended.
 fn append_failures(
     unit: &Unit,
@@ -106,14 +128,7 @@ fn append_failures(
         ..
     } = kept;
     let token = token_at(unit, handle);
-    let otherwise = redeclared_otherwise(
-        unit,
-        surroundings,
-        kept,
-        handle,
-        surrounding,
-        declaration,
-    )?;
+    let otherwise = differing(unit, surroundings, kept, handle, surrounding, declaration)?;
     append(found, otherwise)?;
     let undeclared = undeclared_failure(
         unit,

@@ -1,6 +1,6 @@
 -- What is known of a node where a unit has structures, unions and enumerations. No list of facts asks these rows yet: `row_at` does
 -- not, and what it says of the other kinds is said here too.
-use Rattle.std.specs.Prelude.{ℕ, ℤ, zero, suc, pos, Bool, true, false, List, [], ◌∷◌, ◌++◌, map, length, Option, Some, None, option_map, if◌then◌else◌}
+use Rattle.std.specs.Prelude.{ℕ, ℤ, zero, suc, pos, Bool, true, false, ◌&&◌, List, [], ◌∷◌, ◌++◌, map, length, Option, Some, None, option_map, if◌then◌else◌}
 use Rattle.std.specs.Ordering.{int_eq}
 use Rattle.vocabulary.specs.declared.error_kind.ErrorKind.TheVariants.{StaticAssertionFailed}
 use Rattle.vocabulary.specs.declared.node_kind.NodeKind.{NodeKind}
@@ -27,8 +27,8 @@ use Rattle.meaning_typing.specs.Wholes.{and_breaks, row_loaded, whole_assignment
 use Rattle.meaning_typing.specs.OffsetRows.{offset_row, steps_of}
 use Rattle.meaning_typing.specs.EnumRows.{enumeration_row, enumerator_name_fact, enumerator_row, enumerators_of, is_enumerator}
 use Rattle.meaning_typing.specs.Tags.{enumeration_named, has_body, specifiers_row, tag_broken}
-use Rattle.meaning_typing.specs.MemberRows.{aggregate_specifier_row, aggregates_before, bit_field_row, is_member_declaration, member_declarator_row, name_broken}
-use Rattle.meaning_typing.specs.DeclarationRows.{declarator_parts_broken, declared_object_broken, defined_name_broken, definition_broken, empty_list_failures, hiding_declarator_failures, hiding_enumerator_failures, large_parts_of, parameter_node_broken, sizes_broken, undeclared_failures, unit_end_broken}
+use Rattle.meaning_typing.specs.MemberRows.{aggregate_specifier_row, aggregates_before, bit_field_row, is_member_declaration, is_unbounded, member_declarator_row, name_broken}
+use Rattle.meaning_typing.specs.DeclarationRows.{declarator_parts_broken, declared_object_broken, defined_name_broken, definition_broken, empty_list_failures, has_initializer, hiding_declarator_failures, hiding_enumerator_failures, large_parts_of, parameter_node_broken, sizes_broken, undeclared_failures, unit_end_broken}
 use Rattle.meaning_typing.specs.ContextSums.{redeclared_otherwise}
 
 -- Enumerations
@@ -88,9 +88,16 @@ declaration_broken told nodes surroundings facts handle surrounding declaration 
     ++ declared_object_broken told nodes (token_at nodes handle) surrounding (kind_at nodes surrounding.parent) declaration
     ++ definition_broken nodes surroundings facts handle declaration
 
+-- where an initializer says the length, it is asked behind that whether the type differs from an earlier declaration's
+abbrev pub differing_failures : UnitNodes → List Surrounding → List Fact → (handle : ℕ) → Surrounding → DeclaredFact → List Failure
+differing_failures nodes surroundings facts handle surrounding declaration =
+    if is_unbounded declaration.type_ && has_initializer nodes surrounding
+    then []
+    else redeclared_otherwise nodes surroundings facts handle surrounding declaration
+
 abbrev pub declaration_failures : UnitNodes → List Surrounding → List Fact → (handle : ℕ) → Surrounding → DeclaredFact → List Failure
 declaration_failures nodes surroundings facts handle surrounding declaration =
-    redeclared_otherwise nodes surroundings facts handle surrounding declaration
+    differing_failures nodes surroundings facts handle surrounding declaration
     ++ undeclared_failures nodes facts (token_at nodes handle) surrounding declaration
     ++ hiding_declarator_failures nodes surroundings facts handle surrounding declaration
 

@@ -1,7 +1,7 @@
 use Rattle.std.proofs.Common.{ap, ◌++◌, ◌∙◌}
-use Rattle.meaning_typing.specs.ContextSums.{redeclared_otherwise}
 use Rattle.meaning_typing.specs.DeclarationRows.{hiding_declarator_failures, undeclared_failures}
 use Rattle.meaning_typing.specs.Typing.{token_at}
+use Rattle.meaning_typing.specs.WholeTyping.{differing_failures}
 use Rattle.decl_judge.specs.Units.{nodes_of}
 use Rattle.node_facts.specs.Facts.{declared_seen}
 use Rattle.node_surroundings.specs.Seen.{surrounding_seen, surroundings_seen}
@@ -28,7 +28,7 @@ returns c =
     let second = c.append.new.found in
     let third = c.append-2.new.found in
     let last = c.append-3.new.found in
-    let otherwise = redeclared_otherwise nodes surroundings facts handle stands meant in
+    let otherwise = differing_failures nodes surroundings facts handle stands meant in
     let undeclared = undeclared_failures nodes facts (token_at nodes handle) stands meant in
     let hiding = hiding_declarator_failures nodes surroundings facts handle stands meant in
     appended_both table first third last (otherwise ++ undeclared) hiding

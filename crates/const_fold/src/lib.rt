@@ -24,7 +24,7 @@ pub use folded::Folded;
 pub use folding::{fold, fold_measured};
 pub use known::{loaded_kind, part_of};
 pub use measured::measuring_is_enough;
-pub use number::{converted, wrapped};
+pub use number::{converted, label_number, wrapped};
 pub use offset::element_of;
 pub use part::{Part, PartType};
 pub use sized::asked_size;

@@ -2,9 +2,10 @@
 ghost use Rattle.std.specs.Prelude.{◌≡◌, ◌≤◌, ◌+ℤ◌, ◌-ℤ◌, ◌*ℤ◌, ◌^◌, ℕ, pos, negsuc, neg_ℤ, int_div, unsigned_abs};
 ghost use Rattle.meaning_types.specs.Ranges.{greatest};
 ghost use Rattle.meaning_constants.specs.Bits.{bits_of_number};
-ghost use Rattle.meaning_constants.specs.Numbers.{converted, number_count, truth_of, wrapped};
+ghost use Rattle.meaning_constants.specs.Numbers.{converted, label_number, number_count, truth_of, wrapped};
 ghost use Rattle.const_fold.specs.Ranges.{IsCount};
 
+use c_types::promoted_kind;
 use sparse_model::IntKind;
 
 // The numbers of a kind: the greatest, and how many there are.
@@ -100,6 +101,13 @@ pub fn converted(kind: IntKind, number: i128) -> i128
         IntKind::Bool => truth_of(number),
         _ => wrapped(kind, number),
     }
+}
+
+/// The number that a label has under a switch value whose base has this kind: two labels with one number are equal (6.8.4.2 p5).
+pub fn label_number(kind: IntKind, number: i128) -> i128
+    ensures { result ≡ label_number kind number }
+{
+    converted(promoted_kind(kind), number)
 }
 
 /// The number modulo 2^64.

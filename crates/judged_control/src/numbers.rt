@@ -6,11 +6,10 @@ ghost use Rattle.node_facts.specs.Facts.{IsKnownFact, IsKnownNodeFact, fact_seen
 ghost use Rattle.meaning_contexts.specs.Units.{constant_known, number_or_zero};
 
 use c_types::Types;
-use const_fold::part_of;
+use const_fold::{label_number, part_of};
 use expression_rows::number_of;
 use node_facts::{ExpressionFact, NodeFact};
 use sparse_model::IntKind;
-use statement_rows::label_number;
 
 /// The number of an expression that is constant.
 pub fn constant_in(types: &Types, fact: NodeFact) -> Option<i128>

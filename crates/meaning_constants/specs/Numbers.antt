@@ -4,6 +4,7 @@ use Rattle.std.specs.Int.{int_rem_euclid}
 use Rattle.std.specs.Ordering.{int_eq}
 use Rattle.vocabulary.specs.declared.int_kind.IntKind.{IntKind}
 use Rattle.vocabulary.specs.declared.int_kind.IntKind.TheVariants as kinds
+use Rattle.meaning_types.specs.Conversions.{promoted}
 use Rattle.meaning_types.specs.Ranges.{least, greatest}
 
 -- the kind has the number
@@ -27,3 +28,7 @@ truth_of number = if int_eq number (pos 0) then pos 0 else pos 1
 abbrev pub converted : IntKind → ℤ → ℤ
 converted kinds.Bool number = truth_of number
 converted kind number = wrapped kind number
+
+-- the number that a label has under a switch value whose base has this kind (6.8.4.2 p5)
+abbrev pub label_number : IntKind → ℤ → ℤ
+label_number kind number = converted (promoted kind) number

@@ -7,9 +7,8 @@ use Rattle.vocabulary.specs.declared.operator.Operator.TheVariants as operators
 use Rattle.vocabulary.specs.declared.rule.RuleCode.{RuleCode}
 use Rattle.vocabulary.specs.declared.rule.RuleCode.TheVariants.{B6, S4, S5}
 use Rattle.meaning_types.specs.Types.{TypeTree}
-use Rattle.meaning_types.specs.Conversions.{promoted}
 use Rattle.meaning_types.specs.Spaces.{is_void}
-use Rattle.meaning_constants.specs.Numbers.{converted}
+use Rattle.meaning_constants.specs.Numbers.{label_number}
 use Rattle.meaning_operands.specs.Failures.{Failure, Broken}
 use Rattle.meaning_typing.specs.Facts.{Fact, Expression, ExpressionFact, type_of_value}
 use Rattle.meaning_typing.specs.Rows.{Row, nothing, breaks_at, breaks_named, fails_with, void_used}
@@ -47,10 +46,6 @@ switch_row token operand (Expression switched) = says (switched_broken operand (
 switch_row token operand fact = nothing
 
 -- Numbers of labels (6.8.4.2 p5)
-
--- the number that a label has under a switch value whose base has this kind
-abbrev pub label_number : IntKind → ℤ → ℤ
-label_number kind number = converted (promoted kind) number
 
 abbrev pub kind_of_sort : ValueSort → Option IntKind
 kind_of_sort (IntegerSort kind) = Some kind

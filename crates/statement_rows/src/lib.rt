@@ -19,6 +19,6 @@ pub use condition::{judge_condition, judge_do, judge_switch};
 pub use jumps::{judge_goto, judge_jump, judge_label};
 pub use labels::{CasePlace, judge_case, judge_default};
 pub use named_labels::{FunctionLabel, FunctionLabels};
-pub use numbers::{label_number, number_of_label};
+pub use numbers::number_of_label;
 pub use returning::judge_return_statement;
 pub use switch_labels::SwitchLabels;

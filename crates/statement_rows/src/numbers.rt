@@ -5,17 +5,10 @@ ghost use Rattle.meaning_statements.specs.Statements as meaning;
 ghost use Rattle.expression_rows.specs.Facts.{IsValued, valued_part, valued_seen};
 ghost use Rattle.expression_rows.specs.Sorts.{sort_in};
 
-use c_types::{Outline, Types, promoted_kind};
-use const_fold::converted;
+use c_types::{Outline, Types};
+use const_fold::label_number;
 use expression_rows::{Valued, number_of};
 use sparse_model::IntKind;
-
-/// The number that a label has under a switch value whose base has this kind.
-pub fn label_number(kind: IntKind, number: i128) -> i128
-    ensures { result ≡ meaning.label_number kind number }
-{
-    converted(promoted_kind(kind), number)
-}
 
 fn kind_in(outline: Outline) -> Option<IntKind>
     ensures { result ≡ meaning.kind_of_sort (sort_in outline) }

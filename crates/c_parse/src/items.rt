@@ -9,8 +9,8 @@ ghost use Rattle.meaning_derivation.specs.Taking.{keeps};
 use c_grammar::{is_attribute_word, is_name};
 use vocabulary::{ProductionItem, TokenClass};
 
-/// How many symbols of the grammar it is: actions and the end aren't counted.
-pub(crate) fn symbol_count(item: ProductionItem) -> usize
+// How many symbols of the grammar it is: actions and the end aren't counted.
+fn symbol_count(item: ProductionItem) -> usize
     ensures count { result ≡ symbols (item ∷ []) }
     ensures few { result ≤ 1 }
 {

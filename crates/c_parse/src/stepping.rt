@@ -5,10 +5,12 @@ ghost use Rattle.vocabulary.specs.declared.production_item.ProductionItem.TheVar
 ghost use Rattle.c_opening.specs.Opening.{Opens};
 ghost use Rattle.meaning_grammar.specs.Choice.{choice};
 ghost use Rattle.meaning_derivation.specs.Actions.{act};
-ghost use Rattle.meaning_derivation.specs.Derivation.{is_terminal_item};
+ghost use Rattle.meaning_derivation.specs.Derivation.{is_terminal_item, symbols};
 ghost use Rattle.meaning_derivation.specs.Leading.{ComesTo};
+ghost use Rattle.meaning_derivation.specs.State.{with_waiting};
 ghost use Rattle.parse_state.specs.Seen.{state_of};
 ghost use Rattle.c_parse.specs.Moments.{IsReady, Moves, standing_with};
+ghost use Rattle.c_parse.specs.Rows.{most_waiting};
 ghost use Rattle.c_parse.specs.Steps.{AreLooks};
 ghost use Rattle.c_parse.specs.Telling.{IsTold};
 
@@ -16,9 +18,11 @@ use crate::acting::act;
 use crate::fault::{ParseFault, fault_of_action};
 use crate::looks::{Looks, known_looks, looks_after};
 use crate::parser::Parser;
+use crate::pending::Pending;
 use crate::refusing::refusal;
 use crate::taking::take;
 use c_opening::{is_absent, open};
+use parse_state::ParseState;
 use std::alloc::AllocError;
 use vocabulary::{Action, ProductionItem, Symbol};
 
@@ -50,6 +54,20 @@ fn do_action(parser: &mut Parser<'_>, action: Action) -> Result<(), ParseFault>
     }
 }
 
+// How many symbols of the grammar wait is noted, unless that is fewer than may.
+fn note_waiting(pending: &mut Pending, state: &mut ParseState<'_>)
+    ensures same { pending.new ≡ pending.old }
+    ensures few { length pending.old ≤ most_waiting }
+    ensures state { state_of state.new ≡ with_waiting (symbols pending.old) (state_of state.old) }
+    ensures names { state.new.names ≡ state.old.names }
+{
+    if pending.is_small() {
+        return;
+    }
+    let count = pending.count();
+    state.note_waiting(count);
+}
+
 // What a symbol opens to stands in its place.
 fn replace(
     parser: &mut Parser<'_>,
@@ -64,8 +82,7 @@ fn replace(
     ensures { OnOk result (Moves (Nonterminal symbol ∷ parser.old.pending) parser.old parser.new) }
 {
     parser.pending.push(items)?;
-    let count = parser.pending.count();
-    parser.state.note_waiting(count);
+    note_waiting(&mut parser.pending, &mut parser.state);
     parser.looks = Some(looks);
     Ok(())
 }
@@ -77,8 +94,7 @@ fn pass_absent(parser: &mut Parser<'_>, symbol: Symbol, looks: Looks)
     requires absent { choice symbol looks.next looks.behind ≡ Some [] }
     ensures { Moves (Nonterminal symbol ∷ parser.old.pending) parser.old parser.new }
 {
-    let count = parser.pending.count();
-    parser.state.note_waiting(count);
+    note_waiting(&mut parser.pending, &mut parser.state);
     parser.pending.pass_absent(looks.next);
     parser.looks = Some(looks);
 }

@@ -7,7 +7,7 @@ abbrev pub invariant-rows : goal.invariant-rows
 invariant-rows l =
     record {
       same : waiting l.self-inside.front l.self-inside.rows.items ≡ waiting l.initial.self-inside.front l.initial.self-inside.rows.items;
-      pending : IsPending l.self-inside.front l.self-inside.rows.items l.self-inside.count;
+      pending : IsPending l.self-inside.front l.self-inside.rows.items l.self-inside.counted;
     }
 
 abbrev pub decreases-rows : goal.decreases-rows

@@ -13,6 +13,8 @@ mod faults;
 #[cfg(test)]
 mod growth;
 #[cfg(test)]
+mod large;
+#[cfg(test)]
 mod model;
 #[cfg(test)]
 mod run;

@@ -10,11 +10,11 @@ use Rattle.meaning_control.specs.Nodes.{JudgedUnit}
 use Rattle.meaning_contexts.specs.Failures.{AreFailuresAt, AreFailuresBefore, AreFailuresByKind, AreFailuresOfFunction, declarator_of, failures_told, sums_or_none}
 use Rattle.control_flow.specs.declared.note.ContextNote.{ContextNote}
 use Rattle.linear_code.specs.Known.{note_of}
-use Rattle.context_judge.specs.Kinds.{is_function}
+use Rattle.context_judge.specs.Kinds.{is_function_definition}
 
 -- Functions
 
-pub function-is : (kind : NodeKind) → is_function kind ≡ true → kind ≡ kinds.FunctionDefinition
+pub function-is : (kind : NodeKind) → is_function_definition kind ≡ true → kind ≡ kinds.FunctionDefinition
 function-is kinds.FunctionDefinition is = refl
 function-is kind is = absurd (cc is)
 
@@ -40,7 +40,7 @@ pub at-function : (unit : JudgedUnit) (handle : ℕ) (kind : NodeKind) (failures
     → AreFailuresOfFunction unit handle failures → AreFailuresByKind unit handle kind failures
 at-function unit handle kind failures is are = subst (λ (now : NodeKind). AreFailuresByKind unit handle now failures) (sym is) are
 
-pub at-another : (unit : JudgedUnit) (handle : ℕ) (kind : NodeKind) → is_function kind ≡ false → AreFailuresByKind unit handle kind []
+pub at-another : (unit : JudgedUnit) (handle : ℕ) (kind : NodeKind) → is_function_definition kind ≡ false → AreFailuresByKind unit handle kind []
 at-another unit handle kinds.FunctionDefinition is = absurd (cc is)
 at-another unit handle kind is = refl
 

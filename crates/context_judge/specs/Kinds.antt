@@ -13,6 +13,6 @@ abbrev pub is_do : NodeKind → Bool
 is_do kinds.DoStatement = true
 is_do kind = false
 
-abbrev pub is_function : NodeKind → Bool
-is_function kinds.FunctionDefinition = true
-is_function kind = false
+abbrev pub is_function_definition : NodeKind → Bool
+is_function_definition kinds.FunctionDefinition = true
+is_function_definition kind = false

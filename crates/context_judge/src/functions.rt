@@ -13,7 +13,7 @@ ghost use Rattle.context_judge.specs.Asked.{IsReady};
 
 use crate::answer::function_answer;
 use crate::told::failure_told;
-use crate::unit::{is_function, name_at};
+use crate::unit::{is_function_definition, name_at};
 use c_tree::{Handle, Unit};
 use control_flow::ContextNote;
 use decl_judge::{child_at, kind_at};
@@ -63,7 +63,7 @@ fn failure_at(
     ensures seen { IfOk result (λ failure. (table : TypeTable) → AreFailuresAt (judged_unit unit.now (known_of_nodes facts.now)) handle (failure_listed table failure)) }
     ensures known { IfOk result (λ failure. (table : TypeTable) → IfSome failure (IsKnownFailure table)) }
 {
-    if is_function(kind_at(unit, handle)) {
+    if is_function_definition(kind_at(unit, handle)) {
         failure_of(alloc, unit, facts, handle)
     } else {
         Ok(None)

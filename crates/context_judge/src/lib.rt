@@ -15,4 +15,5 @@ mod unit;
 pub use answer::has_body;
 pub use functions::note_at;
 pub use judging::context_failures;
-pub use unit::{is_function, knows_tokens};
+pub use type_judge::{JudgeFault, Judged, judge};
+pub use unit::{is_function_definition, knows_tokens};

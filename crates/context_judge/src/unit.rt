@@ -5,7 +5,7 @@ ghost use Rattle.meaning_contexts.specs.Laws.{IsWithoutContexts};
 ghost use Rattle.decl_judge.specs.Units.{nodes_of};
 ghost use Rattle.node_facts.specs.Facts.{name_seen};
 ghost use Rattle.linear_code.specs.Cells.{KnowsTokens};
-ghost use Rattle.context_judge.specs.Kinds.{is_context, is_do, is_function};
+ghost use Rattle.context_judge.specs.Kinds.{is_context, is_do, is_function_definition};
 
 use c_tree::{Handle, Unit};
 use decl_judge::{kind_at, node_at};
@@ -33,9 +33,9 @@ fn is_do(kind: NodeKind) -> bool
     }
 }
 
-/// Whether a node of this kind is a function.
-pub fn is_function(kind: NodeKind) -> bool
-    ensures { result ≡ is_function kind }
+/// Whether a node of this kind is the definition of a function.
+pub fn is_function_definition(kind: NodeKind) -> bool
+    ensures { result ≡ is_function_definition kind }
 {
     match kind {
         NodeKind::FunctionDefinition => true,

@@ -1,2 +1,3 @@
 pub mod Objects
 pub mod Judging
+pub use Rattle.init_judge.specs.Laws

@@ -12,4 +12,5 @@ mod judging;
 mod making;
 mod objects;
 
+pub use init_judge::tables_know_aggregates;
 pub use judging::judge_initialized;

@@ -29,9 +29,9 @@ use Rattle.expression_rows.specs.declared.row.Broken.{Broken}
 use Rattle.expression_rows.specs.Rows as judge
 use Rattle.expr_judge.specs.Found.{found_seen}
 use Rattle.node_facts.specs.Facts.{name_seen}
-use Rattle.type_judge.specs.declared.fault.JudgeFault.TheVariants as faults
-use Rattle.type_judge.specs.Judging.{IsRefusedFor}
-use Rattle.type_judge.proofs.JudgingLemmas.{found-rank}
+use Rattle.context_judge.specs.JudgeFault.TheVariants as faults
+use Rattle.context_judge.specs.Judging.{IsRefusedFor}
+use Rattle.context_judge.proofs.JudgingLemmas.{found-rank}
 use Rattle.warn_print.specs.Seen as warn
 use Rattle.warn_print.proofs.UnitLemmas.{shown-rank}
 use Rattle.ksparse.specs.Judged.{IsNumberedUnit, IsWrittenTree, constraint_reply, listing_shown, unit_seen}

@@ -23,8 +23,8 @@ use Rattle.c_preproc.specs.declared.unit.UnitTokens.{UnitTokens}
 use Rattle.node_facts.specs.Facts.{name_seen}
 use Rattle.expression_rows.specs.Rows as judge
 use Rattle.expr_judge.specs.Found.{found_seen}
-use Rattle.type_judge.specs.declared.judging.Judged.{Judged}
-use Rattle.type_judge.specs.Judging.{IsJudgedSo}
+use Rattle.context_judge.specs.Judged.{Judged}
+use Rattle.context_judge.specs.Judging.{IsJudgedSo}
 use Rattle.warn_print.specs.Seen as warn
 use Rattle.ksparse.specs.Judged.{IsNumberedUnit, listing_shown, shown_over, unit_seen}
 use Rattle.ksparse.specs.Written.{paths_of}

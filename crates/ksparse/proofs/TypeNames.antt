@@ -14,7 +14,7 @@ use Rattle.c_tokens.specs.Seen.{text_of}
 use Rattle.c_types.specs.declared.bodies.Named.{Named}
 use Rattle.c_types.specs.declared.bodies.Named.TheVariants as named
 use Rattle.c_types.specs.Table.{is_named, with_name}
-use Rattle.node_judge.specs.NamedTypes.{named_by, names_told, with_name_of}
+use Rattle.context_judge.specs.NamedTypes.{named_by, names_told, with_name_of}
 
 -- What is named, told apart
 

@@ -8,7 +8,7 @@ use Rattle.meaning_contexts.specs.Failures.{declarator_of, sums_of, sums_or_none
 use Rattle.control_flow.specs.declared.note.ContextNote.{ContextNote}
 use Rattle.linear_code.specs.Known.{note_of}
 use Rattle.flow_lines.specs.Shown.{shown_line}
-use Rattle.context_judge.specs.Kinds.{is_function}
+use Rattle.context_judge.specs.Kinds.{is_function_definition}
 use Rattle.lowered_flows.specs.Lines.{AppendsOne, AreLinesBefore, HasItsPaths, IsFunctionLine, IsLineOfKind, IsLineAt}
 
 -- by its declarator, the note of which has its sums
@@ -32,13 +32,13 @@ pub at_function :
 at_function unit handle kind old new is appended =
     subst (λ (now : NodeKind). AppendsOne (IsLineOfKind unit handle now) old new) (sym is) appended
 
-no_line : (unit : JudgedUnit) (handle : ℕ) (kind : NodeKind) → is_function kind ≡ false → IsLineOfKind unit handle kind []
+no_line : (unit : JudgedUnit) (handle : ℕ) (kind : NodeKind) → is_function_definition kind ≡ false → IsLineOfKind unit handle kind []
 no_line unit handle kinds.FunctionDefinition is = absurd (cc is)
 no_line unit handle kind is = refl
 
 -- any other one
 pub at_another :
-    (unit : JudgedUnit) (handle : ℕ) (kind : NodeKind) (text : List ℕ) → is_function kind ≡ false
+    (unit : JudgedUnit) (handle : ℕ) (kind : NodeKind) (text : List ℕ) → is_function_definition kind ≡ false
     → AppendsOne (IsLineOfKind unit handle kind) text text
 at_another unit handle kind text is = ([], no_line unit handle kind is, sym (append-nil text))
 

@@ -10,7 +10,7 @@ ghost use Rattle.context_judge.specs.Bodies.{HasBody};
 ghost use Rattle.lowered_flows.specs.Lines.{AppendsOne, AreFlowLines, IsFunctionLine, IsLineAt};
 
 use c_tree::{Handle, Unit};
-use context_judge::{has_body, is_function, note_at};
+use context_judge::{has_body, is_function_definition, note_at};
 use decl_judge::{child_at, kind_at};
 use flow_lines::push_line;
 use judged_control::JudgedFacts;
@@ -69,7 +69,7 @@ fn write_node(
     requires { IsReady unit.now (known_of_nodes facts.now) }
     ensures { OnOk result (AppendsOne (IsLineAt (judged_unit unit.now (known_of_nodes facts.now)) handle) text.old.items text.new.items) }
 {
-    if !is_function(kind_at(unit, handle)) {
+    if !is_function_definition(kind_at(unit, handle)) {
         return Ok(());
     }
     write_function(alloc, text, unit, facts, handle)?;

@@ -3,7 +3,7 @@ ghost use Rattle.std.specs.Prelude.{◌≡◌, IfOk};
 ghost use Rattle.meaning_tree.specs.Laid.{IsLaid};
 ghost use Rattle.c_preproc.specs.Units.{IsKnownUnit};
 ghost use Rattle.decl_judge.specs.Units.{nodes_of};
-ghost use Rattle.type_judge.specs.Judging.{HasTypeIds, IsJudgedSo};
+ghost use Rattle.context_judge.specs.Judging.{HasTypeIds, IsJudgedSo};
 ghost use Rattle.ksparse.specs.Written.{reply_seen};
 ghost use Rattle.lowered_flows.specs.Replies.{IsFlowsReply, ShowsFlows, TellsFlows, flows_reply};
 
@@ -12,13 +12,12 @@ use c_parse::parse;
 use c_preproc::UnitTokens;
 use c_tokens::Names;
 use c_tree::Unit;
-use context_judge::knows_tokens;
+use context_judge::{JudgeFault, Judged, judge, knows_tokens};
 use judged_control::JudgedFacts;
 use ksparse::{Exit, Written, constraint, limit, tell_fault};
 use node_surroundings::surroundings_of;
 use statement_judge::enclosings_of;
 use std::alloc::{AllocError, Global};
-use type_judge::{JudgeFault, Judged, judge};
 
 // The lines of the functions of a unit that was judged.
 fn unit_lines(alloc: Global, unit: &Unit, judged: &Judged) -> Result<Vec<u8>, AllocError>

@@ -21,6 +21,7 @@ mod rows;
 mod statements;
 mod widths;
 
+pub use declaration_judge::Declarations;
 pub use fault::ExprFault;
 pub use judging::judge_expr;
 pub use known::Known;

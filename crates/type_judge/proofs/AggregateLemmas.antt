@@ -11,7 +11,7 @@ use Rattle.meaning_typing.specs.MemberRows.{aggregates_before}
 use Rattle.meaning_typing.specs.Surroundings.{Surrounding}
 use Rattle.meaning_typing.specs.Units.{UnitNodes}
 use Rattle.c_types.specs.Layouts.{told_in}
-use Rattle.init_judge.specs.Laws.{TablesKnowAggregates}
+use Rattle.initialized_judge.specs.Laws.{TablesKnowAggregates}
 use Rattle.initializer_levels.specs.Steps.{AreKnownIn}
 use Rattle.member_rows.specs.Aggregates.{bodies_in}
 use Rattle.member_rows.proofs.AggregateLemmas.{told_is}

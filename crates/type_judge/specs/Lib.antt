@@ -2,3 +2,4 @@ pub mod Least
 pub mod Order
 pub mod Rows
 pub mod Judging
+pub use Rattle.node_judge.specs.NamedTypes

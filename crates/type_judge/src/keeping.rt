@@ -12,9 +12,8 @@ ghost use Rattle.statement_judge.specs.Later.{SwitchValuesStandBefore};
 ghost use Rattle.statement_judge.specs.Statements.{IsKeptOf};
 
 use c_tree::{Handle, Unit};
-use declaration_judge::Declarations;
 use node_facts::NodeFact;
-use node_judge::Known;
+use node_judge::{Declarations, Known};
 use node_surroundings::Surroundings;
 use statement_judge::Statements;
 use std::alloc::{AllocError, Global};

@@ -14,12 +14,10 @@ ghost use Rattle.type_judge.specs.Rows.{TellsAccessedRow, TellsInitializing, Tel
 
 use crate::access::access_node;
 use c_tree::{Handle, Unit};
-use declaration_judge::Declarations;
 use expr_judge::NodeRow;
 use expression_rows::lesser;
-use init_judge::tables_know_aggregates;
-use initialized_judge::judge_initialized;
-use node_judge::{Known, judge_node};
+use initialized_judge::{judge_initialized, tables_know_aggregates};
+use node_judge::{Declarations, Known, judge_node};
 use node_surroundings::Surroundings;
 use sparse_model::{FailureList, NodeKind};
 use statement_judge::{Statements, row_of_statement};

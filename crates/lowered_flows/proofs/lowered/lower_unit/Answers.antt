@@ -2,7 +2,7 @@
 use Rattle.std.proofs.Common.{inl, inr, subst, ◌∙◌}
 use Rattle.std.proofs.lemmas.Result.{IfOk-weaker}
 use Rattle.decl_judge.specs.Units.{nodes_of}
-use Rattle.type_judge.specs.Judging.{IsRefusedFor}
+use Rattle.context_judge.specs.Judging.{IsRefusedFor}
 use Rattle.ksparse.proofs.Judging.{limit-passed}
 use Rattle.lowered_flows.proofs.lowered.lower_unit.Goals as goal
 

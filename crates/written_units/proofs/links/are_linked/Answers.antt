@@ -1,5 +1,5 @@
 -- One node more is linked, and at the end all are.
-use Rattle.std.proofs.Common.{◌≡◌, ℕ, ◌≤◌, length, arith}
+use Rattle.std.proofs.Common.{◌≤◌, length, arith}
 use Rattle.written_units.proofs.LinkingLemmas.{all-linked, none-linked, one-linked}
 use Rattle.written_units.proofs.links.are_linked.Goals as goal
 

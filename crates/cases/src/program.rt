@@ -1,6 +1,7 @@
 // The programs that a command can name.
 use expression_types::show_types;
 use ksparse::{Exit, ksparse};
+use lowered_flows::show_flows;
 use sparse_outside::{HonestFiles, MemorySink, Sink, Words};
 use std::alloc::{AllocError, Global};
 use trees::trees;
@@ -11,6 +12,8 @@ use workbench::{Stop, workbench};
 pub enum Program {
     /// The checker, over its top call.
     Ksparse,
+    /// The flows of a file's functions, as developers see them.
+    Lowered,
     /// The tree of a file, as developers see it.
     Trees,
     /// The types of a file's expressions, as developers see them.
@@ -40,6 +43,7 @@ impl Program {
     pub fn named(name: &str) -> Option<Self> {
         match name {
             "ksparse" => Some(Program::Ksparse),
+            "lowered" => Some(Program::Lowered),
             "trees" => Some(Program::Trees),
             "types" => Some(Program::Types),
             "workbench" => Some(Program::Workbench),
@@ -58,6 +62,7 @@ impl Program {
         let mut err = MemorySink::new(alloc, ROOM)?;
         let exit = match self {
             Program::Ksparse => ksparse(alloc, words, files, &mut out, &mut err),
+            Program::Lowered => show_flows(alloc, words, files, &mut out, &mut err),
             Program::Trees => trees(alloc, words, files, &mut out, &mut err),
             Program::Types => show_types(alloc, words, files, &mut out, &mut err),
             Program::Workbench => run_workbench(alloc, words, files, &mut out),

@@ -96,7 +96,8 @@ pub record GotoExamples : Type 0 where
       breaking (goto 33 (codes "in") ∷ inner_statement 36 (labelled 38 (codes "in") (empty 40) ∷ []) ∷ []) ≡ breaks_at JumpIntoStatementExpression 33
   -- `({ goto out; }); ({ a: goto a; }); out: ;`
   pub left : breaking (inner_statement 33 (goto 35 out ∷ []) ∷ inner_statement 42 (labelled 44 (codes "a") (goto 46 (codes "a")) ∷ []) ∷ labelled 52 out (empty 54) ∷ []) ≡ []
-  -- `typeof(({ goto out; })) k;`, `typeof(({ out: ({ goto out; }); })) k;` and `typeof(({ return u; return; })) k;`
+  -- `typeof(({ goto out; })) k;`, `typeof(({ ({ goto out; }); })) k;`, `typeof(({ out: ({ goto out; }); })) k;` and `typeof(({ return u; return; })) k;`
   pub none_outside : broken_of (outside (goto 4 out ∷ [])) ≡ breaks_named LabelIsNotDefined 4 out
+  pub none_around : broken_of (outside (inner_statement 4 (goto 6 out ∷ []) ∷ [])) ≡ breaks_named LabelIsNotDefined 6 out
   pub outermost : broken_of (outside (labelled 4 out (inner_statement 6 (goto 8 out ∷ [])) ∷ [])) ≡ []
   pub returns_outside : broken_of (outside (return 4 (u 5 ∷ []) ∷ return 7 [] ∷ [])) ≡ []

@@ -56,6 +56,7 @@ returns-clause-gotos c = record {
   entered = refl;
   left = refl;
   none_outside = refl;
+  none_around = refl;
   outermost = refl;
   returns_outside = refl;
 }

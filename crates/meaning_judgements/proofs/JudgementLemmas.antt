@@ -1,7 +1,6 @@
 -- A laid unit has one judgement.
-use Rattle.std.proofs.Common.{◌≡◌, ℕ, zero, suc, ◌<◌, ◌⊎◌, inl, inr, List, length, Contains, Option, Some, None, refl, sym, ap, subst, ◌∙◌, arith}
+use Rattle.std.proofs.Common.{◌≡◌, ℕ, List, length, Contains, Option, Some, None, refl, sym, ap, subst, ◌∙◌}
 use Rattle.std.proofs.lemmas.Option.{none-some, same_Some}
-use Rattle.std.proofs.lemmas.List.Elements.{Contains-append_left, Contains-append_right, Contains-append_cases}
 use Rattle.meaning_warnings.proofs.Listings.{in_order, lists, unique}
 use Rattle.meaning_typing.specs.Units.{UnitNodes}
 use Rattle.meaning_typing.specs.Surroundings.{Surrounding, AreSurroundings}
@@ -12,7 +11,8 @@ use Rattle.meaning_typing.specs.laws.Surroundings.{IsLaidUnit}
 use Rattle.meaning_typing.proofs.Surroundings.{surroundings_are_unique, surroundings_are_found}
 use Rattle.meaning_judgements.proofs.FactLemmas.{whole_facts_are_found, whole_facts_are_unique}
 use Rattle.meaning_judgements.specs.WholeFacts.{AreWholeFacts, whole_broken_at, whole_failures_at}
-use Rattle.meaning_rules.specs.Rules.{gathered, least_broken, least_token, Judgement, Holds, first_refusal}
+use Rattle.meaning_rules.specs.Rules.{least_broken, least_token, Judgement, Holds, first_refusal}
+use Rattle.meaning_rules.proofs.Gathered.{gathered-has, gathered-from}
 use Rattle.meaning_judgements.specs.WholeRules.{IsWholeJudged, holds, refused, whole_broken_in, whole_failures_in, whole_passed_in}
 use Rattle.meaning_judgements.specs.Laws.{BrokenAreGathered, FailuresAreGathered, WholeJudgementsAreUnique, WholeJudgementsExist}
 
@@ -54,27 +54,6 @@ judgements_exist nodes unit =
     (judged.0, (surroundings, facts, surroundings_are_found nodes unit, whole_facts_are_found nodes surroundings, judged.1))
 
 -- What nodes have, one after the other
-
-earlier-or-last : (count all : ℕ) → count < suc all → (count < all) ⊎ (count ≡ all)
-earlier-or-last count all within = grind arith
-
-gathered-has : {A : Type 0} (of_node : ℕ → List A) (count handle : ℕ) (x : A) → handle < count → Contains (of_node handle) x → Contains (gathered of_node count) x
-gathered-has of_node zero handle x within is = absurd (omega (arith, within))
-gathered-has of_node (suc count) handle x within is =
-    elim (earlier-or-last handle count within) [
-      | inl earlier ↦ Contains-append_left (gathered of_node count) (of_node count) x (gathered-has of_node count handle x earlier is)
-      | inr last ↦ Contains-append_right (gathered of_node count) (of_node count) x (subst (λ h. Contains (of_node h) x) last is)
-    ]
-
-gathered-from : {A : Type 0} (of_node : ℕ → List A) (count : ℕ) (x : A) → Contains (gathered of_node count) x → (handle : ℕ) × (handle < count) × Contains (of_node handle) x
-gathered-from of_node zero x is = absurd (omega (arith, is.1))
-gathered-from of_node (suc count) x is =
-    elim (Contains-append_cases (gathered of_node count) (of_node count) x is) [
-      | inl earlier ↦
-          let found = gathered-from of_node count x earlier in
-          (found.0, omega (arith, found.1), found.2)
-      | inr last ↦ (count, omega arith, last)
-    ]
 
 -- what a node has in some surroundings and facts of a unit, it has in all
 module _ {A : Type 0} (of_unit : UnitNodes → List Surrounding → List Fact → ℕ → List A) where

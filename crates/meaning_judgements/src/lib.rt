@@ -1,9 +1,8 @@
 //! The judgement of a unit with structures, unions and enumerations: what is known of its nodes, what fails at them, what they break,
 //! and what is told of it.
 //!
-//! Definitions over the rows of `meaning_typing/specs/WholeTyping.antt` and those of statements, which `meaning_statements` has, as
-//! `meaning_typing` and `meaning_rules` have them over rows that know of no aggregates. What initializers say is left out here:
-//! `meaning_units` has the judgement with it. Start reading at `specs/UnitRows.antt`, then `specs/WholeFacts.antt` and
+//! Definitions over the rows of `meaning_typing/specs/WholeTyping.antt` and those of statements, which `meaning_statements` has.
+//! What initializers say is left out here: `meaning_units` has the judgement with it. Start reading at `specs/UnitRows.antt`, then `specs/WholeFacts.antt` and
 //! `specs/WholeRules.antt`.
 #![tactic(auto)]
 

@@ -1,2 +1,2 @@
 pub mod Least
-pub mod Judgements
+pub mod Gathered

@@ -1,45 +1,15 @@
--- What fails in a unit, what it breaks, and what is told of it.
-use Rattle.std.specs.Prelude.{◌≡◌, ℕ, zero, suc, ◌<◌, Bool, ◌||◌, ◌&&◌, nat_lt, nat_le, nat_eq, List, [], ◌∷◌, ◌++◌, length, Contains, Option, Some, None, if◌then◌else◌}
+-- What is told of a unit, of all that fails in it and all that it breaks.
+use Rattle.std.specs.Prelude.{ℕ, zero, suc, Bool, ◌||◌, ◌&&◌, nat_lt, nat_le, nat_eq, List, [], ◌∷◌, ◌++◌, Option, Some, None, if◌then◌else◌}
 use Rattle.vocabulary.specs.Errors.{error_number}
 use Rattle.meaning_operands.specs.Failures.{Failure, Broken}
-use Rattle.meaning_warnings.specs.Listing.{IsListing}
-use Rattle.meaning_typing.specs.Units.{UnitNodes}
-use Rattle.meaning_typing.specs.Surroundings.{Surrounding, AreSurroundings}
-use Rattle.meaning_typing.specs.Facts.{Fact}
-use Rattle.meaning_typing.specs.Typing.{AreFacts, failures_at, broken_at, passed_at}
 
--- Of a unit
-
--- a rule fails so at some node
-abbrev pub Fails : UnitNodes → Failure → Type 0
-Fails nodes failure =
-    (surroundings : List Surrounding) × (facts : List Fact) × (handle : ℕ)
-    × AreSurroundings nodes surroundings × AreFacts nodes surroundings facts × (handle < length nodes)
-    × Contains (failures_at nodes surroundings facts handle) failure
-
--- some node decides that this constraint is broken, at the token where it stands
-abbrev pub Breaks : UnitNodes → Broken → Type 0
-Breaks nodes broken =
-    (surroundings : List Surrounding) × (facts : List Fact) × (handle : ℕ)
-    × AreSurroundings nodes surroundings × AreFacts nodes surroundings facts × (handle < length nodes)
-    × Contains (broken_at nodes surroundings facts handle) broken
-
--- Lists of them, node by node
+-- What nodes have, one after the other
 
 module _ {A : Type 0} (of_node : ℕ → List A) where
   -- what the first so many nodes have
   abbrev pub gathered : ℕ → List A
   gathered zero = []
   gathered (suc count) = gathered count ++ of_node count
-
-abbrev pub failures_in : UnitNodes → List Surrounding → List Fact → List Failure
-failures_in nodes surroundings facts = gathered (failures_at nodes surroundings facts) (length nodes)
-
-abbrev pub broken_in : UnitNodes → List Surrounding → List Fact → List Broken
-broken_in nodes surroundings facts = gathered (broken_at nodes surroundings facts) (length nodes)
-
-abbrev pub passed_in : UnitNodes → List Surrounding → List Fact → List ℕ
-passed_in nodes surroundings facts = gathered (passed_at nodes surroundings facts) (length nodes)
 
 -- The least broken constraint
 
@@ -84,18 +54,3 @@ first_refusal None None = None
 first_refusal (Some broken) None = Some (BreaksConstraint broken)
 first_refusal None (Some token) = Some PassesObjectSize
 first_refusal (Some broken) (Some token) = if nat_le broken.token token then Some (BreaksConstraint broken) else Some PassesObjectSize
-
--- nothing is refused, and the listing has the failures in order and each once
-pub data IsJudged (nodes : UnitNodes) (surroundings : List Surrounding) (facts : List Fact) : Judgement → Type 0 where
-  holds : (listing : List Failure)
-      → first_refusal (least_broken (broken_in nodes surroundings facts)) (least_token (passed_in nodes surroundings facts)) ≡ None
-      → IsListing (failures_in nodes surroundings facts) listing → IsJudged nodes surroundings facts (Holds listing)
-  refused : (judgement : Judgement)
-      → first_refusal (least_broken (broken_in nodes surroundings facts)) (least_token (passed_in nodes surroundings facts)) ≡ Some judgement
-      → IsJudged nodes surroundings facts judgement
-
--- the judgement of a unit
-abbrev pub IsJudgement : UnitNodes → Judgement → Type 0
-IsJudgement nodes judgement =
-    (surroundings : List Surrounding) × (facts : List Fact)
-    × AreSurroundings nodes surroundings × AreFacts nodes surroundings facts × IsJudged nodes surroundings facts judgement

@@ -1,11 +1,8 @@
-//! The rules over a whole unit: what fails at its nodes, what it breaks, and what is told of it.
+//! What is told of a unit: of all that fails at its nodes and all that they break, node by node, its listing or its first refusal.
 //!
-//! Definitions over what `meaning_typing` says of each node. Start reading at `specs/Rules.antt`.
+//! What a node has isn't said here: `meaning_units` says it, and what the judgement of a unit is. Start reading at `specs/Rules.antt`.
 #![tactic(auto)]
 
 mod rules;
 
-pub use rules::{
-    each_unit_has_one_judgement, the_least_is_told, units_have_what_their_nodes_have,
-    worked_examples,
-};
+pub use rules::{the_least_is_told, worked_examples};

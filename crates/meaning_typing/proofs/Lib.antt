@@ -1,6 +1,5 @@
 pub mod Lists
 pub mod Equality
 pub mod Surroundings
-pub mod Facts
 pub mod Words
 pub mod Members

@@ -1,5 +1,5 @@
 -- What is known of the nodes of a unit: one sentence for all of them.
-use Rattle.std.specs.Prelude.{◌≡◌, ℕ, ◌-◌, ◌<◌, ℤ, nat_lt, Bool, true, false, ◌&&◌, not, List, [], ◌∷◌, ◌++◌, map, length, take, slice_get, Option, Some, None, option_map, if◌then◌else◌}
+use Rattle.std.specs.Prelude.{ℕ, ◌-◌, ℤ, nat_lt, Bool, true, false, ◌&&◌, not, List, [], ◌∷◌, ◌++◌, map, length, take, Option, Some, None, option_map, if◌then◌else◌}
 use Rattle.vocabulary.specs.declared.node_kind.NodeKind.{NodeKind}
 use Rattle.vocabulary.specs.declared.node_kind.NodeKind.TheVariants as kinds
 use Rattle.vocabulary.specs.declared.rule.RuleCode.{RuleCode}
@@ -193,11 +193,6 @@ row_of nodes surroundings facts handle kind = operation_row nodes facts handle (
 abbrev pub row_at : UnitNodes → List Surrounding → (earlier : List Fact) → (handle : ℕ) → Row
 row_at nodes surroundings earlier handle =
     row_with_constant (constant_at nodes earlier handle) (row_of nodes surroundings earlier handle (kind_at nodes handle))
-
--- These are the facts of a unit: each is what its node's row gives over the facts before it.
-pub record AreFacts (nodes : UnitNodes) (surroundings : List Surrounding) (facts : List Fact) : Type 0 where
-  pub all : length facts ≡ length nodes
-  pub each : (handle : ℕ) → handle < length nodes → slice_get facts handle ≡ Some (row_at nodes surroundings (take handle facts) handle).fact
 
 -- Accesses (6.3.2.1 p2, 6.5.16 p3)
 

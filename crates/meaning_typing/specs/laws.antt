@@ -1,6 +1,5 @@
 -- What is proved of the definitions.
 pub mod Equality
 pub mod Surroundings
-pub mod Facts
 pub mod Words
 pub mod Members

@@ -11,7 +11,6 @@ ghost use Rattle.meaning_typing.specs.examples.Operations.{OperationExamples};
 ghost use Rattle.meaning_typing.specs.examples.Rows.{ConstraintExamples, FailureExamples};
 ghost use Rattle.meaning_typing.specs.examples.Typing.{FactExamples, SurroundingExamples};
 ghost use Rattle.meaning_typing.specs.laws.Equality.{EqualTypesPass};
-ghost use Rattle.meaning_typing.specs.laws.Facts.{FactsAreFound, FactsAreUnique};
 ghost use Rattle.meaning_typing.specs.laws.Members.{AnonymousMembersAreSteps, ArrowIsDotOfStar};
 ghost use Rattle.meaning_typing.specs.laws.Surroundings.{SurroundingsAreFound, SurroundingsAreUnique};
 ghost use Rattle.meaning_typing.specs.laws.Words.{NeighboursMaySwap};
@@ -26,12 +25,6 @@ pub fn equality_is_decided()
 pub fn each_unit_has_one_list_of_surroundings()
     ensures unique { SurroundingsAreUnique }
     ensures found { SurroundingsAreFound }
-{}
-
-/// In the same surroundings a unit has exactly one list of facts.
-pub fn each_unit_has_one_list_of_facts()
-    ensures unique { FactsAreUnique }
-    ensures found { FactsAreFound }
 {}
 
 /// Whatever specifier words stand among, two of them that are neighbours may change places.

@@ -1,7 +1,6 @@
 -- A laid unit has at most one judgement.
-use Rattle.std.proofs.Common.{◌≡◌, ℕ, zero, suc, ◌<◌, ◌⊎◌, inl, inr, List, length, Contains, Option, Some, None, refl, sym, ap, subst, ◌∙◌, arith}
+use Rattle.std.proofs.Common.{◌≡◌, ℕ, List, length, Contains, Option, Some, None, refl, sym, ap, subst, ◌∙◌}
 use Rattle.std.proofs.lemmas.Option.{none-some, same_Some}
-use Rattle.std.proofs.lemmas.List.Elements.{Contains-append_left, Contains-append_right, Contains-append_cases}
 use Rattle.meaning_warnings.proofs.Listings.{in_order, lists, unique}
 use Rattle.meaning_typing.specs.Rows.{Row}
 use Rattle.meaning_typing.specs.Units.{UnitNodes}
@@ -9,7 +8,8 @@ use Rattle.meaning_typing.specs.Surroundings.{Surrounding, AreSurroundings}
 use Rattle.meaning_typing.specs.Building.{surroundings_of}
 use Rattle.meaning_typing.specs.laws.Surroundings.{IsLaidUnit}
 use Rattle.meaning_typing.proofs.Surroundings.{surroundings_are_unique, surroundings_are_found}
-use Rattle.meaning_rules.specs.Rules.{gathered, least_broken, least_token, Judgement, Holds, first_refusal}
+use Rattle.meaning_rules.specs.Rules.{least_broken, least_token, Judgement, Holds, first_refusal}
+use Rattle.meaning_rules.proofs.Gathered.{gathered-has, gathered-from}
 use Rattle.meaning_units.specs.WholeRows.{AreRows, broken_at, failures_at}
 use Rattle.meaning_units.specs.WholeRules.{IsJudged, holds, refused, broken_in, failures_in, passed_in}
 use Rattle.meaning_units.specs.Laws.{BrokenAreGathered, FailuresAreGathered, JudgementsAreUnique, JudgementsExist}
@@ -54,27 +54,6 @@ judgements_exist nodes unit nested =
     (judged.0, (surroundings, rows.0, are, rows.1, judged.1))
 
 -- What nodes have, one after the other
-
-earlier-or-last : (count all : ℕ) → count < suc all → (count < all) ⊎ (count ≡ all)
-earlier-or-last count all within = grind arith
-
-gathered-has : {A : Type 0} (of_node : ℕ → List A) (count handle : ℕ) (x : A) → handle < count → Contains (of_node handle) x → Contains (gathered of_node count) x
-gathered-has of_node zero handle x within is = absurd (omega (arith, within))
-gathered-has of_node (suc count) handle x within is =
-    elim (earlier-or-last handle count within) [
-      | inl earlier ↦ Contains-append_left (gathered of_node count) (of_node count) x (gathered-has of_node count handle x earlier is)
-      | inr last ↦ Contains-append_right (gathered of_node count) (of_node count) x (subst (λ h. Contains (of_node h) x) last is)
-    ]
-
-gathered-from : {A : Type 0} (of_node : ℕ → List A) (count : ℕ) (x : A) → Contains (gathered of_node count) x → (handle : ℕ) × (handle < count) × Contains (of_node handle) x
-gathered-from of_node zero x is = absurd (omega (arith, is.1))
-gathered-from of_node (suc count) x is =
-    elim (Contains-append_cases (gathered of_node count) (of_node count) x is) [
-      | inl earlier ↦
-          let found = gathered-from of_node count x earlier in
-          (found.0, omega (arith, found.1), found.2)
-      | inr last ↦ (count, omega arith, last)
-    ]
 
 -- what a node has in some surroundings and rows of a unit, it has in all
 module _ {A : Type 0} (of_unit : List Surrounding → List Row → ℕ → List A) where

@@ -1,5 +1,5 @@
 -- Worked examples: what fails in short units and what they break, as one can tell by eye.
-use Rattle.std.specs.Prelude.{◌≡◌, ℕ, true, false, List, [], ◌∷◌, codes, Option, Some, None, ◌+◌}
+use Rattle.std.specs.Prelude.{◌≡◌, ℕ, true, false, List, [], ◌∷◌, codes, length, Option, Some, None, ◌+◌}
 use Rattle.vocabulary.specs.declared.error_kind.ErrorKind.{ErrorKind}
 use Rattle.vocabulary.specs.declared.error_kind.ErrorKind.TheVariants.{CannotDereference, NotModifiable, CalledObjectIsNoFunction, WrongNumberOfArguments, TypedefHasAnotherType}
 use Rattle.vocabulary.specs.declared.int_kind.IntKind.TheVariants as integers
@@ -15,16 +15,17 @@ use Rattle.meaning_typing.specs.Declarators.{array_type}
 use Rattle.meaning_typing.specs.Rows.{fails_with}
 use Rattle.meaning_typing.specs.Building.{surroundings_of, facts_of}
 use Rattle.meaning_typing.specs.examples.Drawn.{nodes_of, leaf, over, type_over, named, number, declarator, array, declaration, parameter, function, user, in_body, int, user_int, p, u, i, one, statement, star, assignment, call, parenthesized, subscript}
-use Rattle.meaning_rules.specs.Rules.{failures_in, broken_in, passed_in, least_broken, BreaksConstraint, PassesObjectSize, first_refusal}
+use Rattle.meaning_typing.specs.Typing.{failures_at, broken_at, passed_at}
+use Rattle.meaning_rules.specs.Rules.{gathered, least_broken, BreaksConstraint, PassesObjectSize, first_refusal}
 
 abbrev pub failures_of : UnitNodes → List Failure
-failures_of nodes = failures_in nodes (surroundings_of nodes) (facts_of nodes (surroundings_of nodes))
+failures_of nodes = gathered (failures_at nodes (surroundings_of nodes) (facts_of nodes (surroundings_of nodes))) (length nodes)
 
 abbrev pub broken_of : UnitNodes → List Broken
-broken_of nodes = broken_in nodes (surroundings_of nodes) (facts_of nodes (surroundings_of nodes))
+broken_of nodes = gathered (broken_at nodes (surroundings_of nodes) (facts_of nodes (surroundings_of nodes))) (length nodes)
 
 abbrev pub passed_of : UnitNodes → List ℕ
-passed_of nodes = passed_in nodes (surroundings_of nodes) (facts_of nodes (surroundings_of nodes))
+passed_of nodes = gathered (passed_at nodes (surroundings_of nodes) (facts_of nodes (surroundings_of nodes))) (length nodes)
 
 abbrev pub told_of : UnitNodes → Option Broken
 told_of nodes = least_broken (broken_of nodes)

@@ -1,8 +1,0 @@
-use Rattle.meaning_rules.proofs.Judgements.{failures_are_gathered, broken_are_gathered}
-use Rattle.meaning_rules.proofs.rules.units_have_what_their_nodes_have.Goals as goal
-
-pub returns-clause-failures : goal.returns-clause-failures
-returns-clause-failures c = failures_are_gathered
-
-pub returns-clause-broken : goal.returns-clause-broken
-returns-clause-broken c = broken_are_gathered

@@ -7,8 +7,7 @@
 mod typing;
 
 pub use typing::{
-    each_unit_has_one_list_of_surroundings, equality_is_decided,
-    members_are_selected, words_stand_in_any_order, worked_bodies, worked_declarations,
-    worked_enumeration_rows, worked_enumerations, worked_examples, worked_members,
-    worked_operators, worked_rows,
+    each_unit_has_one_list_of_surroundings, equality_is_decided, members_are_selected,
+    words_stand_in_any_order, worked_bodies, worked_declarations, worked_enumeration_rows,
+    worked_enumerations, worked_examples, worked_members, worked_operators, worked_rows,
 };

@@ -117,9 +117,14 @@ def targets():
         return set(re.findall(r"^([\w/-]+):", text.read(), re.MULTILINE))
 
 
+def cells_of(row):
+    """The cells of a row; a bar behind a backslash is none between two."""
+    return re.split(r"(?<!\\)\|", row)[1:-1]
+
+
 def row_findings(told, header, near):
     """Names beside a file in a row, which have to stand in it."""
-    cells, heads = told.split("|")[1:-1], [it.strip() for it in header.split("|")[1:-1]]
+    cells, heads = cells_of(told), [it.strip() for it in cells_of(header)]
     for at, cell in enumerate(cells):
         cited = CITED.findall(cell)
         paths = [it for path in filter(is_path, cited) for it in places_of(path, near) if it.endswith((".rt", ".antt"))]
@@ -134,7 +139,7 @@ def row_findings(told, header, near):
 
 def count_findings(told, header):
     """Numbers of wrong programs in a row, which have to be those of its folders."""
-    cells, heads = ([it.strip() for it in line.split("|")[1:-1]] for line in (told, header))
+    cells, heads = ([it.strip() for it in cells_of(line)] for line in (told, header))
     crate = CITED.match(cells[0])
     if "In `edits/`" not in heads or not crate:
         return
@@ -152,7 +157,7 @@ def findings_of(file):
     for line, told, heading, header in blocks(whole):
         named = [it for it in CITED.findall(told + heading) for it in [it.split("/")[0], *it.split("/")[1:2]] if it in crates()]
         if header:
-            cell = CITED.findall(told.split("|")[1])
+            cell = CITED.findall(cells_of(told)[0])
             first = [it for it in cell if it in crates()] or (first if not cell else [])
         near = sorted({*named, *(first if header else [])})
         for cited in CITED.findall(told):

@@ -18,13 +18,13 @@ const MOST_ROWS: usize = 1 << 32;
 const FEW_ROWS: usize = 4_369;
 
 // The items of a row that are left.
-#[derive(Clone, Copy, Debug, PartialEq, Eq)]
+#[derive(Clone, Copy)]
 struct Row {
     items: &'static [ProductionItem],
 }
 
 // How many rows were counted, those that come last, and how many symbols of the grammar they have.
-#[derive(Clone, Copy, Debug, PartialEq, Eq)]
+#[derive(Clone, Copy)]
 struct Counted {
     rows: usize,
     symbols: usize,

@@ -54,7 +54,8 @@ fn do_action(parser: &mut Parser<'_>, action: Action) -> Result<(), ParseFault>
     }
 }
 
-// How many symbols of the grammar wait is noted, unless that is fewer than may.
+// How many symbols of the grammar wait is noted, unless that is fewer than may. Inlined, it mostly costs its test alone.
+#[inline(always)]
 fn note_waiting(pending: &mut Pending, state: &mut ParseState<'_>)
     ensures same { pending.new ≡ pending.old }
     ensures few { length pending.old ≤ most_waiting }

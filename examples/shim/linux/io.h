@@ -43,6 +43,7 @@ extern void __iomem *ioremap(u64 start, size_t size);
 extern void iounmap(volatile void __iomem *address);
 struct device;
 struct resource;
+#define IOMEM_ERR_PTR(error) ((__force void __iomem *)(unsigned long)(error))
 extern void __iomem *devm_ioremap(struct device *device, resource_size_t start, resource_size_t size);
 extern void __iomem *devm_ioremap_resource(struct device *device, const struct resource *resource);
 #endif

@@ -5,9 +5,10 @@ usage: constants.py [--write]
        constants.py PROGRAM COUNT [SEED]
 
 The expressions are always the same ones. Without --write the answers of the compiler on this machine are compared with the
-committed examples; with it the examples are written anew. With a PROGRAM, so many other ones are compared with what it says of them:
-each is asserted to have its value and declared to have its type, and a case label without a value is refused. Signed arithmetic wraps (-fwrapv); a zero divisor, and a count
-outside the width, where they are evaluated, are caught by the compiler's own instrumentation and have no value.
+committed examples; with it the examples are written anew. With a PROGRAM, so many other ones are compared with what it says of
+them: each is asserted to have its value and declared to have its type, and a case label without a value is refused. Signed
+arithmetic wraps (-fwrapv); a zero divisor, and a count outside the width, where they are evaluated, are caught by the
+compiler's own instrumentation and have no value.
 """
 import os
 import random

@@ -10,7 +10,7 @@ FLOWS := build/flows
 # Names with spaces, which a program's own run reads, are none for make.
 SOURCES := $(shell find crates crates.txt HANDLES -name out -prune -o -type f ! -name '* *' -print)
 
-.PHONY: all run test edits believe names docs costs bench bench-parsing fuzz rows forms compare headers drivers smoke install clean kit
+.PHONY: all run test edits believe names docs costs bench bench-parsing fuzz rows forms compare headers shimmed drivers smoke install clean kit
 
 all: $(PROGRAM)
 
@@ -113,6 +113,10 @@ compare:
 # Files of a kernel tree, preprocessed by the program and by the compiler: make headers LINUX=/path/to/a/tree FILES="lib/ctype.c"
 headers: $(PROGRAM)
 	$(PYTHON) scripts/headers.py $(PROGRAM) $(LINUX) $(FILES)
+
+# Files of a kernel tree, checked through the shim of examples/: make shimmed LINUX=/path/to/a/tree, and FILES="lib/sort.c" for others than its own
+shimmed: $(PROGRAM)
+	$(PYTHON) scripts/through_shim.py $(PROGRAM) $(LINUX) $(FILES)
 
 # The drivers of examples/, through their shim.
 drivers: $(PROGRAM)

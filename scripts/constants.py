@@ -2,13 +2,17 @@
 """Random integer expressions, and what a C compiler says of their types and values, as examples of meaning_constants.
 
 usage: constants.py [--write]
+       constants.py PROGRAM COUNT [SEED]
 
 The expressions are always the same ones. Without --write the answers of the compiler on this machine are compared with the
-committed examples; with it the examples are written anew. Signed arithmetic wraps (-fwrapv); a zero divisor, and a count
-outside the width, where they are evaluated, are caught by the compiler's own instrumentation and have no value.
+committed examples; with it the examples are written anew. With a PROGRAM, so many other ones are compared with what it says of
+them: each is asserted to have its value and declared to have its type, and a case label without a value is refused. Signed
+arithmetic wraps (-fwrapv); a zero divisor, and a count outside the width, where they are evaluated, are caught by the
+compiler's own instrumentation and have no value.
 """
 import os
 import random
+import re
 import subprocess
 import sys
 import tempfile
@@ -56,8 +60,8 @@ static void trapped(int signal) { siglongjmp(back, 2); }
 class Maker:
     """Makes expressions, each as the text of C and as that of the definitions."""
 
-    def __init__(self):
-        self.random = random.Random(2011)
+    def __init__(self, seed=2011):
+        self.random = random.Random(seed)
         self.objects = []
 
     def literal(self):
@@ -148,7 +152,76 @@ def examples(rows):
     return "\n".join(parts) + "\n"
 
 
+# The program's answers
+
+ERROR = re.compile(r"t\.c:(\d+):\d+: error\[\d+\]: .*")
+WARNING = re.compile(r"t\.c:(\d+):\d+: warning: .*")
+NOT_CONSTANT = "error[75]: case label is not constant"
+
+
+def in_literals(expression, objects):
+    """An expression with the value of each object in the object's place."""
+    return re.sub(r"v(\d+)", lambda found: re.search(r"= (\w+);", objects[int(found[1])])[1], expression)
+
+
+def literal_of(kind, number):
+    """A constant of this number, and of this kind or what it is promoted to."""
+    suffix = SUFFIXES.get(kind, "")
+    return f"(-{-number - 1}{suffix} - 1)" if number < 0 else f"{number}{suffix}"
+
+
+def asserted(index, expression, line):
+    """A line of C that says what the compiler said of an expression."""
+    kind, number = line.split()
+    value = f'_Static_assert({expression} == {literal_of(kind, int(number))}, "");'
+    return f"{value} extern typeof({expression}) x{index}; extern {KINDS[kind]} x{index};"
+
+
+def said(program, text):
+    """What the program says of a text."""
+    with tempfile.TemporaryDirectory() as folder:
+        with open(os.path.join(folder, "t.c"), "w", encoding="ascii") as file:
+            file.write(text)
+        done = subprocess.run([program, "t.c"], cwd=folder, stdin=subprocess.DEVNULL, capture_output=True, text=True, check=False)
+        return done.stderr.splitlines()
+
+
+def told_otherwise(program, lines):
+    """Each line of C that the program refuses or warns of, with what it says."""
+    left = list(lines)
+    while left:
+        told = said(program, "\n".join(left) + "\n")
+        refused = next(filter(None, map(ERROR.fullmatch, told)), None)
+        if refused is None:
+            yield from ((left[int(found[1]) - 1], found[0]) for found in map(WARNING.fullmatch, told) if found)
+            yield from ((line, line) for line in told if not line.startswith("t.c:"))
+            return
+        yield left.pop(int(refused[1]) - 1), refused[0]
+
+
+def compare(program, count, seed):
+    """Compares so many random expressions, and prints those of which the program says another thing. Returns the status."""
+    maker = Maker(seed)
+    expressions = [maker.expression(maker.random.randint(1, 3))[0] for _ in range(count)]
+    lines = answers([(expression, "") for expression in expressions], maker.objects)
+    plain = [in_literals(expression, maker.objects) for expression in expressions]
+    rows = [asserted(index, *row) for index, row in enumerate(zip(plain, lines)) if row[1] not in ("none", "trap")]
+    differing = list(told_otherwise(program, rows))
+    without = [expression for expression, line in zip(plain, lines) if line == "none"]
+    for expression in without:
+        told = said(program, f"void f(int a) {{ switch (a) {{ case {expression}: ; }} }}\n")
+        if not told or not told[0].endswith(NOT_CONSTANT):
+            differing.append((expression, f"has no value, and it says {told}"))
+    for line, told in differing:
+        print(f"constants: {told}: {line}")
+    print(f"constants: {len(rows)} values and {len(without)} without one, seed {seed}: {len(differing)} differ")
+    return 1 if differing else 0
+
+
 def main():
+    if len(sys.argv) > 2:
+        seed = int(sys.argv[3]) if len(sys.argv) > 3 else random.randrange(1 << 32)
+        return compare(os.path.abspath(sys.argv[1]), int(sys.argv[2]), seed)
     maker = Maker()
     expressions = [maker.expression(maker.random.randint(1, 3)) for _ in range(COUNT + COUNT // 20)]
     lines = answers(expressions, maker.objects)

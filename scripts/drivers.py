@@ -3,8 +3,8 @@
 
 usage: drivers.py PROGRAM
 
-Prints what the program says of each driver, which is nothing where all is well. Exits 1 where it says something, or where a file of
-`examples` and its section in the archive differ.
+Prints what the program says of each driver, which is nothing where all is well. Exits 1 where it says something, or where a section of the
+archive and its file of `examples` differ.
 """
 import os
 import subprocess
@@ -25,14 +25,20 @@ def files_below(folder):
 
 
 def archived():
-    """What the archive's first section of each name holds."""
+    """What the archive's first section of each file holds."""
     held = {}
     with open(ARCHIVE, "rb") as file:
         for _, line, text in archives.heads(file.read()):
             if line.startswith(b"-- "):
                 name, section = archives.section(line, text)
-                held.setdefault(name.decode("latin-1"), section)
+                if b"/" in name:
+                    held.setdefault(name.decode("latin-1"), section)
     return held
+
+
+def text_of(path):
+    with open(path, "rb") as file:
+        return file.read()
 
 
 def main():
@@ -44,11 +50,12 @@ def main():
             failed += 1
             print(f"drivers: {name}: status {ran.returncode}\n{ran.stderr.decode(errors='replace')}", end="")
     held = archived()
-    for name, path in (*files_below("shim"), *files_below("drivers")):
-        with open(path, "rb") as file:
-            if held.get(name) != file.read():
-                failed += 1
-                print(f"drivers: {name} isn't as {os.path.basename(ARCHIVE)} has it")
+    files = {**dict(files_below("shim")), **dict(files_below("drivers"))}
+    # the archive has of the shim what the drivers read
+    for name in held.keys() | dict(files_below("drivers")).keys():
+        if name not in held or name not in files or text_of(files[name]) != held[name]:
+            failed += 1
+            print(f"drivers: {name} isn't as {os.path.basename(ARCHIVE)} has it")
     print(f"drivers: {failed} failed" if failed else "drivers: ok")
     return 1 if failed else 0
 

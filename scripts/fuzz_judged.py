@@ -44,9 +44,9 @@ def maker(chance):
     return Maker(chance, has_operators=chance.randrange(4) > 0)
 
 
-def words_of(chance):
-    """The words of a command: one in four asks for types, and the others mostly switch on what is off."""
-    if chance.randrange(4) == 0:
+def words_of(chance, has_types):
+    """The words of a command: one in four asks for types, where that can be, and the others mostly switch on what is off."""
+    if chance.randrange(4) == 0 and has_types:
         return [b"-types", b"t.c"]
     if chance.randrange(4):
         return [*OFF, b"t.c"]
@@ -104,13 +104,14 @@ def refusal_differs(folder):
 
 def check_judged(program, types, folder, chance, count):
     """Compares what is said of so many units; true where all are alike."""
-    programs = program, types
-    for path in programs:
-        if not os.path.exists(path):
-            print(f"fuzz: no program {path}: what the judge says isn't compared")
-            return True
+    programs, has_types = (program, types), os.path.exists(types)
+    if not os.path.exists(program):
+        print(f"fuzz: no program {program}: what the judge says isn't compared")
+        return True
+    if not has_types:
+        print(f"fuzz: no program {types}: the types of units aren't compared")
     for number in range(count):
-        text, words = maker(chance).unit().encode(), words_of(chance)
+        text, words = maker(chance).unit().encode(), words_of(chance, has_types)
         differs = judged_differs(programs, words, folder)
         if differs(text):
             small = shrunk(text, differs)

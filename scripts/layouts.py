@@ -2,9 +2,11 @@
 """Random structures and unions, and what a C compiler says of their layouts, as examples of meaning_layout.
 
 usage: layouts.py [--write]
+       layouts.py PROGRAM COUNT [SEED]
 
 The aggregates are always the same ones. Without --write the answers of the compiler on this machine are compared with the
-committed examples; with it the examples are written anew. Left out is what differs on purpose: bit-fields of packed
+committed examples; with it the examples are written anew. With a PROGRAM, so many other ones are compared with what it says of them:
+each is asserted to have its size, its alignment, and each named member but the bit-fields its place. Left out is what differs on purpose: bit-fields of packed
 aggregates, which the compiler lets cross units. Where unnamed members lie a program can't ask.
 """
 import os
@@ -12,6 +14,8 @@ import random
 import subprocess
 import sys
 import tempfile
+
+from constants import told_otherwise
 
 TOP = os.path.dirname(os.path.dirname(os.path.abspath(__file__)))
 EXAMPLES = os.path.join(TOP, "crates/meaning_layout/specs/examples/Compared.antt")
@@ -150,7 +154,31 @@ def examples(rows):
     return "\n".join(parts) + "\n"
 
 
+def asserted(aggregate, line):
+    """A line of C that says what the compiler said of an aggregate."""
+    size, align, *bits = line.split()
+    name = f"{aggregate.word} {aggregate.name}"
+    tests = [f"sizeof({name}) == {size}", f"_Alignof({name}) == {align}"]
+    tests += [f"8 * __builtin_offsetof({name}, {member}) == {bit}" for (member, is_field), bit in zip(aggregate.named, bits) if not is_field]
+    return aggregate.declaration() + "".join(f' _Static_assert({test}, "");' for test in tests)
+
+
+def compare(program, count, seed):
+    """Compares so many random aggregates, and prints those of which the program says another thing. Returns the status."""
+    maker = random.Random(seed)
+    aggregates = [Aggregate(number, maker) for number in range(count)]
+    rows = [asserted(*row) for row in zip(aggregates, answers(aggregates))]
+    differing = list(told_otherwise(program, rows))
+    for line, told in differing:
+        print(f"layouts: {told}: {line}")
+    print(f"layouts: {len(rows)} aggregates, seed {seed}: {len(differing)} differ")
+    return 1 if differing else 0
+
+
 def main():
+    if len(sys.argv) > 2:
+        seed = int(sys.argv[3]) if len(sys.argv) > 3 else random.randrange(1 << 32)
+        return compare(os.path.abspath(sys.argv[1]), int(sys.argv[2]), seed)
     maker = random.Random(2011)
     aggregates = [Aggregate(number, maker) for number in range(COUNT)]
     rows = [(aggregate.shape(), answer_text(line)) for aggregate, line in zip(aggregates, answers(aggregates))]

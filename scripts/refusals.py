@@ -2,7 +2,8 @@
 
 `Differing` and `DifferingJudge` say each difference in a method of its own, so that what they refuse is what gcc refuses:
 
-- a pointer that is subtracted from an integer, or from a pointer to another type, is a warning here (A3) and an error there;
+- a pointer that is subtracted from an integer, or from a pointer to another type, is a warning here (A3) and an error there; where the
+  targets differ in const or volatile below their own level, as `int *` and `const int *` do, nothing is said here;
 - a pointer to a function is compared with one to void, or is the other arm of `?:`, there (6.5.9 p2, 6.5.15 p3 forbid both);
 - one arm of `?:` alone may be void there, and the whole is void then (6.5.15 p3 forbids it);
 - arms of `?:` to other targets give `void *` there, and an integer beside a pointer gives the pointer's type, not the second
@@ -32,6 +33,17 @@ FLAGS = ["-fsyntax-only", "-w", "-std=gnu11", "-x", "c"]
 RETURNS = (23, 24)
 
 
+def unqualified(target):
+    """A target without the marks of its own level, which of an array are those of its elements."""
+    inner = unqualified(target.inner) if target.form == "array" else target.inner
+    return types.changed(target, inner=inner, marks=types.NONE)
+
+
+def can_be_subtracted(left, right):
+    """Whether two pointers are of one type but for qualifiers of their targets."""
+    return pairs.can_be_subtracted(left, right) and unqualified(left.type.inner) is unqualified(right.type.inner)
+
+
 class Differing(Expressions):
     """The rows of expressions, as gcc refuses them."""
 
@@ -46,7 +58,7 @@ class Differing(Expressions):
         return super().converts(value, to, token, word, part)
 
     def difference(self, node, left, right):
-        if not left.is_pointer() or not pairs.can_be_subtracted(left, right):
+        if not left.is_pointer() or not can_be_subtracted(left, right):
             return self.found.breaks(4, node.at)
         return Fact(LONG) if self.is_step_possible(node, left.type) else None
 
@@ -68,7 +80,7 @@ class Differing(Expressions):
         if value.is_pointer() and of.form == "integer":
             return kind == "Addition"
         if value.is_pointer():
-            return kind == "Subtraction" and pairs.can_be_subtracted(Fact(types.value_of(of)), value)
+            return kind == "Subtraction" and can_be_subtracted(Fact(types.value_of(of)), value)
         return super().can_be_changed(kind, of, value)
 
 

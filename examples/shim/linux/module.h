@@ -1,19 +1,24 @@
 #ifndef SHIM_MODULE_H
 #define SHIM_MODULE_H
+#include <linux/export.h>
+#include <linux/init.h>
 #include <linux/kernel.h>
+#include <linux/list.h>
+#include <linux/moduleparam.h>
+#include <linux/string.h>
 #ifndef KBUILD_MODNAME
 #define KBUILD_MODNAME "module"
 #endif
-struct module;
-#define THIS_MODULE ((struct module *)0)
-/* What stands at file scope becomes a declaration that says nothing, or asks for the name. */
-#define MODULE_LICENSE(text) struct module
-#define MODULE_AUTHOR(text) struct module
-#define MODULE_DESCRIPTION(text) struct module
-#define MODULE_ALIAS(text) struct module
-#define MODULE_PARM_DESC(name, text) struct module
-#define MODULE_DEVICE_TABLE(bus, table) _Static_assert(sizeof(table), "a table")
-#define module_param(name, type, mode) _Static_assert(sizeof(name), "a parameter")
+#define MODULE_NAME_LEN 56
+#define MODULE_LICENSE(text) extern const char module_license_[sizeof(text)]
+#define MODULE_AUTHOR(text) _Static_assert(sizeof(text) > 1, "author")
+#define MODULE_DESCRIPTION(text) _Static_assert(sizeof(text) > 1, "description")
+#define MODULE_ALIAS(text) _Static_assert(sizeof(text) > 1, "alias")
+#define MODULE_VERSION(text) _Static_assert(sizeof(text) > 1, "version")
+#define MODULE_IMPORT_NS(space) _Static_assert(1, #space)
+#define MODULE_DEVICE_TABLE(kind, table) extern typeof(table) table
 #define module_init(function) extern int (*const module_init_)(void)
 #define module_exit(function) extern void (*const module_exit_)(void)
+extern bool try_module_get(struct module *module);
+extern void module_put(struct module *module);
 #endif

@@ -17,10 +17,11 @@ import subprocess
 import sys
 import tempfile
 
+import compared
+
 TOP = os.path.dirname(os.path.dirname(os.path.abspath(__file__)))
 EXAMPLES = os.path.join(TOP, "crates/meaning_constants/specs/examples/Compared.antt")
 COUNT = 2000
-OF_FACT = 100
 
 # Kinds: the name in the definitions, and the words of C.
 KINDS = {
@@ -129,7 +130,6 @@ def answer_text(line):
 
 def examples(rows):
     """The text of the examples."""
-    names = [f"from_{start}" for start in range(0, len(rows), OF_FACT)]
     parts = [
         "-- Expressions that a script made, each with the type and the value that a compiler gives it; so lines are long.",
         "use Rattle.std.specs.Prelude.{◌≡◌, pos, negsuc, [], ◌∷◌, None}",
@@ -141,15 +141,7 @@ def examples(rows):
         "",
         "pub record ComparedExamples : Type 0 where",
     ]
-    for name, start in zip(names, range(0, len(rows), OF_FACT)):
-        part = rows[start:start + OF_FACT]
-        parts.append(f"  pub {name} :")
-        parts.append("      constants")
-        parts += [f"      {'(' if at == 0 else '∷ '}{shape}" for at, (shape, _) in enumerate(part)]
-        parts.append("      ∷ [])")
-        parts += [f"      {'≡' if at == 0 else '∷'} {answer}" for at, (_, answer) in enumerate(part)]
-        parts.append("      ∷ []")
-    return "\n".join(parts) + "\n"
+    return "\n".join(parts + compared.facts(rows, "constants")) + "\n"
 
 
 # The program's answers
@@ -227,16 +219,8 @@ def main():
     lines = answers(expressions, maker.objects)
     # The least number divided by -1 traps here, though it wraps; it has an example of its own.
     rows = [(shape, answer_text(line)) for (_, shape), line in zip(expressions, lines) if line != "trap"][:COUNT]
-    text = examples(rows)
-    if "--write" in sys.argv[1:]:
-        with open(EXAMPLES, "w", encoding="utf-8") as out:
-            out.write(text)
-        print(f"constants: {len(rows)} expressions written, {sum(answer == 'None' for _, answer in rows)} without a value")
-        return 0
-    with open(EXAMPLES, encoding="utf-8") as old:
-        same = old.read() == text
-    print(f"constants: {len(rows)} expressions, {'as the examples have them' if same else 'NOT as the examples have them'}")
-    return 0 if same else 1
+    told = f"constants: {len(rows)} expressions, {sum(answer == 'None' for _, answer in rows)} without a value"
+    return compared.written_or_compared(EXAMPLES, examples(rows), told)
 
 
 if __name__ == "__main__":

@@ -15,12 +15,12 @@ import subprocess
 import sys
 import tempfile
 
+import compared
 from constants import told_otherwise
 
 TOP = os.path.dirname(os.path.dirname(os.path.abspath(__file__)))
 EXAMPLES = os.path.join(TOP, "crates/meaning_layout/specs/examples/Compared.antt")
 COUNT = 1000
-OF_FACT = 100
 
 # Types of members: the words of C, the bytes, and the bits of the widest bit-field, where there may be one.
 TYPES = (
@@ -144,14 +144,7 @@ def examples(rows):
         "",
         "pub record ComparedExamples : Type 0 where",
     ]
-    for start in range(0, len(rows), OF_FACT):
-        part = rows[start:start + OF_FACT]
-        parts += [f"  pub from_{start} :", "      map asked_layout"]
-        parts += [f"      {'(' if at == 0 else '∷ '}{shape}" for at, (shape, _) in enumerate(part)]
-        parts.append("      ∷ [])")
-        parts += [f"      {'≡' if at == 0 else '∷'} {answer}" for at, (_, answer) in enumerate(part)]
-        parts.append("      ∷ []")
-    return "\n".join(parts) + "\n"
+    return "\n".join(parts + compared.facts(rows, "map asked_layout")) + "\n"
 
 
 def asserted(aggregate, line):
@@ -182,19 +175,7 @@ def main():
     maker = random.Random(2011)
     aggregates = [Aggregate(number, maker) for number in range(COUNT)]
     rows = [(aggregate.shape(), answer_text(line)) for aggregate, line in zip(aggregates, answers(aggregates))]
-    text = examples(rows)
-    if "--write" in sys.argv[1:]:
-        with open(EXAMPLES, "w", encoding="utf-8") as out:
-            out.write(text)
-        print(f"layouts: {len(rows)} aggregates written")
-        return 0
-    with open(EXAMPLES, encoding="utf-8") as old:
-        committed = old.read().splitlines()
-    differing = [new for new, line in zip(text.splitlines(), committed) if new != line]
-    print(f"layouts: {len(rows)} aggregates, {'as the examples have them' if text.splitlines() == committed else 'NOT as the examples have them'}")
-    for line in differing:
-        print(line)
-    return 0 if text.splitlines() == committed else 1
+    return compared.written_or_compared(EXAMPLES, examples(rows), f"layouts: {len(rows)} aggregates")
 
 
 if __name__ == "__main__":

@@ -11,7 +11,7 @@ use Rattle.flow_lines.specs.Shown.{shown_block, shown_blocks, shown_blocks_behin
 use Rattle.flows.specs.declared.wrong.Wrong.TheVariants.{NoClosing, NoComma, NoStep}
 use Rattle.flows.specs.Reading.{Reading, Reads, Fails, behind_spaces, mark_at, number_at, reads_on, signed_at}
 use Rattle.flows.specs.Steps.{call_at, count_at, is_letter, step_at, step_with}
-use Rattle.flows.specs.Lines.{begins_block, begins_number, begins_step, behind_bar, block_at, block_behind, block_with, blocks_at, counts_at, elements_at, elements_from, ended, line_with, note_at, note_with, right_there, steps_at, successors_at}
+use Rattle.flows.specs.Lines.{begins_block, begins_number, begins_step, behind_bar, block_at, block_behind, block_with, blocks_at, elements_at, elements_from, ended, line_with, note_at, note_count_at, note_with, right_there, steps_at, successors_at}
 use Rattle.flows.specs.Written.{IsCount, IsKept, IsKeptBlock, IsNumber, IsToken, LinesAreReadBack}
 use Rattle.flows.proofs.ElementLemmas.{one-more}
 use Rattle.flows.proofs.NumeralLemmas.{EndsNumber, begins-decimal, change-ends, change-read, count-read, count-stays, digit-goes, digit-stays, number-read}
@@ -247,15 +247,16 @@ blocks-read block blocks rest kept all ends stop =
 
 -- Lines
 
+-- what is read on behind the first count
+abbrev pub counted : Reading ℤ → Reading ContextNote
+counted enters =
+    reads_on enters (λ count comma. reads_on (note_count_at 44 NoComma comma) (λ leaves last. ended (note_with count leaves) (behind_spaces last)))
+
 note-read : (note : ContextNote) → IsCount note.enters → IsCount note.leaves → note_at (behind_spaces (shown_note note)) ≡ Reads note []
 note-read note small small_too =
-    ap (λ (text : List ℕ). counts_at (behind_spaces text)) (append_assoc (signed_decimal note.enters) (44 ∷ 32 ∷ []) (signed_decimal note.leaves))
-    ∙ ap counts_at (count-stays note.enters (44 ∷ 32 ∷ signed_decimal note.leaves) small)
-    ∙ ap
-    (λ found. reads_on found
-    (λ enters comma. reads_on (mark_at 44 NoComma (behind_spaces comma))
-    (λ _ second. reads_on (signed_at (behind_spaces second)) (λ leaves last. ended (note_with enters leaves) (behind_spaces last)))))
-    (count-read note.enters (44 ∷ 32 ∷ signed_decimal note.leaves) small refl)
+    ap (λ (text : List ℕ). counted (signed_at (behind_spaces text))) (append_assoc (signed_decimal note.enters) (44 ∷ 32 ∷ []) (signed_decimal note.leaves))
+    ∙ ap (λ (text : List ℕ). counted (signed_at text)) (count-stays note.enters (44 ∷ 32 ∷ signed_decimal note.leaves) small)
+    ∙ ap counted (count-read note.enters (44 ∷ 32 ∷ signed_decimal note.leaves) small refl)
     ∙ ap (λ (text : List ℕ). reads_on (signed_at (behind_spaces text)) (λ leaves last. ended (note_with note.enters leaves) (behind_spaces last)))
     (sym (append-nil (signed_decimal note.leaves)))
     ∙ ap (λ (text : List ℕ). reads_on (signed_at text) (λ leaves last. ended (note_with note.enters leaves) (behind_spaces last))) (count-stays note.leaves [] small_too)

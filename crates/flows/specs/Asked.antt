@@ -11,13 +11,16 @@ pub record IsAsked (graph : List BasicBlock) (enters : ℤ) : Type 0 where
   pub points : EachBeginsWithPoint graph
   pub small : unsigned_abs enters + size_of_graph graph < 2 ^ 63
 
+abbrev pub is_point : Step → Bool
+is_point (Point token moment) = true
+is_point (Add token key by) = false
+is_point (Call token key enters leaves) = false
+is_point (End token) = false
+
 -- no steps, or a point first
 abbrev pub begins_with_point : List Step → Bool
 begins_with_point [] = true
-begins_with_point (Point token moment ∷ steps) = true
-begins_with_point (Add token key by ∷ steps) = false
-begins_with_point (Call token key enters leaves ∷ steps) = false
-begins_with_point (End token ∷ steps) = false
+begins_with_point (step ∷ steps) = is_point step
 
 -- all of these are numbers of blocks
 abbrev pub all_below : (blocks : ℕ) → List ℕ → Bool

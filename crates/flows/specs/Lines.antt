@@ -3,6 +3,7 @@ use Rattle.std.specs.Prelude.{ℕ, zero, suc, ◌+◌, ◌-◌, ◌^◌, ℤ, Bo
 use Rattle.meaning_paths.specs.Steps.{Step}
 use Rattle.meaning_paths.specs.Graphs.{BasicBlock}
 use Rattle.control_flow.specs.declared.note.ContextNote.{ContextNote}
+use Rattle.flows.specs.declared.wrong.Wrong.{Wrong}
 use Rattle.flows.specs.declared.wrong.Wrong.TheVariants.{NoStep, NoComma, NoCounts, NoEnd}
 use Rattle.flows.specs.Reading.{Reading, Reads, Fails, reads_on, behind_spaces, mark_at, number_at, signed_at}
 use Rattle.flows.specs.Steps.{step_at}
@@ -76,16 +77,15 @@ note_with enters leaves = record { enters = enters; leaves = leaves }
 abbrev pub ended : ContextNote → List ℕ → Reading ContextNote
 ended note text = if length text == 0 then Reads note [] else Fails NoEnd (length text)
 
--- the counts to enter and to leave with, which end a line
-abbrev pub counts_at : List ℕ → Reading ContextNote
-counts_at text =
-    reads_on (signed_at text)
-    (λ enters comma. reads_on (mark_at 44 NoComma (behind_spaces comma))
-    (λ _ second. reads_on (signed_at (behind_spaces second)) (λ leaves last. ended (note_with enters leaves) (behind_spaces last))))
+-- a count behind this mark, around which spaces may stand
+abbrev pub note_count_at : (mark : ℕ) → Wrong → List ℕ → Reading ℤ
+note_count_at mark wrong text = reads_on (mark_at mark wrong (behind_spaces text)) (λ _ rest. signed_at (behind_spaces rest))
 
--- the counts, behind a ;
+-- the counts to enter and to leave with, behind a ; and a comma, which end a line
 abbrev pub note_at : List ℕ → Reading ContextNote
-note_at text = reads_on (mark_at 59 NoCounts text) (λ _ counts. counts_at (behind_spaces counts))
+note_at text =
+    reads_on (note_count_at 59 NoCounts text)
+    (λ enters comma. reads_on (note_count_at 44 NoComma comma) (λ leaves last. ended (note_with enters leaves) (behind_spaces last)))
 
 -- What a line says: a graph, and the counts.
 pub record FlowLine : Type 0 where

@@ -2,7 +2,7 @@
 ghost use Rattle.std.specs.Prelude.{◌≡◌, ◌<◌, ◌≤◌, ◌^◌, ◌++◌, [], ◌∷◌, IfErr, IfOk, IfSome, MatchOption, OnOk, false, true, length, map};
 ghost use Rattle.control_flow.specs.Seen.{graph_of_blocks, step_of, targets};
 ghost use Rattle.flows.specs.Reading.{Reads, Fails};
-ghost use Rattle.flows.specs.Lines.{begins_block, begins_number, begins_step, behind_bar, block_at, block_with, blocks_at, counts_at, line_at, line_with, note_at, steps_at, successors_at};
+ghost use Rattle.flows.specs.Lines.{begins_block, begins_number, begins_step, behind_bar, block_at, block_with, blocks_at, line_at, line_with, note_at, note_count_at, steps_at, successors_at};
 ghost use Rattle.flows.specs.Answers.{IsOneMore, IsReadingOf};
 
 use crate::number::{behind_mark, behind_spaces, read_number, read_signed};
@@ -63,22 +63,22 @@ fn read_note(text: &[u8]) -> Result<ContextNote, Fault>
     ensures reads { IfOk result (λ note. note_at text.now ≡ Reads note []) }
     ensures fails { IfErr result (λ fault. note_at text.now ≡ Fails fault.wrong fault.left) }
 {
-    let rest = behind_mark(text, b';', Wrong::NoCounts)?;
-    read_counts(behind_spaces(rest))
-}
-
-fn read_counts(text: &[u8]) -> Result<ContextNote, Fault>
-    ensures reads { IfOk result (λ note. counts_at text.now ≡ Reads note []) }
-    ensures fails { IfErr result (λ fault. counts_at text.now ≡ Fails fault.wrong fault.left) }
-{
-    let (enters, rest) = read_signed(text)?;
-    let rest = behind_mark(behind_spaces(rest), b',', Wrong::NoComma)?;
-    let (leaves, rest) = read_signed(behind_spaces(rest))?;
+    let (enters, rest) = read_note_count(text, b';', Wrong::NoCounts)?;
+    let (leaves, rest) = read_note_count(rest, b',', Wrong::NoComma)?;
     let rest = behind_spaces(rest);
     if rest.is_empty() {
         return Ok(ContextNote { enters, leaves });
     }
     Err(fault_at(rest, Wrong::NoEnd))
+}
+
+// A count behind this mark, around which spaces may stand.
+fn read_note_count(text: &[u8], mark: u8, wrong: Wrong) -> Result<(i64, &[u8]), Fault>
+    ensures reads { IfOk result (λ read. note_count_at mark wrong text.now ≡ Reads read.0 read.1.now) }
+    ensures fails { IfErr result (λ fault. note_count_at mark wrong text.now ≡ Fails fault.wrong fault.left) }
+{
+    let rest = behind_mark(behind_spaces(text), mark, wrong)?;
+    read_signed(behind_spaces(rest))
 }
 
 // Appends blocks, one behind another, and gives the text behind them.

@@ -26,7 +26,7 @@ pub(crate) fn read_step(text: &[u8]) -> Result<(Step, &[u8]), Fault>
 fn is_letter(byte: u8) -> bool
     ensures { result ≡ is_letter byte }
 {
-    byte == b'P' || byte == b'M' || byte == b'A' || byte == b'C' || byte == b'E'
+    matches!(byte, b'P' | b'M' | b'A' | b'C' | b'E')
 }
 
 // What stands behind the letter of a step and its token.

@@ -5,8 +5,8 @@ use Rattle.std.proofs.lemmas.Option.{get_or_from_slice_get}
 use Rattle.c_types.specs.declared.nodes.NodeType.{NodeType}
 use Rattle.node_facts.specs.declared.fact.NodeFact.{NodeFact}
 use Rattle.node_facts.specs.declared.fact.NodeFact.TheVariants as facts
-use Rattle.node_facts.specs.declared.kept.NodeMark.{NodeMark}
-use Rattle.node_facts.specs.declared.kept.NodeMark.TheVariants as marks
+use Rattle.node_facts.specs.declared.marks.NodeMark.{NodeMark}
+use Rattle.node_facts.specs.declared.marks.NodeMark.TheVariants as marks
 use Rattle.node_facts.specs.Kept.{AreKept, fact_kept, facts_kept, mark_kept, node_kept}
 
 -- what was kept of a fact is that fact

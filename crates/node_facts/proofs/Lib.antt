@@ -1,2 +1,4 @@
 pub mod GrowthLemmas
 mod KeptLemmas
+mod MarkLemmas
+mod Alike

@@ -4,8 +4,8 @@ use Rattle.c_types.specs.declared.nodes.NodeType.{NodeType}
 use Rattle.node_facts.specs.declared.expression.ExpressionMarks.{ExpressionMarks}
 use Rattle.node_facts.specs.declared.fact.NodeFact.{NodeFact}
 use Rattle.node_facts.specs.declared.fact.NodeFact.TheVariants as facts
-use Rattle.node_facts.specs.declared.kept.NodeMark.{NodeMark}
-use Rattle.node_facts.specs.declared.kept.NodeMark.TheVariants as marks
+use Rattle.node_facts.specs.declared.marks.NodeMark.{NodeMark}
+use Rattle.node_facts.specs.declared.marks.NodeMark.TheVariants as marks
 use Rattle.node_facts.specs.Facts.{plain_node}
 
 abbrev pub node_kept : NodeFact → Option NodeType

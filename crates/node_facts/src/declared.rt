@@ -2,7 +2,7 @@
 use sparse_model::{NameId, TypeId};
 
 /// What the storage class of specifiers says (C11 6.7.1).
-#[derive(Clone, Copy, Debug, PartialEq, Eq)]
+#[derive(Clone, Copy, Debug, PartialEq, Eq, Hash)]
 pub struct Storage {
     pub is_typedef: bool,
     pub is_extern: bool,
@@ -11,14 +11,14 @@ pub struct Storage {
 }
 
 /// What is known of specifiers (6.7).
-#[derive(Clone, Copy, Debug, PartialEq, Eq)]
+#[derive(Clone, Copy, Debug, PartialEq, Eq, Hash)]
 pub struct SpecifiedFact {
     pub of: TypeId,
     pub storage: Storage,
 }
 
 /// What a declarator declares (6.7.6).
-#[derive(Clone, Copy, Debug, PartialEq, Eq)]
+#[derive(Clone, Copy, Debug, PartialEq, Eq, Hash)]
 pub struct DeclaredFact {
     pub name: NameId,
     pub of: TypeId,

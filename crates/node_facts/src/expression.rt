@@ -6,7 +6,7 @@ use c_types::{NodeType, NodeValue};
 use sparse_model::TypeId;
 
 /// How far an expression is an address constant (C11 6.6 p9).
-#[derive(Clone, Copy, Debug, PartialEq, Eq)]
+#[derive(Clone, Copy, Debug, PartialEq, Eq, Hash)]
 pub enum Addressed {
     NotAddress,
     /// It designates a place whose address is one.
@@ -16,7 +16,7 @@ pub enum Addressed {
 }
 
 /// What is known of an expression besides its type and its value.
-#[derive(Clone, Copy, Debug, PartialEq, Eq)]
+#[derive(Clone, Copy, Debug, PartialEq, Eq, Hash)]
 pub struct ExpressionMarks {
     /// It designates a place, or a function.
     pub is_place: bool,

@@ -3,23 +3,13 @@ ghost use Rattle.std.specs.Prelude.{◌≡◌, ◌<◌, ◌++◌, ◌∷◌, [],
 ghost use Rattle.node_facts.specs.declared.fact.NodeFact.TheVariants as facts;
 ghost use Rattle.node_facts.specs.Kept.{expression_kept, fact_kept, mark_kept, named_type_kept, node_kept};
 
-use crate::declared::{DeclaredFact, SpecifiedFact};
 use crate::expression::{ExpressionFact, ExpressionMarks, plain_node};
 use crate::fact::NodeFact;
+use crate::marks::{NodeMark, NodeMarks};
 use c_tree::Handle;
 use c_types::{NodeType, NodeTypes};
 use std::alloc::{AllocError, Global};
 use std::marker::Model;
-
-/// What is kept of a node beside its type and its value.
-#[derive(Clone, Copy)]
-pub enum NodeMark {
-    Unknown,
-    Expression(ExpressionMarks),
-    Specified(SpecifiedFact),
-    Declared(DeclaredFact),
-    NamedType,
-}
 
 // The type and the value of a node that has them: an expression, or a type that is named.
 fn node_of(fact: NodeFact) -> Option<NodeType>
@@ -78,12 +68,12 @@ fn fact_of(node: Option<NodeType>, mark: NodeMark) -> NodeFact
     }
 }
 
-/// What is known of the nodes of a unit, in the order of their handles. A node takes eight bytes beside its mark, which
-/// takes sixteen.
+/// What is known of the nodes of a unit, in the order of their handles. A node takes twelve bytes, and values and marks stand once
+/// each.
 #[derive(Drop)]
 pub struct NodeFacts {
     types: NodeTypes,
-    marks: Vec<NodeMark>,
+    marks: NodeMarks,
 }
 
 impl Model for NodeFacts {
@@ -93,9 +83,9 @@ impl Model for NodeFacts {
 
     ghost Value = { List NodeFact };
 
-    ghost view = { λ kept. facts_kept kept.types kept.marks.items };
+    ghost view = { λ kept. facts_kept kept.types kept.marks };
 
-    ghost invariant = { λ kept. AreKept kept.types kept.marks.items };
+    ghost invariant = { λ kept. AreKept kept.types kept.marks };
 }
 
 impl NodeFacts {
@@ -105,7 +95,7 @@ impl NodeFacts {
     {
         NodeFacts {
             types: NodeTypes::new(alloc),
-            marks: Vec::new(alloc),
+            marks: NodeMarks::new(alloc),
         }
     }
 
@@ -138,7 +128,7 @@ impl NodeFacts {
     {
         let index = handle as usize;
         if index < self.types.len() {
-            fact_of(self.types.get(index), self.marks[index])
+            fact_of(self.types.get(index), self.marks.get(index))
         } else {
             NodeFact::Unknown
         }

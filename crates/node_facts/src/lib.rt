@@ -8,6 +8,7 @@ mod declared;
 mod expression;
 mod fact;
 mod kept;
+mod marks;
 
 pub use declared::{DeclaredFact, SpecifiedFact, Storage};
 pub use expression::{Addressed, ExpressionFact, ExpressionMarks};

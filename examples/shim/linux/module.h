@@ -10,7 +10,7 @@
 #define KBUILD_MODNAME "module"
 #endif
 #define MODULE_NAME_LEN 56
-#define MODULE_LICENSE(text) extern const char module_license_[sizeof(text)]
+#define MODULE_LICENSE(text) _Static_assert(sizeof(text) > 1, "license")
 #define MODULE_AUTHOR(text) _Static_assert(sizeof(text) > 1, "author")
 #define MODULE_DESCRIPTION(text) _Static_assert(sizeof(text) > 1, "description")
 #define MODULE_ALIAS(text) _Static_assert(sizeof(text) > 1, "alias")

@@ -1,8 +1,6 @@
 -- What the parts of a file, read one by one, come to.
-use Rattle.std.proofs.Common.{◌≡◌, ◌<◌, ℕ, List, [], ◌∷◌, ◌++◌, length, take, drop, Option, Some, None, IfSome, option_map, IfOk, Result, Ok, Err, sym, ap, subst, ◌∙◌, append_assoc, arith, length-append}
-use Rattle.std.proofs.Math.Seq.{drop-append_seam, take-append_seam}
+use Rattle.std.proofs.Common.{◌≡◌, ℕ, List, [], length, Option, Some, None, IfSome, option_map, IfOk, Result, Ok, Err, sym, ap, subst, ◌∙◌, arith, length-append}
 use Rattle.std.proofs.lemmas.List.{length-map}
-use Rattle.std.proofs.lemmas.List.Elements.{All-drop, All-head, All-same, All-tail, All-take}
 use Rattle.meaning_text.proofs.Lexing.{tokens_are_unique, faults_are_unique}
 use Rattle.meaning_text.specs.Lexing.{Lexed, Tokens, Refused, lexed_file}
 use Rattle.meaning_text.specs.Logical.{logical_text}
@@ -18,7 +16,7 @@ use Rattle.c_tokens.proofs.SeenLemmas.{text_of-Extends, toks_of-Extends}
 use Rattle.c_tokens.specs.Seen.{Extends, IsKnown, fault_of, tok_of, toks_of}
 use Rattle.c_tokens.specs.declared.fault.LexFault.{LexFault}
 use Rattle.c_tokens.specs.declared.token.Token.{Token}
-use Rattle.c_directives.specs.Conditions.{AreKnown}
+use Rattle.c_directives.proofs.KnownLemmas.{KnownParts}
 use Rattle.c_directives.specs.Groups.{groups_seen}
 use Rattle.c_directives.specs.Lines.{parts_of}
 use Rattle.c_directives.specs.declared.groups.Group.{Group}

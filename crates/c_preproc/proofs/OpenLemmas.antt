@@ -1,13 +1,13 @@
 -- Files that are opened, and those that wait for them.
-use Rattle.std.proofs.Common.{◌≡◌, ◌<◌, ◌≤◌, ◌+◌, ◌-◌, ◌⊎◌, ℕ, zero, suc, Bool, true, false, nat_lt, List, [], ◌∷◌, ◌++◌, length, take, drop, All, Option, Some, None, IfSome, if◌then◌else◌, refl, sym, ap, subst, ◌∙◌, ⊎_elim, append_assoc, arith, length-append, take-append-drop}
-use Rattle.std.proofs.Math.Seq.{drop-append_seam}
+use Rattle.std.proofs.Common.{◌≡◌, ◌<◌, ◌≤◌, ◌+◌, ◌-◌, ◌⊎◌, ℕ, zero, suc, Bool, true, false, nat_eq, nat_lt, List, [], ◌∷◌, ◌++◌, length, drop, All, Option, Some, None, IfSome, if◌then◌else◌, refl, sym, ap, subst, ◌∙◌, ⊎_elim, arith}
+use Rattle.std.specs.Map.{lookup}
 use Rattle.std.proofs.lemmas.Bool.{lt-ltb, le-ltb}
 use Rattle.std.proofs.lemmas.List.Elements.{All-drop, All-head, All-tail}
 use Rattle.vocabulary.specs.declared.limit.LimitKind.TheVariants.{AllFiles, FileSize, IncludeDepth}
 use Rattle.vocabulary.specs.declared.error_kind.ErrorKind.TheVariants.{IncludeNotFound}
 use Rattle.meaning_outside.specs.Files.{FileMap, file_at}
 use Rattle.meaning_text.specs.Lexing.{Lexed}
-use Rattle.meaning_preprocessing.specs.Groups.{Evaluation}
+use Rattle.meaning_preprocessing.specs.Groups.{Evaluation, are_read}
 use Rattle.meaning_preprocessing.specs.Lines.{file_parts, lines_of}
 use Rattle.meaning_preprocessing.specs.Search as search
 use Rattle.meaning_preprocessing.specs.Search.{FoundFile, first_found, name_of_header, paths_for}
@@ -20,10 +20,11 @@ use Rattle.c_tokens.proofs.SeenLemmas.{slice_get-append, toks_of-Extends}
 use Rattle.c_directives.specs.Conditions.{AreKnown}
 use Rattle.c_directives.specs.Groups.{groups_seen}
 use Rattle.c_directives.specs.Lines.{parts_of}
-use Rattle.c_preproc.specs.Kept.{tokens_in_kept, tokens_kept}
+use Rattle.c_directives.specs.PartEnds.{ArePartEnds}
+use Rattle.c_preproc.specs.Kept.{ends_kept, tokens_in_kept, tokens_kept}
 use Rattle.c_preproc.specs.Loads.{IsFileOf, IsPlace}
 use Rattle.c_preproc.specs.Numbers.{IsPassed}
-use Rattle.c_preproc.specs.Opens.{FilesStay, left_in, left_of, open_piece, opened_piece, read_at, waiting_piece}
+use Rattle.c_preproc.specs.Opens.{FilesStay, IsWorthAsMuch, left_in, left_of, open_piece, opened_piece, read_at, waiting_piece}
 use Rattle.c_preproc.specs.States.{stop_of}
 use Rattle.c_preproc.specs.Units.{setting_of}
 use Rattle.c_preproc.specs.declared.file.OpenFile.{OpenFile}

@@ -1,5 +1,6 @@
 -- How expansions, and what conditions come to, are seen by the definitions of `meaning_preprocessing`.
 use Rattle.std.specs.Prelude.{◌≡◌, ℕ, Bool, List, [], length, IfSome, Result, Ok, Err, ⊤}
+use Rattle.meaning_text.specs.Tokens.{Tok}
 use Rattle.vocabulary.specs.declared.error_kind.ErrorKind.TheVariants.{WrongNumberOfMacroArguments, UnterminatedMacroCall}
 use Rattle.vocabulary.specs.declared.error_kind.ErrorKind.TheVariants as errors
 use Rattle.meaning_preprocessing.specs.Groups.{Turn, Halts}

@@ -5,7 +5,7 @@ use Rattle.meaning_preprocessing.specs.State.{expanded_in}
 use Rattle.c_tokens.specs.declared.token.Token.{Token}
 use Rattle.c_tokens.specs.Seen.{tok_of, toks_of}
 use Rattle.c_directives.specs.Conditions.{is_left_identifier}
-use Rattle.c_directives.specs.Groups.{IsJudged}
+use Rattle.c_preproc.specs.Texts.{IsJudged}
 use Rattle.c_directives.specs.declared.fault.LineFault.TheVariants.{Refused}
 use Rattle.c_preproc.specs.Texts.{before_in}
 use Rattle.c_preproc.proofs.StateLemmas.{with-left}

@@ -12,13 +12,13 @@ use Rattle.meaning_preprocessing.specs.Unit.{Reader, main_piece, main_piece_of, 
 use Rattle.c_tokens.specs.declared.token.Token.{Token}
 use Rattle.c_tokens.specs.Spellings.{AreApart}
 use Rattle.c_tokens.specs.Seen.{Extends, tok_of, toks_of}
+use Rattle.c_directives.specs.Conditions.{AreKnown}
+use Rattle.c_directives.specs.Lines.{parts_of}
+use Rattle.c_directives.specs.PartEnds.{ArePartEnds}
 use Rattle.c_preproc.specs.Begins.{IsReadCommand, IsReadMain}
-use Rattle.c_preproc.specs.Conditions.{AreKnown}
 use Rattle.c_preproc.specs.Kept.{found_at, tokens_kept}
-use Rattle.c_preproc.specs.Lines.{parts_of}
 use Rattle.c_preproc.specs.Loads.{IsFresh, IsLooked, IsSource, IsTooLong, KeepsLoads, paths_seen}
 use Rattle.c_preproc.specs.Opens.{IsOpened, opened_piece}
-use Rattle.c_preproc.specs.PartEnds.{ArePartEnds}
 use Rattle.c_preproc.specs.States.{EndsUnit, GoesOn, Holds, IsHeld, put_of, stop_of}
 use Rattle.c_preproc.specs.Steps.{IsReadWhole, directories_alone}
 use Rattle.c_preproc.specs.Units.{setting_of}

@@ -1,8 +1,6 @@
 -- What the parts of a file, read one by one, come to.
-use Rattle.std.proofs.Common.{◌≡◌, ◌<◌, ℕ, List, [], ◌∷◌, ◌++◌, length, take, drop, Option, Some, None, IfSome, option_map, IfOk, Result, Ok, Err, sym, ap, subst, ◌∙◌, append_assoc, arith, length-append}
-use Rattle.std.proofs.Math.Seq.{drop-append_seam, take-append_seam}
+use Rattle.std.proofs.Common.{◌≡◌, ℕ, List, [], length, Option, Some, None, IfSome, option_map, IfOk, Result, Ok, Err, sym, ap, subst, ◌∙◌, arith, length-append}
 use Rattle.std.proofs.lemmas.List.{length-map}
-use Rattle.std.proofs.lemmas.List.Elements.{All-drop, All-head, All-same, All-tail, All-take}
 use Rattle.meaning_text.proofs.Lexing.{tokens_are_unique, faults_are_unique}
 use Rattle.meaning_text.specs.Lexing.{Lexed, Tokens, Refused, lexed_file}
 use Rattle.meaning_text.specs.Logical.{logical_text}
@@ -18,17 +16,17 @@ use Rattle.c_tokens.proofs.SeenLemmas.{text_of-Extends, toks_of-Extends}
 use Rattle.c_tokens.specs.Seen.{Extends, IsKnown, fault_of, tok_of, toks_of}
 use Rattle.c_tokens.specs.declared.fault.LexFault.{LexFault}
 use Rattle.c_tokens.specs.declared.token.Token.{Token}
-use Rattle.c_preproc.specs.Conditions.{AreKnown}
+use Rattle.c_directives.proofs.KnownLemmas.{KnownParts}
+use Rattle.c_directives.specs.Groups.{groups_seen}
+use Rattle.c_directives.specs.Lines.{parts_of}
+use Rattle.c_directives.specs.declared.groups.Group.{Group}
 use Rattle.c_preproc.specs.Files.{IsReadEnd, IsReadPart}
-use Rattle.c_preproc.specs.Groups.{groups_seen}
-use Rattle.c_preproc.specs.Lines.{parts_of}
 use Rattle.c_preproc.specs.Opens.{IsTurnDone}
 use Rattle.c_preproc.specs.Requests.{request_seen}
 use Rattle.c_preproc.specs.States.{EndsUnit, GoesOn, Holds, put_of, stop_of}
 use Rattle.c_preproc.specs.declared.file.OpenFile.{OpenFile}
 use Rattle.c_preproc.specs.declared.file.Read.{Read}
 use Rattle.c_preproc.specs.declared.file.Read.TheVariants as read
-use Rattle.c_preproc.specs.declared.groups.Group.{Group}
 use Rattle.c_preproc.specs.declared.include_line.HeaderRequest.{HeaderRequest}
 use Rattle.c_preproc.specs.declared.kept.KeptFile.{KeptFile}
 use Rattle.c_preproc.specs.declared.pre_fault.PreFault.{PreFault}
@@ -36,36 +34,6 @@ use Rattle.c_preproc.specs.declared.state.State.{State}
 use Rattle.c_preproc.specs.declared.tasks.Turned.TheVariants as turned
 use Rattle.c_preproc.proofs.PieceLemmas.{capped-within, stops-behind}
 use Rattle.c_preproc.proofs.StateLemmas.{put-same}
-
--- what is known of tokens is known of those in front and of those behind
-pub known-front : (names : List (List ℕ)) (front behind : List Token) → AreKnown names (front ++ behind) → AreKnown names front
-known-front names front behind known =
-    All-same (λ (t : Token). IsKnown names t.name) front (take (length front) (front ++ behind)) (sym (take-append_seam front behind))
-    (All-take (λ (t : Token). IsKnown names t.name) (length front) (front ++ behind) known)
-
-pub known-back : (names : List (List ℕ)) (front behind : List Token) → AreKnown names (front ++ behind) → AreKnown names behind
-known-back names front behind known =
-    All-same (λ (t : Token). IsKnown names t.name) behind (drop (length front) (front ++ behind)) (sym (drop-append_seam front behind))
-    (All-drop (λ (t : Token). IsKnown names t.name) (length front) (front ++ behind) known)
-
--- the tokens of a directive and those around it are known
-pub record KnownParts (names : List (List ℕ)) (text : List Token) (hash : Token) (rest behind : List Token) : Type 0 where
-  pub text_known : AreKnown names text
-  pub hash_known : IsKnown names hash.name
-  pub rest_known : AreKnown names rest
-  pub behind_known : AreKnown names behind
-
-pub known-parts : (names : List (List ℕ)) (all text : List Token) (hash : Token) (rest behind : List Token) → text ++ hash ∷ rest ++ behind ≡ all → AreKnown names all → KnownParts names text hash rest behind
-known-parts names all text hash rest behind is known =
-    let parts : AreKnown names (text ++ (hash ∷ rest ++ behind)) = subst (AreKnown names) (sym is ∙ append_assoc text (hash ∷ rest) behind) known in
-    let line = known-back names text (hash ∷ rest ++ behind) parts in
-    let others = All-tail (λ (t : Token). IsKnown names t.name) hash (rest ++ behind) line in
-    record {
-      text_known = known-front names text (hash ∷ rest ++ behind) parts;
-      hash_known = All-head (λ (t : Token). IsKnown names t.name) hash (rest ++ behind) line;
-      rest_known = known-front names rest behind others;
-      behind_known = known-back names rest behind others;
-    }
 
 -- A directive
 

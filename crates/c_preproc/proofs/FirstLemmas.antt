@@ -19,11 +19,11 @@ use Rattle.c_macros.specs.Seen.{KnowsAll}
 use Rattle.c_macros.specs.Redefinition.{defined_as}
 use Rattle.c_macros.specs.Seen.{IsKnownMacro, macro_of}
 use Rattle.c_macros.specs.Table.{Table, macro_at, spelling_of_file}
-use Rattle.c_preproc.specs.Conditions.{HasMacros}
-use Rattle.c_preproc.specs.Made.{AreMadeWords}
+use Rattle.c_directives.specs.Conditions.{HasMacros}
+use Rattle.c_directives.specs.Made.{AreMadeWords}
+use Rattle.c_directives.specs.declared.made.MadeWords.{MadeWords}
+use Rattle.c_directives.proofs.MacroLineLemmas.{new-has}
 use Rattle.c_preproc.specs.States.{HasFiles, Holds}
-use Rattle.c_preproc.specs.declared.made.MadeWords.{MadeWords}
-use Rattle.c_preproc.proofs.MacroLineLemmas.{new-has}
 
 -- a name that has no macro yet gets this one
 pub number-has : (names : List (List ℕ)) → AreApart names → (definitions : List Definition) (old new : Table) (id : NameId) (m : Macro) (name text : List ℕ) → text_of names id ≡ name → macro_of names m ≡ macro_without_list (number_body text)

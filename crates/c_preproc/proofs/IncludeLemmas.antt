@@ -10,14 +10,14 @@ use Rattle.meaning_preprocessing.specs.State.{UnitState, Stop, IsOver, Piece, on
 use Rattle.meaning_preprocessing.specs.Unit.{Setting, reader}
 use Rattle.c_tokens.specs.Seen.{Extends}
 use Rattle.c_tokens.proofs.SeenLemmas.{text_of-Extends}
-use Rattle.c_preproc.specs.Headers.{IsKnownHeader, header_seen}
+use Rattle.c_directives.specs.Headers.{IsKnownHeader, header_seen}
+use Rattle.c_directives.specs.declared.header.Header.{Header}
+use Rattle.c_directives.specs.declared.header.Header.TheVariants.{InQuotes, InAngles}
 use Rattle.c_preproc.specs.Loads.{IsSearched, IsTooLong, KeepsLoads, bytes_found, paths_seen}
 use Rattle.c_preproc.specs.Opens.{IsIncluded, IsOpened}
 use Rattle.c_preproc.specs.States.{Holds, stop_of}
 use Rattle.c_preproc.specs.Steps.{directories_alone}
 use Rattle.c_preproc.specs.Units.{setting_of}
-use Rattle.c_preproc.specs.declared.header.Header.{Header}
-use Rattle.c_preproc.specs.declared.header.Header.TheVariants.{InQuotes, InAngles}
 use Rattle.c_preproc.specs.declared.kept.Kept.{Kept}
 use Rattle.c_preproc.specs.declared.loads.Source.{Source}
 use Rattle.c_preproc.specs.declared.pre_fault.PreFault.{PreFault}

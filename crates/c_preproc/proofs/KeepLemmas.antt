@@ -11,13 +11,13 @@ use Rattle.c_tokens.specs.declared.fault.LexFault.{LexFault}
 use Rattle.c_tokens.specs.Spellings.{AreApart}
 use Rattle.c_tokens.specs.Seen.{Extends, fault_of, text_of, toks_of}
 use Rattle.c_tokens.proofs.SeenLemmas.{Extends-Extends, IsKnown-Extends, text_of-Extends}
-use Rattle.c_preproc.specs.Conditions.{AreKnown}
+use Rattle.c_directives.specs.Conditions.{AreKnown}
+use Rattle.c_directives.specs.Lines.{parts_of}
+use Rattle.c_directives.specs.PartEnds.{ArePartEnds}
 use Rattle.c_preproc.specs.Kept.{found_at, tokens_in_kept}
-use Rattle.c_preproc.specs.Lines.{parts_of}
 use Rattle.c_preproc.specs.Loads.{IsKeptPath, IsNew}
 use Rattle.c_preproc.specs.Numbers.{IsKeptNow, IsNewPath, IsNumberable, IsNumbered}
 use Rattle.c_preproc.specs.Opens.{FilesStay}
-use Rattle.c_preproc.specs.PartEnds.{ArePartEnds}
 use Rattle.c_preproc.specs.States.{Holds, stop_of}
 use Rattle.c_preproc.specs.declared.kept.AtPath.TheVariants.{File}
 use Rattle.c_preproc.specs.declared.kept.Kept.{Kept}

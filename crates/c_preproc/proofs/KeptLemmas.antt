@@ -14,17 +14,17 @@ use Rattle.c_tokens.specs.declared.token.Token.{Token}
 use Rattle.c_tokens.specs.Spellings.{AreApart}
 use Rattle.c_tokens.specs.Seen.{Extends, IsKnown, text_of, toks_of}
 use Rattle.c_tokens.proofs.SeenLemmas.{IsKnown-Extends, slice_get-append, text_of-Extends, text_of-injective, toks_of-Extends}
-use Rattle.c_preproc.specs.Conditions.{AreKnown}
+use Rattle.c_directives.specs.Conditions.{AreKnown}
+use Rattle.c_directives.specs.PartEnds.{ArePartEnds}
+use Rattle.c_directives.proofs.PartLemmas.{ends-later}
 use Rattle.c_preproc.specs.Kept.{bytes_in_kept, bytes_kept, ends_in_kept, ends_kept, found_at, tokens_in_kept, tokens_kept}
 use Rattle.c_preproc.specs.Loads.{IsFileOf, IsFoundPlace, IsKeptPath, IsNew, IsPlace, KeepsLoads, Tells}
 use Rattle.c_preproc.specs.Numbers.{IsNewPath}
-use Rattle.c_preproc.specs.PartEnds.{ArePartEnds}
 use Rattle.c_preproc.specs.declared.kept.AtPath.{AtPath}
 use Rattle.c_preproc.specs.declared.kept.AtPath.TheVariants.{Nothing, File}
 use Rattle.c_preproc.specs.declared.kept.Kept.{Kept}
 use Rattle.c_preproc.specs.declared.kept.KeptFile.{KeptFile}
 use Rattle.c_preproc.proofs.LoadLemmas.{agrees-back, agrees-front, once-push}
-use Rattle.c_preproc.proofs.PartLemmas.{ends-later}
 use Rattle.c_preproc.proofs.PathLemmas.{number-new, number-self, number-with, rest-with, with-new, with-self, with-with}
 use Rattle.c_preproc.proofs.StateLemmas.{known-later}
 

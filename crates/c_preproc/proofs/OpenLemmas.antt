@@ -1,13 +1,13 @@
 -- Files that are opened, and those that wait for them.
-use Rattle.std.proofs.Common.{◌≡◌, ◌<◌, ◌≤◌, ◌+◌, ◌-◌, ◌⊎◌, ℕ, zero, suc, Bool, true, false, nat_lt, List, [], ◌∷◌, ◌++◌, length, take, drop, All, Option, Some, None, IfSome, if◌then◌else◌, refl, sym, ap, subst, ◌∙◌, ⊎_elim, append_assoc, arith, length-append, take-append-drop}
-use Rattle.std.proofs.Math.Seq.{drop-append_seam}
+use Rattle.std.proofs.Common.{◌≡◌, ◌<◌, ◌≤◌, ◌+◌, ◌-◌, ◌⊎◌, ℕ, zero, suc, Bool, true, false, nat_eq, nat_lt, List, [], ◌∷◌, ◌++◌, length, drop, All, Option, Some, None, IfSome, if◌then◌else◌, refl, sym, ap, subst, ◌∙◌, ⊎_elim, arith}
+use Rattle.std.specs.Map.{lookup}
 use Rattle.std.proofs.lemmas.Bool.{lt-ltb, le-ltb}
 use Rattle.std.proofs.lemmas.List.Elements.{All-drop, All-head, All-tail}
 use Rattle.vocabulary.specs.declared.limit.LimitKind.TheVariants.{AllFiles, FileSize, IncludeDepth}
 use Rattle.vocabulary.specs.declared.error_kind.ErrorKind.TheVariants.{IncludeNotFound}
 use Rattle.meaning_outside.specs.Files.{FileMap, file_at}
 use Rattle.meaning_text.specs.Lexing.{Lexed}
-use Rattle.meaning_preprocessing.specs.Groups.{Evaluation}
+use Rattle.meaning_preprocessing.specs.Groups.{Evaluation, are_read}
 use Rattle.meaning_preprocessing.specs.Lines.{file_parts, lines_of}
 use Rattle.meaning_preprocessing.specs.Search as search
 use Rattle.meaning_preprocessing.specs.Search.{FoundFile, first_found, name_of_header, paths_for}
@@ -17,13 +17,14 @@ use Rattle.meaning_preprocessing.specs.Unit.{Limits, Setting, Reader, file_piece
 use Rattle.c_tokens.specs.declared.token.Token.{Token}
 use Rattle.c_tokens.specs.Seen.{Extends, IsKnown}
 use Rattle.c_tokens.proofs.SeenLemmas.{slice_get-append, toks_of-Extends}
-use Rattle.c_preproc.specs.Conditions.{AreKnown}
-use Rattle.c_preproc.specs.Groups.{groups_seen}
-use Rattle.c_preproc.specs.Kept.{tokens_in_kept, tokens_kept}
-use Rattle.c_preproc.specs.Lines.{parts_of}
+use Rattle.c_directives.specs.Conditions.{AreKnown}
+use Rattle.c_directives.specs.Groups.{groups_seen}
+use Rattle.c_directives.specs.Lines.{parts_of}
+use Rattle.c_directives.specs.PartEnds.{ArePartEnds}
+use Rattle.c_preproc.specs.Kept.{ends_kept, tokens_in_kept, tokens_kept}
 use Rattle.c_preproc.specs.Loads.{IsFileOf, IsPlace}
 use Rattle.c_preproc.specs.Numbers.{IsPassed}
-use Rattle.c_preproc.specs.Opens.{FilesStay, left_in, left_of, open_piece, opened_piece, read_at, waiting_piece}
+use Rattle.c_preproc.specs.Opens.{FilesStay, IsWorthAsMuch, left_in, left_of, open_piece, opened_piece, read_at, waiting_piece}
 use Rattle.c_preproc.specs.States.{stop_of}
 use Rattle.c_preproc.specs.Units.{setting_of}
 use Rattle.c_preproc.specs.declared.file.OpenFile.{OpenFile}
@@ -122,14 +123,13 @@ same-left files now stay f within =
 pub left-known : (names : List (List ℕ)) (files : List KeptFile) → ((place : ℕ) → AreKnown names (tokens_kept files place)) → (f : OpenFile) → AreKnown names (left_of files f)
 left-known names files known f = All-drop (λ (t : Token). IsKnown names t.name) (length (tokens_kept files f.place) - f.left) (tokens_kept files f.place) (known f.place)
 
--- where what is left is read up to its end, that end is left
-pub left-behind : (tokens before behind : List Token) (left now : ℕ) → before ++ behind ≡ drop (length tokens - left) tokens → now ≡ length behind → drop (length tokens - now) tokens ≡ behind
-left-behind tokens before behind left now is same =
-    let skipped = length tokens - left in
-    let all : tokens ≡ (take skipped tokens ++ before) ++ behind =
-    sym (take-append-drop skipped tokens) ∙ ap (λ (ts : List Token). take skipped tokens ++ ts) (sym is) ∙ sym (append_assoc (take skipped tokens) before behind) in
-    let count : length tokens - now ≡ length (take skipped tokens ++ before) = omega (arith, same, ap length all, length-append (take skipped tokens ++ before) behind) in
-    ap (λ n. drop n tokens) count ∙ ap (drop (length (take skipped tokens ++ before))) all ∙ drop-append_seam (take skipped tokens ++ before) behind
+-- what is left of a part that is skipped is passed
+pub worth-passed : (names : List (List ℕ)) (files : List KeptFile) (file : OpenFile) (end : ℕ) → are_read (groups_seen file.groups.items) ≡ false
+    → ArePartEnds names (tokens_kept files file.place) (ends_kept files file.place) → lookup (nat_eq file.left) (ends_kept files file.place) ≡ Some end
+    → IsWorthAsMuch names files file (record file { left = end })
+worth-passed names files file end skipped are there =
+    let passed = are file.left end there in
+    record { place = refl; fewer = passed.fewer; same = λ value include s. sym (passed.same value include (groups_seen file.groups.items) s skipped) }
 
 -- of a file of which nothing was read all is left
 pub left-all : (files : List KeptFile) (f : OpenFile) → f.left ≡ length (tokens_kept files f.place) → left_of files f ≡ tokens_kept files f.place

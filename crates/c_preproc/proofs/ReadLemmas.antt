@@ -6,16 +6,16 @@ use Rattle.meaning_preprocessing.specs.Groups.{Evaluation}
 use Rattle.meaning_preprocessing.specs.State.{UnitState, Piece, and_then, tokens_before}
 use Rattle.meaning_preprocessing.specs.Unit.{IsEvaluation, Reader, over_parts, reader, unit_limits}
 use Rattle.c_tokens.specs.declared.token.Token.{Token}
-use Rattle.c_preproc.specs.Groups.{groups_seen}
+use Rattle.c_directives.specs.Groups.{groups_seen}
+use Rattle.c_directives.specs.Lines.{parts_of}
+use Rattle.c_directives.specs.declared.groups.Group.{Group}
 use Rattle.c_preproc.specs.Kept.{tokens_kept}
-use Rattle.c_preproc.specs.Lines.{parts_of}
 use Rattle.c_preproc.specs.Loads.{KeepsLoads, paths_seen}
 use Rattle.c_preproc.specs.Opens.{open_piece, waiting_piece}
 use Rattle.c_preproc.specs.States.{EndsUnit, GoesOn, Holds, put_of}
 use Rattle.c_preproc.specs.Steps.{IsReadWhole, IsStepped, directories_alone}
 use Rattle.c_preproc.specs.Units.{setting_of}
 use Rattle.c_preproc.specs.declared.file.OpenFile.{OpenFile}
-use Rattle.c_preproc.specs.declared.groups.Group.{Group}
 use Rattle.c_preproc.specs.declared.kept.Kept.{Kept}
 use Rattle.c_preproc.specs.declared.kept.KeptFile.{KeptFile}
 use Rattle.c_preproc.specs.declared.pre_fault.PreFault.{PreFault}

@@ -35,12 +35,12 @@ use Rattle.c_macros.specs.Table.{Table, macro_at, spelling_of_file}
 use Rattle.c_macros.proofs.KnowsLemmas.{All-named, KnowsAll-Extends, macro-Extends}
 use Rattle.c_macros.proofs.PredefinedLemmas.{spelled-found}
 use Rattle.c_macros.proofs.ReadingLemmas.{found-known}
-use Rattle.c_preproc.specs.Conditions.{AreKnown, AreNamed, HasMacros, is_left_identifier}
-use Rattle.c_preproc.specs.Made.{AreMadeWords}
+use Rattle.c_directives.specs.Conditions.{AreKnown, AreNamed, HasMacros, is_left_identifier}
+use Rattle.c_directives.specs.Made.{AreMadeWords}
+use Rattle.c_directives.specs.declared.made.MadeWords.{MadeWords}
+use Rattle.c_directives.proofs.BodyLemmas.{equal-known}
 use Rattle.c_preproc.specs.States.{HasFiles, Holds, put_of}
-use Rattle.c_preproc.specs.declared.made.MadeWords.{MadeWords}
 use Rattle.c_preproc.specs.declared.state.State.{State}
-use Rattle.c_preproc.proofs.BodyLemmas.{equal-known}
 
 -- Where the table of names grows
 

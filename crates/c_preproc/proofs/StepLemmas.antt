@@ -12,11 +12,12 @@ use Rattle.meaning_preprocessing.specs.State.{UnitState, Stop, Continues, IsOver
 use Rattle.meaning_preprocessing.specs.Unit.{IsEvaluation, Reader, Setting, capped, over_parts, reader, unit_limits}
 use Rattle.sparse_model.specs.declared.ids.NameId.{NameId}
 use Rattle.c_tokens.specs.Seen.{Extends, text_of, tok_of}
-use Rattle.c_preproc.specs.Conditions.{AreKnown}
+use Rattle.c_directives.specs.Conditions.{AreKnown}
+use Rattle.c_directives.specs.Groups.{groups_seen}
+use Rattle.c_directives.specs.Lines.{parts_of}
+use Rattle.c_directives.specs.declared.groups.Group.{Group}
 use Rattle.c_preproc.specs.Files.{IsReadPart}
-use Rattle.c_preproc.specs.Groups.{groups_seen}
 use Rattle.c_preproc.specs.Kept.{bytes_kept, tokens_kept}
-use Rattle.c_preproc.specs.Lines.{parts_of}
 use Rattle.c_preproc.specs.Loads.{IsPlace, KeepsLoads, paths_seen}
 use Rattle.c_preproc.specs.Opens.{FilesStay, IsCounted, IsIncluded, IsWorthAsMuch, left_of, open_piece, waiting_piece, work_left}
 use Rattle.c_preproc.specs.Requests.{request_seen}
@@ -26,7 +27,6 @@ use Rattle.c_preproc.specs.Units.{setting_of}
 use Rattle.c_preproc.specs.declared.file.OpenFile.{OpenFile}
 use Rattle.c_preproc.specs.declared.file.Read.{Read}
 use Rattle.c_preproc.specs.declared.file.Read.TheVariants as read
-use Rattle.c_preproc.specs.declared.groups.Group.{Group}
 use Rattle.c_preproc.specs.declared.include_line.HeaderRequest.{HeaderRequest}
 use Rattle.c_preproc.specs.declared.kept.Kept.{Kept}
 use Rattle.c_preproc.specs.declared.kept.KeptFile.{KeptFile}

@@ -6,11 +6,11 @@ use Rattle.meaning_preprocessing.specs.Groups.{Turn, Turns, Halts}
 use Rattle.meaning_preprocessing.specs.State.{UnitState, Stop}
 use Rattle.c_macros.specs.Seen.{KnowsAll}
 use Rattle.c_macros.specs.Table.{Table}
-use Rattle.c_preproc.specs.Groups.{IsKept, groups_seen}
+use Rattle.c_directives.specs.Groups.{IsKept, groups_seen}
+use Rattle.c_directives.specs.declared.groups.Group.{Group}
 use Rattle.c_preproc.specs.Opens.{IsTurnDone}
 use Rattle.c_preproc.specs.States.{Holds, IsDone, stop_of}
 use Rattle.c_preproc.specs.Texts.{IsJudgedLine}
-use Rattle.c_preproc.specs.declared.groups.Group.{Group}
 use Rattle.c_preproc.specs.declared.pre_fault.PreFault.{PreFault}
 use Rattle.c_preproc.specs.declared.state.State.{State}
 use Rattle.c_preproc.specs.declared.tasks.Turned.{Turned}

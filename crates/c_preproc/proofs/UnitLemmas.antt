@@ -13,7 +13,7 @@ use Rattle.meaning_preprocessing.specs.Unit as unit
 use Rattle.sparse_outside.specs.Load.{loaded}
 use Rattle.sparse_outside.specs.declared.files.Load.TheVariants as load
 use Rattle.c_tokens.specs.Seen.{IsKnown, text_of, toks_of, tok_of}
-use Rattle.c_preproc.specs.Conditions.{AreKnown}
+use Rattle.c_directives.specs.Conditions.{AreKnown}
 use Rattle.c_preproc.specs.Loads.{HasLoaded}
 use Rattle.c_preproc.specs.States.{EndsUnit, Holds, IsFaultInText, IsHeld, put_of, stop_of}
 use Rattle.c_preproc.specs.Units.{EndsEarlySo, IsKnownUnit, IsUnit, setting_of}

@@ -11,9 +11,9 @@ use Rattle.meaning_preprocessing.specs.State.{Stop, Passes, number_from, paths_w
 use Rattle.meaning_preprocessing.specs.Unit.{unit_limits}
 use Rattle.sparse_model.specs.declared.ids.NameId.{NameId}
 use Rattle.c_tokens.specs.Seen.{IsKnown, text_of, toks_of}
-use Rattle.c_preproc.specs.Conditions.{AreKnown}
+use Rattle.c_directives.specs.Conditions.{AreKnown}
+use Rattle.c_directives.specs.PartEnds.{ArePartEnds}
 use Rattle.c_preproc.specs.Kept.{bytes_kept, ends_kept, found_at, tokens_kept}
-use Rattle.c_preproc.specs.PartEnds.{ArePartEnds}
 use Rattle.c_preproc.specs.States.{stop_of}
 use Rattle.c_preproc.specs.declared.kept.AtPath.{AtPath}
 use Rattle.c_preproc.specs.declared.kept.AtPath.TheVariants.{Nothing, File}

@@ -7,8 +7,8 @@ use Rattle.meaning_preprocessing.specs.State.{UnitState, IsOver, only_ending, nu
 use Rattle.meaning_preprocessing.specs.Unit.{Reader, file_piece, over_parts}
 use Rattle.sparse_model.specs.declared.ids.NameId.{NameId}
 use Rattle.c_tokens.specs.Seen.{text_of}
+use Rattle.c_directives.specs.Lines.{parts_of}
 use Rattle.c_preproc.specs.Kept.{tokens_kept}
-use Rattle.c_preproc.specs.Lines.{parts_of}
 use Rattle.c_preproc.specs.Loads.{IsNew, IsPlace, IsSource, KeepsLoads}
 use Rattle.c_preproc.specs.States.{Holds, stop_of}
 use Rattle.c_preproc.specs.declared.kept.Kept.{Kept}

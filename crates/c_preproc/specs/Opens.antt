@@ -11,15 +11,15 @@ use Rattle.meaning_preprocessing.specs.State.{UnitState, Passes, IsOver, Piece, 
 use Rattle.meaning_preprocessing.specs.Unit as unit
 use Rattle.meaning_preprocessing.specs.Unit.{Setting, Reader, file_piece, over_parts, reader, sized, unit_limits}
 use Rattle.c_tokens.specs.declared.token.Token.{Token}
-use Rattle.c_preproc.specs.Groups.{groups_seen}
+use Rattle.c_directives.specs.Groups.{groups_seen}
+use Rattle.c_directives.specs.Lines.{parts_of}
+use Rattle.c_directives.specs.declared.groups.Group.{Group}
 use Rattle.c_preproc.specs.Kept.{bytes_kept, tokens_kept}
-use Rattle.c_preproc.specs.Lines.{parts_of}
 use Rattle.c_preproc.specs.Loads.{IsPlace, KeepsLoads}
 use Rattle.c_preproc.specs.Requests.{IsKnownRequest, request_seen}
 use Rattle.c_preproc.specs.States.{Holds, stop_of}
 use Rattle.c_preproc.specs.Units.{setting_of}
 use Rattle.c_preproc.specs.declared.file.OpenFile.{OpenFile}
-use Rattle.c_preproc.specs.declared.groups.Group.{Group}
 use Rattle.c_preproc.specs.declared.kept.Kept.{Kept}
 use Rattle.c_preproc.specs.declared.kept.KeptFile.{KeptFile}
 use Rattle.c_preproc.specs.declared.pre_fault.PreFault.{PreFault}

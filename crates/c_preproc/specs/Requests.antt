@@ -4,7 +4,7 @@ use Rattle.meaning_preprocessing.specs.Groups.{Turn, Includes, Halts}
 use Rattle.meaning_preprocessing.specs.Search as search
 use Rattle.meaning_preprocessing.specs.State.{UnitState}
 use Rattle.c_tokens.specs.Seen.{IsKnown, at_of, text_of}
-use Rattle.c_preproc.specs.Headers.{IsKnownHeader, header_seen}
+use Rattle.c_directives.specs.Headers.{IsKnownHeader, header_seen}
 use Rattle.c_preproc.specs.States.{Holds, stop_of}
 use Rattle.c_preproc.specs.declared.include_line.HeaderRequest.{HeaderRequest}
 use Rattle.c_preproc.specs.declared.pre_fault.PreFault.{PreFault}

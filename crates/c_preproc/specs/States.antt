@@ -8,10 +8,10 @@ use Rattle.c_tokens.specs.Seen.{IsKnown, at_of, text_of, toks_of}
 use Rattle.c_macros.specs.Ends.{budget_by}
 use Rattle.c_macros.specs.Seen.{KnowsAll}
 use Rattle.c_macros.specs.Table.{Table, spelling_of_file}
-use Rattle.c_preproc.specs.Conditions.{AreKnown, HasMacros}
-use Rattle.c_preproc.specs.Made.{AreMadeWords}
-use Rattle.c_preproc.specs.Groups.{groups_seen}
-use Rattle.c_preproc.specs.declared.groups.Group.{Group}
+use Rattle.c_directives.specs.Conditions.{AreKnown, HasMacros}
+use Rattle.c_directives.specs.Made.{AreMadeWords}
+use Rattle.c_directives.specs.Groups.{groups_seen}
+use Rattle.c_directives.specs.declared.groups.Group.{Group}
 use Rattle.c_preproc.specs.declared.pre_fault.PreFault.{PreFault}
 use Rattle.c_preproc.specs.declared.pre_fault.PreFault.TheVariants.{Error, ReadFault, Limit, Memory}
 use Rattle.c_preproc.specs.declared.state.State.{State}

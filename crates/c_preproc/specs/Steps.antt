@@ -6,8 +6,8 @@ use Rattle.meaning_preprocessing.specs.Groups.{Evaluation}
 use Rattle.meaning_preprocessing.specs.State.{UnitState, Piece, and_then, tokens_before}
 use Rattle.meaning_preprocessing.specs.Unit as unit
 use Rattle.meaning_preprocessing.specs.Unit.{IsEvaluation, over_parts, reader, unit_limits}
+use Rattle.c_directives.specs.Lines.{parts_of}
 use Rattle.c_preproc.specs.Kept.{tokens_kept}
-use Rattle.c_preproc.specs.Lines.{parts_of}
 use Rattle.c_preproc.specs.Loads.{IsPlace, KeepsLoads, paths_seen}
 use Rattle.c_preproc.specs.Opens.{waiting_piece}
 use Rattle.c_preproc.specs.States.{EndsUnit, GoesOn, Holds, put_of}

@@ -1,5 +1,6 @@
 -- How expansions, and what conditions come to, are seen by the definitions of `meaning_preprocessing`.
 use Rattle.std.specs.Prelude.{◌≡◌, ℕ, Bool, List, [], length, IfSome, Result, Ok, Err, ⊤}
+use Rattle.meaning_text.specs.Tokens.{Tok}
 use Rattle.vocabulary.specs.declared.error_kind.ErrorKind.TheVariants.{WrongNumberOfMacroArguments, UnterminatedMacroCall}
 use Rattle.vocabulary.specs.declared.error_kind.ErrorKind.TheVariants as errors
 use Rattle.meaning_preprocessing.specs.Groups.{Turn, Halts}
@@ -8,6 +9,9 @@ use Rattle.c_tokens.specs.declared.token.Token.{Token}
 use Rattle.c_tokens.specs.Seen.{at_of, toks_of}
 use Rattle.c_macros.specs.declared.expand_fault.ExpandFault.{ExpandFault}
 use Rattle.c_macros.specs.declared.expand_fault.ExpandFault.TheVariants.{Arguments, OpenCall, BadPaste, Limit, Memory}
+use Rattle.c_directives.specs.Groups.{word_seen}
+use Rattle.c_directives.specs.declared.fault.LineFault.{LineFault}
+use Rattle.c_directives.specs.declared.fault.LineFault.TheVariants as line
 use Rattle.c_preproc.specs.declared.pre_fault.PreFault.{PreFault}
 use Rattle.c_preproc.specs.declared.state.State.{State}
 use Rattle.c_preproc.specs.States.{Holds, stop_of}
@@ -38,7 +42,13 @@ StopsExpansion s piece (BadPaste place before) = StopsBehind piece before (refus
 StopsExpansion s piece (Limit limit before) = StopsBehind piece before (Passes limit)
 StopsExpansion s piece Memory = ⊤
 
--- the result tells whether a condition holds, or why there is no telling
+-- the result tells whether a condition holds, or why there is no telling, or that memory is wanting
+abbrev pub IsJudged : List (List ℕ) → UnitState → Tok → (Bool → UnitState → Turn) → Result Bool LineFault → Turn → Type 0
+IsJudged names s hash next (Ok holds) turn = turn ≡ next holds s
+IsJudged names s hash next (Err (line.Refused kind word)) turn = turn ≡ Halts (refused s kind hash.at (word_seen names word))
+IsJudged names s hash next (Err line.Memory) turn = ⊤
+
+-- the same of a line behind expansion
 abbrev pub IsJudgedLine : List (List ℕ) → List ℕ → State → (Bool → UnitState → Turn) → Result Bool PreFault → Turn → Type 0
 IsJudgedLine names path state next (Ok holds) turn = (s : UnitState) × Holds names path state s × (turn ≡ next holds s)
 IsJudgedLine names path state next (Err fault) turn = IfSome (stop_of names fault) (λ stop. turn ≡ Halts stop)

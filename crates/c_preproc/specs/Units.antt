@@ -9,7 +9,7 @@ use Rattle.sparse_model.specs.declared.failure.Failure.{Failure}
 use Rattle.sparse_model.specs.declared.options.Options.{Options}
 use Rattle.c_tokens.specs.declared.token.Token.{Token}
 use Rattle.c_tokens.specs.Seen.{IsKnown, text_of, toks_of}
-use Rattle.c_preproc.specs.Conditions.{AreKnown}
+use Rattle.c_directives.specs.Conditions.{AreKnown}
 use Rattle.c_preproc.specs.States.{stop_of}
 use Rattle.c_preproc.specs.declared.pre_fault.PreFault.{PreFault}
 use Rattle.c_preproc.specs.declared.unit.UnitTokens.{UnitTokens}

@@ -13,11 +13,11 @@ ghost use Rattle.c_macros.specs.Seen.{KnowsAll};
 ghost use Rattle.c_macros.specs.Seen.{IsKnownMacro, by_ids};
 ghost use Rattle.c_macros.specs.Seen as seen;
 ghost use Rattle.c_macros.specs.Table.{spelling_of_file};
-ghost use Rattle.c_preproc.specs.Conditions.{HasMacros};
+ghost use Rattle.c_directives.specs.Conditions.{HasMacros};
 ghost use Rattle.c_preproc.specs.States.{Holds};
 
-use crate::made::MadeWords;
 use crate::state::State;
+use c_directives::MadeWords;
 use c_macros::{Budget, Macro, MacroTable};
 use c_tokens::{Names, Token, TokenList};
 use sparse_model::{NameId, Place, TokenKind};

@@ -6,14 +6,14 @@ ghost use Rattle.meaning_preprocessing.specs.Groups.{Includes, with_expanded};
 ghost use Rattle.meaning_preprocessing.specs.Search.{header_of, is_header_kind};
 ghost use Rattle.meaning_preprocessing.specs.State.{UnitState, refused};
 ghost use Rattle.c_tokens.specs.Seen.{Extends, at_of, tok_of, toks_of};
-ghost use Rattle.c_preproc.specs.Conditions.{AreKnown};
-ghost use Rattle.c_preproc.specs.Headers.{IsKnownHeader, header_seen};
+ghost use Rattle.c_directives.specs.Conditions.{AreKnown};
+ghost use Rattle.c_directives.specs.Headers.{IsKnownHeader, header_seen};
 ghost use Rattle.c_preproc.specs.Requests.{IsAsked, IsKnownRequest, request_seen};
 ghost use Rattle.c_preproc.specs.States.{Holds, IsFaultInText, IsHeld, stop_of};
 
-use crate::header::{Header, expanded_header, spelled_header};
 use crate::pre_fault::PreFault;
 use crate::state::{NO_WORD, State};
+use c_directives::{Header, expanded_header, spelled_header};
 use c_tokens::{Names, Token};
 use sparse_model::{ErrorKind, NameId, Place, TokenKind};
 use std::alloc::Global;

@@ -5,11 +5,11 @@ ghost use Rattle.meaning_preprocessing.specs.Groups.{Evaluation, Turn, by_answer
 ghost use Rattle.meaning_preprocessing.specs.State.{UnitState};
 ghost use Rattle.meaning_preprocessing.specs.Unit.{IsEvaluation};
 ghost use Rattle.c_tokens.specs.Seen.{toks_of};
-ghost use Rattle.c_preproc.specs.Conditions.{AreKnown};
-ghost use Rattle.c_preproc.specs.Groups.{IsJudged};
+ghost use Rattle.c_directives.specs.Conditions.{AreKnown};
+ghost use Rattle.c_preproc.specs.Texts.{IsJudged};
 
-use crate::condition::if_value;
-use crate::fault::{IfFault, LineFault};
+use c_conditions::{IfFault, if_value};
+use c_directives::LineFault;
 use c_tokens::{Names, Token};
 use sparse_model::ErrorKind;
 use std::alloc::Global;

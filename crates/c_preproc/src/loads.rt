@@ -3,7 +3,7 @@ ghost use Rattle.std.specs.Prelude.{◌++◌, ◌≡◌, List, ℕ, map, None, I
 ghost use Rattle.meaning_outside.specs.Loads.{Loaded, loads_since};
 ghost use Rattle.c_tokens.specs.Seen.{Extends, IsKnown, text_of};
 ghost use Rattle.c_tokens.specs.Spellings.{AreApart};
-ghost use Rattle.c_preproc.specs.Headers.{bytes_of};
+ghost use Rattle.c_directives.specs.Headers.{bytes_of};
 ghost use Rattle.c_preproc.specs.Kept.{found_at};
 ghost use Rattle.c_preproc.specs.Loads.{HasLoaded, IsLooked, IsSearched, IsSmallSource, KeepsLoads};
 ghost use Rattle.c_preproc.specs.States.{IsKnownFault};

@@ -10,9 +10,9 @@ ghost use Rattle.c_preproc.specs.Loads.{HasLoaded, IsFresh, KeepsLoads, paths_se
 ghost use Rattle.c_preproc.specs.States.{Holds, IsFaultInText, IsHeld, IsKnownFault, stop_of};
 
 use crate::kept::{Kept, KeptFile};
-use crate::part_ends::part_ends;
 use crate::pre_fault::PreFault;
 use crate::state::State;
+use c_directives::part_ends;
 use c_tokens::{Names, lex};
 use sparse_model::{Bytes, ErrorKind, Place};
 use sparse_outside::Files;

@@ -14,8 +14,8 @@ use crate::file::{OpenFile, Read};
 use crate::include_line::HeaderRequest;
 use crate::kept::Kept;
 use crate::pre_fault::PreFault;
-use crate::search::{name_of, paths_for};
 use crate::state::State;
+use c_directives::{name_of_header, paths_for};
 use c_tokens::Names;
 use sparse_model::{Bytes, ErrorKind};
 use sparse_outside::Files;
@@ -134,7 +134,7 @@ impl State {
             }
             Ok(None) => {
                 names.apart();
-                let word = name_of(names, request.header);
+                let word = name_of_header(names, request.header);
                 Err(self.error(names, ErrorKind::IncludeNotFound, request.place, word))
             }
             Err(fault) => Err(fault),

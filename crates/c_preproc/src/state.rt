@@ -2,11 +2,11 @@
 ghost use Rattle.std.specs.Prelude.{◌≡◌, List, ℕ, Some};
 ghost use Rattle.meaning_preprocessing.specs.State.{UnitState, path_of, refused};
 ghost use Rattle.c_tokens.specs.Seen.{IsKnown, at_of, text_of};
-ghost use Rattle.c_preproc.specs.Groups.{word_seen};
+ghost use Rattle.c_directives.specs.Groups.{word_seen};
 ghost use Rattle.c_preproc.specs.States.{Holds, IsFaultInText, stop_of};
 
-use crate::made::MadeWords;
 use crate::pre_fault::PreFault;
+use c_directives::MadeWords;
 use c_macros::{Budget, MacroTable};
 use c_tokens::{Names, Token};
 use sparse_model::{ErrorKind, NameId, Place};

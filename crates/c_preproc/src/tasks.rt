@@ -7,23 +7,21 @@ ghost use Rattle.meaning_preprocessing.specs.Groups.{Evaluation, Halts, Turn, Tu
 ghost use Rattle.meaning_preprocessing.specs.State.{UnitState, refused};
 ghost use Rattle.meaning_preprocessing.specs.Unit.{IsEvaluation};
 ghost use Rattle.c_tokens.specs.Seen.{Extends, tok_of, toks_of};
-ghost use Rattle.c_preproc.specs.Conditions.{AreKnown};
-ghost use Rattle.c_preproc.specs.Directives.{IsDirective, IsKnownTask, LeavesGroups};
-ghost use Rattle.c_preproc.specs.Groups.{groups_seen, with_part};
+ghost use Rattle.c_directives.specs.Conditions.{AreKnown};
+ghost use Rattle.c_directives.specs.Directives.{IsDirective, IsKnownTask, LeavesGroups};
+ghost use Rattle.c_directives.specs.Groups.{groups_seen, with_part};
 ghost use Rattle.c_preproc.specs.Opens.{IsKnownTurned, IsTurnDone};
 ghost use Rattle.c_preproc.specs.States.{Holds, IsDone, IsFaultInText, IsHeld};
 
-use crate::directive::Task;
-use crate::error_words::intern_words;
-use crate::fault::LineFault;
-use crate::groups::{Group, open_group};
 use crate::include_line::HeaderRequest;
-use crate::macro_lines::{turn_define, turn_undef};
 use crate::pre_fault::PreFault;
 use crate::state::State;
+use c_directives::{
+    Group, LineFault, Task, end_elif, intern_words, open_group, turn_define, turn_undef,
+};
 use c_tokens::{Names, Token};
 use sparse_model::ErrorKind;
-use std::alloc::{AllocError, Global};
+use std::alloc::Global;
 
 /// What a directive leaves to those who know files.
 #[derive(Clone, Copy, Debug, PartialEq, Eq)]
@@ -125,7 +123,7 @@ impl State {
         ensures keeps { Extends names.old names.new }
     {
         match self.judge_line(alloc, names, hash, tokens.as_slice()) {
-            Ok(holds) => match set_part(groups, holds) {
+            Ok(holds) => match end_elif(groups, holds) {
                 Ok(()) => Ok(()),
                 Err(_) => Err(PreFault::Memory),
             },
@@ -207,21 +205,4 @@ fn with_nothing_left(done: Result<(), PreFault>) -> Result<Turned, PreFault>
         Ok(()) => Ok(Turned::Done),
         Err(fault) => Err(fault),
     }
-}
-
-// Whether the next part of the innermost group is read.
-fn set_part(groups: &mut Vec<Group>, holds: bool) -> Result<(), AllocError>
-    ensures { OnOk result (groups_seen groups.new.items ≡ with_part holds (groups_seen groups.old.items)) }
-{
-    let Some(group) = groups.pop() else {
-        return Ok(());
-    };
-    groups.push(Group {
-        place: group.place,
-        outer: group.outer,
-        taken: holds,
-        reads: holds,
-        last: group.last,
-    })?;
-    Ok(())
 }

@@ -4,17 +4,15 @@ ghost use Rattle.meaning_preprocessing.specs.Groups.{Evaluation, Turn, evaluated
 ghost use Rattle.meaning_preprocessing.specs.State.{Piece, UnitState, and_then, expanded_in, tokens_before};
 ghost use Rattle.meaning_preprocessing.specs.Unit.{IsEvaluation, text_piece};
 ghost use Rattle.c_tokens.specs.Seen.{Extends, tok_of, toks_of};
-ghost use Rattle.c_preproc.specs.Conditions.{AreKnown};
-ghost use Rattle.c_preproc.specs.Groups.{groups_seen};
+ghost use Rattle.c_directives.specs.Conditions.{AreKnown};
+ghost use Rattle.c_directives.specs.Groups.{groups_seen};
 ghost use Rattle.c_preproc.specs.States.{EndsUnit, GoesOn, Holds, IsFaultInText, IsHeld, put_of, stop_of};
 ghost use Rattle.c_preproc.specs.Texts.{IsExpanded, IsJudgedLine, StopsBehind, StopsExpansion, before_in};
 
-use crate::defined::keep_undefined;
-use crate::fault::LineFault;
-use crate::groups::{Group, are_read};
 use crate::judged::condition_holds;
 use crate::pre_fault::PreFault;
 use crate::state::{MOST_TOKENS, NO_WORD, State};
+use c_directives::{Group, LineFault, are_read, keep_undefined};
 use c_macros::{Budget, ExpandFault, expand};
 use c_tokens::{Names, Token};
 use sparse_model::{ErrorKind, LimitKind};

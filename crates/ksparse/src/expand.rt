@@ -1,6 +1,6 @@
 // The text of a unit's tokens, which `-E` writes.
 ghost use Rattle.std.specs.Prelude.{◌≡◌, ◌++◌, IfOk, OnOk};
-ghost use Rattle.c_preproc.specs.Conditions.{AreKnown};
+ghost use Rattle.c_directives.specs.Conditions.{AreKnown};
 ghost use Rattle.c_tokens.specs.Seen.{IsKnown, at_of, tok_of, toks_of};
 ghost use Rattle.meaning_answer.specs.Answers.{expanded_reply};
 ghost use Rattle.meaning_answer.specs.Tokens.{is_line_of, token_behind, tokens_behind, tokens_text};

@@ -10,7 +10,7 @@ use Rattle.c_tokens.specs.Spellings.{with_spellings}
 use Rattle.c_tokens.proofs.SeenLemmas.{Extends-Extends, IsKnown-Extends, toks_of-Extends}
 use Rattle.meaning_text.specs.Tokens.{Tok}
 use Rattle.meaning_unit_nodes.specs.Numbered.{spellings_told, told_behind, with_told}
-use Rattle.c_preproc.specs.Conditions.{AreKnown}
+use Rattle.c_directives.specs.Conditions.{AreKnown}
 use Rattle.c_preproc.specs.Units.{failures_from}
 use Rattle.unit_names.specs.Same.{BeginsWithTokens, HasSpellings, IsSameUnit}
 use Rattle.unit_names.specs.Numbering.{spelled}

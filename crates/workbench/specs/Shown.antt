@@ -4,8 +4,8 @@ use Rattle.std.specs.Fmt.{decimal, signed_decimal}
 use Rattle.std.specs.Int.{cast_signed, w64}
 use Rattle.meaning_text.specs.Tokens.{Tok, LexesFile}
 use Rattle.meaning_conditions.specs.Answers.{Answer, HasValue, HasBadIndex, HasZeroDivisor, IsIfAnswer}
-use Rattle.c_preproc.specs.declared.fault.IfNumber.{IfNumber}
-use Rattle.c_preproc.specs.Seen.{number_seen}
+use Rattle.c_conditions.specs.declared.fault.IfNumber.{IfNumber}
+use Rattle.c_conditions.specs.Seen.{number_seen}
 use Rattle.workbench.specs.declared.values.Shown.{Shown}
 use Rattle.workbench.specs.declared.values.Shown.TheVariants.{Value, BadExpression, ZeroDivisor, NoTokens}
 

@@ -5,8 +5,8 @@ ghost use Rattle.c_macros.specs.Seen.{KnowsAll};
 ghost use Rattle.workbench.specs.Definitions.{text_behind};
 
 use crate::lines::first_line;
+use c_directives::{LineFault, define, undefine};
 use c_macros::{MacroTable, known_tables_stay_known};
-use c_preproc::{LineFault, define, undefine};
 use c_tokens::{LexFault, Names, Token, lex};
 use sparse_model::ErrorKind;
 use std::alloc::{AllocError, Global};

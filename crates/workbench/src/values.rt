@@ -4,7 +4,7 @@ ghost use Rattle.std.specs.Fmt.{decimal};
 ghost use Rattle.workbench.specs.Shown.{IsShownOf, number_text, shown_line};
 
 use crate::lines::first_line;
-use c_preproc::{IfFault, IfNumber, if_value};
+use c_conditions::{IfFault, IfNumber, if_value};
 use c_tokens::{LexFault, Names, lex};
 use itoa::Buffer;
 use std::alloc::{AllocError, Global};

@@ -1,6 +1,6 @@
 use Rattle.std.proofs.Common.{◌≡◌, ◌++◌, length}
 use Rattle.c_tokens.specs.Seen.{at_of, toks_of}
-use Rattle.c_preproc.specs.Conditions.{AreKnown}
+use Rattle.c_directives.specs.Conditions.{AreKnown}
 use Rattle.meaning_answer.specs.Tokens.{tokens_behind}
 use Rattle.ksparse.proofs.expand.write_behind.Given as goal
 

@@ -4,7 +4,7 @@ use Rattle.sparse_model.specs.declared.ids.NameId.{NameId}
 use Rattle.c_tokens.specs.declared.token.Token.{Token}
 use Rattle.c_tokens.specs.Seen.{IsKnown, spellings_of, toks_of}
 use Rattle.c_tokens.specs.Spellings.{with_spellings}
-use Rattle.c_preproc.specs.Conditions.{AreKnown}
+use Rattle.c_directives.specs.Conditions.{AreKnown}
 use Rattle.c_preproc.specs.Units.{failures_from}
 use Rattle.unit_names.specs.Numbering.{spelled}
 use Rattle.unit_names.specs.Same.{BeginsWithTokens, HasSpellings, IsSameUnit}

@@ -1,5 +1,5 @@
 use Rattle.std.proofs.Common.{sym, ◌∙◌}
-use Rattle.c_preproc.proofs.PartLemmas.{worth-passed}
+use Rattle.c_preproc.proofs.OpenLemmas.{worth-passed}
 use Rattle.c_preproc.proofs.file.OpenFile.pass_part.Goals as goal
 
 pub returns : goal.returns

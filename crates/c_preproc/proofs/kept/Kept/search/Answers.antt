@@ -3,7 +3,7 @@ use Rattle.std.proofs.lemmas.List.{nil_from_length}
 use Rattle.std.specs.Global.{Vec}
 use Rattle.meaning_outside.specs.Loads.{loads_since}
 use Rattle.c_tokens.proofs.SeenLemmas.{Extends-Extends}
-use Rattle.c_preproc.specs.Headers.{bytes_of}
+use Rattle.c_directives.specs.Headers.{bytes_of}
 use Rattle.c_preproc.specs.Loads.{IsLooked}
 use Rattle.c_preproc.proofs.LoadLemmas.{loaded-so, loaded-then, ok-err}
 use Rattle.c_preproc.proofs.LookLemmas.{IsLeft, left-next, searched-fault, searched-found}

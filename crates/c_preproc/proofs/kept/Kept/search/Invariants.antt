@@ -1,7 +1,7 @@
 use Rattle.std.proofs.Common.{◌≡◌, ◌++◌, List, ℕ, length, map}
 use Rattle.meaning_outside.specs.Loads.{Loaded, loads_since}
 use Rattle.c_tokens.specs.Seen.{Extends}
-use Rattle.c_preproc.specs.Headers.{bytes_of}
+use Rattle.c_directives.specs.Headers.{bytes_of}
 use Rattle.c_preproc.specs.Loads.{HasLoaded, KeepsLoads}
 use Rattle.c_preproc.proofs.LookLemmas.{IsLeft}
 use Rattle.c_preproc.proofs.kept.Kept.search.Given as goal

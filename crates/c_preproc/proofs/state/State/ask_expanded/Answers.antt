@@ -5,7 +5,7 @@ use Rattle.meaning_preprocessing.specs.Search.{header_of}
 use Rattle.meaning_preprocessing.specs.State.{expanded_in, refused}
 use Rattle.c_tokens.specs.declared.token.Token.{Token}
 use Rattle.c_tokens.specs.Seen.{at_of, tok_of, toks_of}
-use Rattle.c_preproc.specs.Headers.{IsKnownHeader, header_seen}
+use Rattle.c_directives.specs.Headers.{IsKnownHeader, header_seen}
 use Rattle.c_preproc.specs.Texts.{before_in}
 use Rattle.c_preproc.proofs.AskLemmas.{expanded-asks}
 use Rattle.c_preproc.proofs.StateLemmas.{Holds-later}

@@ -1,7 +1,7 @@
 use Rattle.std.proofs.Common.{ℕ, List, sym, ap}
 use Rattle.meaning_preprocessing.specs.Groups.{Includes}
 use Rattle.c_tokens.specs.Seen.{at_of}
-use Rattle.c_preproc.specs.Headers.{header_seen}
+use Rattle.c_directives.specs.Headers.{header_seen}
 use Rattle.c_preproc.proofs.state.State.asked.Goals as goal
 
 pub returns-clause-asked : goal.returns-clause-asked

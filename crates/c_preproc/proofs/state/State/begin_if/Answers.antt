@@ -3,7 +3,7 @@ use Rattle.meaning_preprocessing.specs.State.{UnitState}
 use Rattle.meaning_preprocessing.specs.Groups.{Turns, Halts, group_of, evaluated_line}
 use Rattle.c_tokens.specs.declared.token.Token.{Token}
 use Rattle.c_tokens.specs.Seen.{tok_of, toks_of}
-use Rattle.c_preproc.specs.Groups.{groups_seen}
+use Rattle.c_directives.specs.Groups.{groups_seen}
 use Rattle.c_preproc.specs.States.{IsDone, stop_of}
 use Rattle.c_preproc.proofs.TaskLemmas.{judged-done}
 use Rattle.c_preproc.proofs.state.State.begin_if.Goals as goal

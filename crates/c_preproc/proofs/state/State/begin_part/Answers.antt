@@ -3,19 +3,19 @@ use Rattle.meaning_preprocessing.specs.State.{UnitState}
 use Rattle.meaning_preprocessing.specs.Groups.{Turns, Halts, evaluated_line}
 use Rattle.c_tokens.specs.declared.token.Token.{Token}
 use Rattle.c_tokens.specs.Seen.{tok_of, toks_of}
-use Rattle.c_preproc.specs.Groups.{groups_seen, with_part}
+use Rattle.c_directives.specs.Groups.{groups_seen, with_part}
 use Rattle.c_preproc.specs.States.{IsDone, stop_of}
 use Rattle.c_preproc.proofs.TaskLemmas.{judged-done}
 use Rattle.c_preproc.proofs.state.State.begin_part.Goals as goal
 
-pub returns-in-Ok-set_part-clause-done : goal.returns-in-Ok-set_part-clause-done
-returns-in-Ok-set_part-clause-done c = λ value path s is holds.
+pub returns-in-Ok-end_elif-clause-done : goal.returns-in-Ok-end_elif-clause-done
+returns-in-Ok-end_elif-clause-done c = λ value path s is holds.
     let names = c.args.names.now in
     let hash = tok_of names c.args.hash.now in
     let open_groups = groups_seen c.args.groups.now.items in
-    subst (λ (ts : List Token). IsDone c.judge_line.new.names path c.judge_line.new.self c.set_part.new.groups.items (Ok tt) (evaluated_line value hash (Some (toks_of names ts)) s (λ b u. Turns (with_part b open_groups) u))) c.as_slice.ensures.value
-    (judged-done c.judge_line.new.names path c.judge_line.new.self c.in-Ok.holds (λ b. with_part b open_groups) c.set_part.new.groups.items _
-    (c.in-Ok.ensures.judged value path s (λ b u. Turns (with_part b open_groups) u) is holds) c.in-Ok-set_part.ensures)
+    subst (λ (ts : List Token). IsDone c.judge_line.new.names path c.judge_line.new.self c.end_elif.new.groups.items (Ok tt) (evaluated_line value hash (Some (toks_of names ts)) s (λ b u. Turns (with_part b open_groups) u))) c.as_slice.ensures.value
+    (judged-done c.judge_line.new.names path c.judge_line.new.self c.in-Ok.holds (λ b. with_part b open_groups) c.end_elif.new.groups.items _
+    (c.in-Ok.ensures.judged value path s (λ b u. Turns (with_part b open_groups) u) is holds) c.in-Ok-end_elif.ensures.part)
 
 pub returns-in-Err-clause-done : goal.returns-in-Err-clause-done
 returns-in-Err-clause-done c = λ value path s is holds.

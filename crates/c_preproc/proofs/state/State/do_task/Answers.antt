@@ -1,7 +1,7 @@
 use Rattle.std.proofs.Common.{Ok, Err, sym, subst, ◌∙◌}
 use Rattle.c_tokens.specs.Seen.{tok_of}
-use Rattle.c_preproc.specs.Directives.{IsDirective, LeavesGroups}
-use Rattle.c_preproc.specs.Groups.{groups_seen}
+use Rattle.c_directives.specs.Directives.{IsDirective, LeavesGroups}
+use Rattle.c_directives.specs.Groups.{groups_seen}
 use Rattle.c_preproc.specs.Opens.{IsTurnDone}
 use Rattle.c_preproc.specs.States.{IsDone}
 use Rattle.c_preproc.proofs.TaskLemmas.{nothing-left}

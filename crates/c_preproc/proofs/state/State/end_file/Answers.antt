@@ -4,7 +4,7 @@ use Rattle.vocabulary.specs.declared.error_kind.ErrorKind.TheVariants.{Untermina
 use Rattle.meaning_preprocessing.specs.Groups.{closed_file}
 use Rattle.meaning_preprocessing.specs.State.{refused, tokens_before}
 use Rattle.c_tokens.specs.Seen.{at_of}
-use Rattle.c_preproc.specs.Groups.{groups_seen}
+use Rattle.c_directives.specs.Groups.{groups_seen}
 use Rattle.c_preproc.specs.States.{put_of}
 use Rattle.c_preproc.proofs.FileLemmas.{ends-file}
 use Rattle.c_preproc.proofs.state.State.end_file.Goals as goal

@@ -4,7 +4,7 @@ use Rattle.meaning_outside.specs.Loads.{loads_since}
 use Rattle.meaning_preprocessing.specs.Search.{name_of_header, paths_for}
 use Rattle.meaning_preprocessing.specs.State.{refused}
 use Rattle.c_tokens.specs.Seen.{at_of}
-use Rattle.c_preproc.specs.Headers.{bytes_of, header_seen}
+use Rattle.c_directives.specs.Headers.{bytes_of, header_seen}
 use Rattle.c_preproc.specs.Loads.{IsSearched}
 use Rattle.c_preproc.specs.Requests.{request_seen}
 use Rattle.c_preproc.proofs.IncludeLemmas.{header-later, included-fault, included-missing, included-opened, keeps-held}
@@ -42,20 +42,20 @@ returns-in-Ok-None-clause-included g c = λ main s earlier holds keeps.
     c.search.new.names c.search.new.self c.error.result found
     (c.error.ensures.stop main s later
     ∙ ap (λ text. Some (refused s IncludeNotFound (at_of c.args.request.place) text))
-    (c.name_of-word.ensures.name ∙ ap name_of_header (header-later c.args.names.now c.search.new.names c.search.ensures.keeps c.args.request.header c.requires.known.0)))
+    (c.name_of_header-word.ensures.name ∙ ap name_of_header (header-later c.args.names.now c.search.new.names c.search.ensures.keeps c.args.request.header c.requires.known.0)))
 
 pub returns-in-Ok-None-clause-loads : goal.returns-in-Ok-None-clause-loads
 returns-in-Ok-None-clause-loads g c =
     let held = c.requires.held in
     let later = Holds-later c.args.names.now c.search.new.names c.search.ensures.keeps c.apart-in-Ok-None.ensures.apart held.0 c.args.self.now held.1 held.2 in
     loaded-so _ _ _ _ _ _ _ _ (λ is. absurd (ok-err _ _ is))
-    (λ is. absurd (text-err c.search.new.names c.error.result (c.error.ensures.known held.0 held.1 later c.name_of-word.ensures.known) is)) c.in-Ok-None.ensures.loads
+    (λ is. absurd (text-err c.search.new.names c.error.result (c.error.ensures.known held.0 held.1 later c.name_of_header-word.ensures.known) is)) c.in-Ok-None.ensures.loads
 
 pub returns-in-Ok-None-clause-known : goal.returns-in-Ok-None-clause-known
 returns-in-Ok-None-clause-known g c =
     let held = c.requires.held in
     let later = Holds-later c.args.names.now c.search.new.names c.search.ensures.keeps c.apart-in-Ok-None.ensures.apart held.0 c.args.self.now held.1 held.2 in
-    known-fault c.search.new.names c.error.result (c.error.ensures.known held.0 held.1 later c.name_of-word.ensures.known)
+    known-fault c.search.new.names c.error.result (c.error.ensures.known held.0 held.1 later c.name_of_header-word.ensures.known)
 
 pub returns-clause-included : goal.returns-clause-included
 returns-clause-included g c = λ main s earlier holds keeps.

@@ -4,11 +4,11 @@ use Rattle.meaning_preprocessing.specs.Groups.{by_answer}
 use Rattle.meaning_preprocessing.specs.State.{expanded_in}
 use Rattle.c_tokens.specs.declared.token.Token.{Token}
 use Rattle.c_tokens.specs.Seen.{tok_of, toks_of}
-use Rattle.c_preproc.specs.Conditions.{is_left_identifier}
-use Rattle.c_preproc.specs.Groups.{IsJudged}
+use Rattle.c_directives.specs.Conditions.{is_left_identifier}
+use Rattle.c_preproc.specs.Texts.{IsJudged}
+use Rattle.c_directives.specs.declared.fault.LineFault.TheVariants.{Refused}
 use Rattle.c_preproc.specs.Texts.{before_in}
 use Rattle.c_preproc.proofs.StateLemmas.{with-left}
-use Rattle.c_preproc.specs.declared.fault.LineFault.TheVariants.{Refused}
 use Rattle.c_preproc.proofs.TaskLemmas.{halts-told}
 use Rattle.c_preproc.proofs.TextLemmas.{line-judged, line-stops}
 use Rattle.c_preproc.proofs.state.State.judge_line.Goals as goal

@@ -4,16 +4,17 @@ use Rattle.meaning_preprocessing.specs.State.{Continues, and_then, only_ending, 
 use Rattle.meaning_preprocessing.specs.Unit.{over_parts}
 use Rattle.c_tokens.specs.Seen.{tok_of, toks_of}
 use Rattle.c_tokens.proofs.SeenLemmas.{Extends-Extends}
-use Rattle.c_preproc.specs.Conditions.{AreKnown}
+use Rattle.c_directives.specs.Conditions.{AreKnown}
+use Rattle.c_directives.specs.Groups.{groups_seen}
+use Rattle.c_directives.specs.Lines.{parts_of}
+use Rattle.c_directives.proofs.KnownLemmas.{known-parts}
+use Rattle.c_directives.proofs.LineLemmas.{left-behind}
 use Rattle.c_preproc.specs.Files.{IsReadEnd}
-use Rattle.c_preproc.specs.Groups.{groups_seen}
 use Rattle.c_preproc.specs.Kept.{tokens_kept}
-use Rattle.c_preproc.specs.Lines.{parts_of}
 use Rattle.c_preproc.specs.Opens.{IsTurnDone, left_of}
 use Rattle.c_preproc.specs.Requests.{request_seen}
 use Rattle.c_preproc.specs.States.{EndsUnit, GoesOn, put_of}
-use Rattle.c_preproc.proofs.FileLemmas.{behind_text, end-read, known-parts, part-ends, part-goes, part-includes}
-use Rattle.c_preproc.proofs.OpenLemmas.{left-behind}
+use Rattle.c_preproc.proofs.FileLemmas.{behind_text, end-read, part-ends, part-goes, part-includes}
 use Rattle.c_preproc.proofs.StateLemmas.{known-later}
 use Rattle.c_preproc.proofs.state.State.read_part.Goals as goal
 

@@ -1,7 +1,7 @@
 use Rattle.std.proofs.Common.{OnOk, IfErr, [], sym, ap, subst, ◌∙◌}
 use Rattle.meaning_preprocessing.specs.State.{and_then, tokens_before}
 use Rattle.c_tokens.specs.Seen.{toks_of}
-use Rattle.c_preproc.specs.Groups.{groups_seen}
+use Rattle.c_directives.specs.Groups.{groups_seen}
 use Rattle.c_preproc.specs.States.{EndsUnit, GoesOn, put_of}
 use Rattle.c_preproc.proofs.TextLemmas.{text-read, text-skipped}
 use Rattle.c_preproc.proofs.state.State.read_text.Goals as goal

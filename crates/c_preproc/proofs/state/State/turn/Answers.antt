@@ -2,8 +2,8 @@ use Rattle.std.proofs.Common.{Err, Some, subst, ◌∙◌}
 use Rattle.meaning_preprocessing.specs.Directives.{turn_of}
 use Rattle.meaning_preprocessing.specs.State.{refused}
 use Rattle.c_tokens.specs.Seen.{at_of, tok_of, toks_of}
-use Rattle.c_preproc.specs.Directives.{IsDirective}
-use Rattle.c_preproc.specs.Groups.{groups_seen, word_seen}
+use Rattle.c_directives.specs.Directives.{IsDirective}
+use Rattle.c_directives.specs.Groups.{groups_seen, word_seen}
 use Rattle.c_preproc.proofs.TaskLemmas.{halts-told}
 use Rattle.c_preproc.proofs.state.State.turn.Goals as goal
 

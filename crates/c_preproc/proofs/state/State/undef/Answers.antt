@@ -2,7 +2,7 @@ use Rattle.std.proofs.Common.{Err, sym, subst}
 use Rattle.meaning_preprocessing.specs.Directives.{undef_turn}
 use Rattle.c_macros.specs.Table.{Table}
 use Rattle.c_tokens.specs.Seen.{tok_of, toks_of}
-use Rattle.c_preproc.specs.Groups.{IsKept, groups_seen}
+use Rattle.c_directives.specs.Groups.{IsKept, groups_seen}
 use Rattle.c_preproc.specs.States.{Holds}
 use Rattle.c_preproc.proofs.TaskLemmas.{halts-told, kept-done}
 use Rattle.c_preproc.proofs.state.State.undef.Goals as goal

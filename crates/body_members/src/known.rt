@@ -8,9 +8,8 @@ ghost use Rattle.decl_judge.specs.Units.{nodes_of};
 
 use c_tree::{Handle, Unit};
 use c_types::Types;
-use const_fold::part_of;
 use decl_judge::specifiers_of;
-use node_facts::{NodeFact, NodeFacts};
+use node_facts::{NodeFact, NodeFacts, part_of};
 use sparse_model::TypeId;
 use std::alloc::AllocError;
 

@@ -1,1 +1,2 @@
 pub mod Seen
+pub use Rattle.c_types.specs.Sizes

@@ -1,6 +1,6 @@
 -- How answers are seen.
 use Rattle.std.specs.Prelude.{Option, Some, None}
-use Rattle.meaning_layout.specs.Sizes as sizes
+use Rattle.c_types.specs.Sizes as sizes
 use Rattle.c_layout.specs.declared.members.FieldBits.{FieldBits}
 
 -- the bits of a bit-field

@@ -1,6 +1,6 @@
 // Where the members of structures and unions lie.
 ghost use Rattle.std.specs.Prelude.{◌≡◌};
-ghost use Rattle.meaning_layout.specs.Telling.{field_in, layout_in, offset_in};
+ghost use Rattle.c_types.specs.Telling.{field_in, layout_in, offset_in};
 ghost use Rattle.c_types.specs.Layouts.{HasMember, bit_seen, told_in, width_among, width_in};
 ghost use Rattle.c_types.specs.Table.{IsTypeId, body_in, type_at, types_in};
 ghost use Rattle.c_layout.specs.Seen.{field_seen};

@@ -1,7 +1,7 @@
 // What types take.
 ghost use Rattle.std.specs.Prelude.{◌≡◌};
-ghost use Rattle.meaning_layout.specs.Sizes.{extent_of};
-ghost use Rattle.meaning_layout.specs.Telling.{align_in, size_in};
+ghost use Rattle.c_types.specs.Sizes.{extent_of};
+ghost use Rattle.c_types.specs.Telling.{align_in, size_in};
 ghost use Rattle.c_types.specs.Layouts.{number_seen, told_in};
 ghost use Rattle.c_types.specs.Table.{IsTypeId, type_at};
 

@@ -1,7 +1,7 @@
 -- A node is seen with all that it holds.
 use Rattle.std.proofs.Common.{◌≡◌, ℕ, List, ap, ◌∙◌}
 use Rattle.sparse_model.specs.declared.ids.NameId.{NameId}
-use Rattle.vocabulary.specs.declared.node_kind.NodeKind.{NodeKind}
+use Rattle.meaning_tree.specs.NodeKind.{NodeKind}
 use Rattle.c_tree.specs.declared.node.Node.{Node}
 use Rattle.c_tree.specs.Seen.{node_of}
 

@@ -14,4 +14,5 @@ mod unit;
 pub use fault::AddFault;
 pub use node::{Node, nodes_are_seen_whole};
 pub use region_alloc::Handle;
+pub use tag_list::TagList;
 pub use unit::Unit;

@@ -10,3 +10,5 @@ pub mod Nodes
 pub mod Operands
 pub mod Outlines
 pub mod Trees
+pub use Rattle.meaning_layout.specs.Telling
+pub use Rattle.meaning_layout.specs.Sizes

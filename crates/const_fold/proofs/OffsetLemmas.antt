@@ -5,7 +5,7 @@ use Rattle.std.specs.Prelude.{zero}
 use Rattle.sparse_model.specs.declared.ids.NameId.{NameId}
 use Rattle.meaning_tree.specs.Nodes.{NodeList, end_of}
 use Rattle.c_types.specs.declared.nodes.NodeType.{NodeType}
-use Rattle.meaning_layout.specs.Sizes.{Told}
+use Rattle.c_layout.specs.Sizes.{Told}
 use Rattle.c_types.specs.Table.{TypeTable}
 use Rattle.meaning_constants.specs.Constants.{Part}
 use Rattle.meaning_constants.specs.Sizes.{Designator, ElementAt, Members, ObjectPart, designated, spot_along}

@@ -5,9 +5,9 @@ use Rattle.vocabulary.specs.declared.int_kind.IntKind.{IntKind}
 use Rattle.vocabulary.specs.declared.operator.Operator.{Operator}
 use Rattle.vocabulary.specs.declared.operator.Operator.TheVariants as operators
 use Rattle.meaning_types.specs.Types.{TypeTree, Typed, VoidTree, IntegerTree, RestrictedTree, PointerTree, ArrayTree, FunctionTree, AggregateTree}
-use Rattle.meaning_operands.specs.Operands.{Operand, is_pointer, is_restricted, complement_fouls}
-use Rattle.meaning_operands.specs.Operators.{FoulMark, NeverFouled, BothFouled, EitherFouled, LastFouled, ComplementFouled, law_of}
-use Rattle.meaning_operands.specs.Answers.{is_given_fouled}
+use Rattle.meaning_constants.specs.Operands.{Operand, is_pointer, is_restricted, complement_fouls}
+use Rattle.meaning_constants.specs.Operators.{FoulMark, NeverFouled, BothFouled, EitherFouled, LastFouled, ComplementFouled, law_of}
+use Rattle.meaning_constants.specs.Answers.{is_given_fouled}
 use Rattle.c_types.specs.declared.nodes.NodeValue.{NodeValue}
 use Rattle.c_types.specs.Outlines.{outline_of}
 use Rattle.meaning_constants.specs.Constants.{Constant, Part, kind_of, with_kind, with_number, operand_of, is_fouled_by, settled_if, binary_kind, numbers_operated, binary_constant, keeps_identity, unary_kind, unary_constant, own_constant, cast_constant, and_constant, or_constant, arm_constant, conditional_kind, conditional_constant, int_constant}

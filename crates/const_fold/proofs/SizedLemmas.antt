@@ -1,7 +1,7 @@
 -- What is asked of a place, as it is asked of what is loaded from there.
 use Rattle.std.proofs.Common.{◌≡◌, ℕ, Option, Some, None, refl}
 use Rattle.meaning_types.specs.Types.{TypeTree, Typed, VoidTree, IntegerTree, RestrictedTree, PointerTree, ArrayTree, FunctionTree, AggregateTree}
-use Rattle.meaning_layout.specs.Sizes.{Told}
+use Rattle.c_layout.specs.Sizes.{Told}
 use Rattle.meaning_constants.specs.Nodes.{loaded_type}
 use Rattle.meaning_constants.specs.Sizes.{asked_align, asked_size}
 use Rattle.c_types.specs.Outlines.{outline_of}

@@ -5,3 +5,5 @@ pub mod Outlined
 pub mod Known
 pub mod Offsets
 pub mod Sized
+pub use Rattle.meaning_constants.specs.Nodes
+pub use Rattle.meaning_constants.specs.Constants

@@ -7,7 +7,7 @@ use Rattle.c_types.specs.declared.outline.Outline.{Outline}
 use Rattle.c_types.specs.declared.outline.Outline.TheVariants as outlines
 use Rattle.c_types.specs.Layouts.{told_in}
 use Rattle.c_types.specs.Table.{TypeTable}
-use Rattle.meaning_layout.specs.Sizes.{bytes_of}
+use Rattle.c_layout.specs.Sizes.{bytes_of}
 use Rattle.meaning_constants.specs.Constants.{Constant}
 use Rattle.meaning_constants.specs.Nodes.{loaded_kind, node_constant}
 use Rattle.meaning_constants.specs.Sizes.{Sizes, sizes_by}

@@ -2,8 +2,7 @@
 ghost use Rattle.std.specs.Prelude.{◌≡◌};
 ghost use Rattle.const_fold.specs.Outlined.{few_children};
 
-use c_tree::Handle;
-use tag_list::TagList;
+use c_tree::{Handle, TagList};
 
 /// The children of a node, if they are one, two or three.
 #[derive(Clone, Copy, Debug, PartialEq, Eq)]

@@ -20,6 +20,7 @@ mod part;
 mod sized;
 mod way;
 
+pub use c_tree::Handle;
 pub use folded::Folded;
 pub use folding::{fold, fold_measured};
 pub use known::{loaded_kind, part_of};

@@ -13,10 +13,9 @@ use crate::children::{Children, children_of};
 use crate::known::{kept_at, part_at};
 use crate::part::Part;
 use crate::sized::asked_size;
-use c_tree::{Handle, Node, Unit};
+use c_tree::{Handle, Node, TagList, Unit};
 use c_types::{NodeTypes, OuterBase, Outline, Types};
 use sparse_model::{NameId, NodeKind, TypeId};
-use tag_list::TagList;
 
 /// The most bytes that an object may have: 2^40.
 const MOST_BYTES: u128 = 1 << 40;

@@ -1,8 +1,8 @@
 // What an operator gives, by its operands' types: the kind of the result, and whether it is fouled.
 ghost use Rattle.std.specs.Prelude.{◌≡◌, ◌&&◌, if◌then◌else◌};
 ghost use Rattle.meaning_types.specs.Conversions.{promoted};
-ghost use Rattle.meaning_operands.specs.Operands.{is_restricted};
-ghost use Rattle.meaning_operands.specs.Operators.{law_of};
+ghost use Rattle.meaning_constants.specs.Operands.{is_restricted};
+ghost use Rattle.meaning_constants.specs.Operators.{law_of};
 ghost use Rattle.meaning_constants.specs.Constants.{binary_kind, conditional_kind, is_comparison, is_fouled_by, is_shift, keeps_identity, result_kind, unary_kind};
 ghost use Rattle.const_fold.specs.Seen.{seen_part, seen_type};
 

@@ -1,6 +1,6 @@
 // What is known of a part of a node, as operators on integers see it.
 ghost use Rattle.std.specs.Prelude.{◌≡◌};
-ghost use Rattle.meaning_operands.specs.Operands.{complement_fouls, is_restricted, is_unsigned_and_narrow};
+ghost use Rattle.meaning_constants.specs.Operands.{complement_fouls, is_restricted, is_unsigned_and_narrow};
 ghost use Rattle.meaning_constants.specs.Constants.{kind_of};
 
 use c_types::{bits, has_sign};

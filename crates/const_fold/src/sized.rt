@@ -1,7 +1,7 @@
 // The bytes that a node asks for, by the layouts of types.
 ghost use Rattle.std.specs.Prelude.{◌≡◌, ◌∷◌, [], All};
 ghost use Rattle.meaning_constants.specs.Nodes.{fold_of};
-ghost use Rattle.meaning_layout.specs.Sizes.{bytes_of};
+ghost use Rattle.c_layout.specs.Sizes.{bytes_of};
 ghost use Rattle.meaning_constants.specs.Sizes as sizes;
 ghost use Rattle.c_tree.specs.Seen.{node_of};
 ghost use Rattle.c_types.specs.Layouts.{told_in};

@@ -15,9 +15,8 @@ use Rattle.decl_judge.specs.Units.{named_node, nodes_of}
 use Rattle.node_facts.specs.Facts.{name_seen, node_seen, nodes_seen}
 use Rattle.node_surroundings.specs.declared.surrounding.Surrounding.{Surrounding as KeptSurrounding}
 use Rattle.node_surroundings.specs.Seen.{AreSurroundingsOf, surroundings_seen}
-use Rattle.statement_judge.specs.declared.enclosing.Enclosing.{Enclosing}
-use Rattle.statement_judge.specs.Enclosing.{AreEnclosings}
-use Rattle.judged_objects.specs.Kept.{AreObjects}
+use Rattle.type_judge.specs.Enclosing.{AreEnclosings, Enclosing}
+use Rattle.type_judge.specs.Kept.{AreObjects}
 use Rattle.linear_code.specs.Cells.{KnowsTokens}
 use Rattle.linear_code.specs.Known.{judged_unit}
 use Rattle.linear_code.specs.Passed.{KnowsLists}

@@ -5,7 +5,7 @@ use Rattle.meaning_typing.specs.Units.{UnitNodes}
 use Rattle.meaning_units.specs.WholeRows.{facts_of}
 use Rattle.meaning_contexts.specs.Failures.{AreContextFailures}
 use Rattle.meaning_contexts.specs.Units.{judged_of}
-use Rattle.expr_judge.specs.Found.{found_seen}
+pub use Rattle.type_judge.specs.Found.{found_seen}
 use Rattle.type_judge.specs.Judging.{IsJudgedSo}
 use Rattle.type_judge.specs.declared.judging.Judged.{Judged}
 

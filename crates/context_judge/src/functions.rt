@@ -6,7 +6,7 @@ ghost use Rattle.meaning_contexts.specs.Failures.{AreContextFailures, AreFailure
 ghost use Rattle.c_types.specs.Table.{TypeTable};
 ghost use Rattle.decl_judge.specs.Units.{nodes_of};
 ghost use Rattle.expression_rows.specs.Rows.{IsKnownFailure, failure_listed};
-ghost use Rattle.expr_judge.specs.Found.{AreKnownFailures, found_seen};
+ghost use Rattle.type_judge.specs.Found.{AreKnownFailures, found_seen};
 ghost use Rattle.linear_code.specs.Known.{judged_unit, note_of};
 ghost use Rattle.judged_control.specs.Judged.{known_of_nodes};
 ghost use Rattle.context_judge.specs.Asked.{IsReady};

@@ -2,7 +2,7 @@
 ghost use Rattle.std.specs.Prelude.{◌≡◌, IfOk};
 ghost use Rattle.meaning_tree.specs.Laid.{IsLaid};
 ghost use Rattle.decl_judge.specs.Units.{nodes_of};
-ghost use Rattle.expr_judge.specs.Found.{AreKnownFailures};
+ghost use Rattle.type_judge.specs.Found.{AreKnownFailures};
 ghost use Rattle.type_judge.specs.Judging.{HasTypeIds, IsJudgedSo};
 ghost use Rattle.context_judge.specs.Found.{AreContextFailuresOf};
 
@@ -13,9 +13,8 @@ use judged_control::JudgedFacts;
 use meaning_contexts::units_without_contexts_fail_nowhere;
 use node_surroundings::surroundings_of;
 use sparse_model::FailureList;
-use statement_judge::enclosings_of;
 use std::alloc::{AllocError, Global};
-use type_judge::Judged;
+use type_judge::{Judged, enclosings_of};
 
 // The failures of a unit that may have some.
 fn failures_found(alloc: Global, unit: &Unit, judged: &Judged) -> Result<FailureList, AllocError>

@@ -22,6 +22,7 @@ mod parts;
 mod row;
 
 pub use assertion::static_assertion;
+pub use declaration_rows::{in_file, is_no_object, is_unbounded, standing_at};
 pub use declarations::Declarations;
 pub use declarators::{declarator, with_passed, without_type};
 pub use declared::declaration;

@@ -9,7 +9,7 @@ use Rattle.meaning_typing.specs.Specifiers.{plain_type}
 use Rattle.c_types.specs.declared.outline.Outline.{Outline}
 use Rattle.c_types.specs.declared.outline.Outline.TheVariants as outlines
 use Rattle.c_types.specs.Operands.{identity_seen}
-use Rattle.const_fold.specs.Outlined.{loaded_kind_if}
+use Rattle.node_facts.specs.Outlined.{loaded_kind_if}
 use Rattle.enum_rows.specs.declared.integers.IntegerType.{IntegerType}
 use Rattle.enum_rows.specs.declared.integers.RestrictedType.{RestrictedType}
 use Rattle.enum_rows.specs.declared.integers.Span.{Span}

@@ -6,7 +6,7 @@ ghost use Rattle.enum_rows.specs.Integers.{has_span, integer_of_restricted, inte
 ghost use Rattle.enum_rows.specs.Enumerations.{wider};
 
 use c_types::Outline;
-use const_fold::loaded_kind;
+use node_facts::loaded_kind;
 use sparse_model::{IntKind, Restrict};
 
 /// An integer type.

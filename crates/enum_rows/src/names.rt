@@ -11,8 +11,7 @@ use crate::integers::{IntegerType, RestrictedType};
 use crate::types::make_constant;
 use crate::values::{EnumeratorValue, value_in};
 use c_types::{Types, promoted_kind};
-use const_fold::wrapped;
-use node_facts::NodeFact;
+use node_facts::{NodeFact, wrapped};
 use std::alloc::AllocError;
 
 /// What an enumeration says of the types of its enumerators, where they are named behind it.

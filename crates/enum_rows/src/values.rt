@@ -9,9 +9,8 @@ ghost use Rattle.enum_rows.specs.Values.{IsKept, counted, kind_settled, next, se
 use crate::integers::{IntegerType, Span};
 use crate::types::{integer_of_type, integer_of_value};
 use c_types::Types;
-use const_fold::converted;
 use expression_rows::number_of;
-use node_facts::{ExpressionFact, NodeFact};
+use node_facts::{ExpressionFact, NodeFact, converted};
 use sparse_model::{IntKind, Restrict};
 
 /// An enumerator by itself.

@@ -24,9 +24,9 @@ use Rattle.meaning_typing.specs.Units.{UnitNodes, child_at, children_at, kind_at
 use Rattle.c_types.specs.declared.nodes.NodeType.{NodeType}
 use Rattle.c_types.specs.Layouts.{told_in}
 use Rattle.c_types.specs.Table.{TypeTable, type_at}
-use Rattle.const_fold.specs.Known.{IsKnownNode, enumerator_at, folded_answer, if_name, node_facts, number_with, part_at, part_of}
-use Rattle.const_fold.specs.Offsets.{offset_of_node}
-use Rattle.const_fold.specs.Sized.{sized_constant, sized_constant_at}
+use Rattle.node_facts.specs.Known.{IsKnownNode, enumerator_at, folded_answer, if_name, node_facts, number_with, part_at, part_of}
+use Rattle.node_facts.specs.Offsets.{offset_of_node}
+use Rattle.node_facts.specs.Sized.{sized_constant, sized_constant_at}
 use Rattle.node_facts.specs.declared.fact.NodeFact.{NodeFact}
 use Rattle.node_facts.specs.declared.fact.NodeFact.TheVariants as facts
 use Rattle.node_facts.specs.Facts.{IsKnownNodeFact, fact_seen, node_seen, nodes_seen, number_in}

@@ -15,8 +15,8 @@ use Rattle.c_types.specs.declared.nodes.NodeType.{NodeType}
 use Rattle.c_types.specs.Layouts.{told_in}
 use Rattle.c_types.specs.Members.{is_name, names_in}
 use Rattle.c_types.specs.Table.{TypeTable, type_at}
-use Rattle.const_fold.specs.Known as known
-use Rattle.const_fold.specs.Offsets as fold
+use Rattle.node_facts.specs.Known as known
+use Rattle.node_facts.specs.Offsets as fold
 
 module _ {Name : Type 0} (told : Told) (members : Members Name) where
   along-none : (designators : List (Designator Name)) → option_map (λ spot. spot.bytes) (spot_along told members designators None) ≡ None

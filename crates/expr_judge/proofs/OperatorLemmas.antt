@@ -16,7 +16,7 @@ use Rattle.meaning_typing.specs.Facts.{fact_at}
 use Rattle.meaning_typing.specs.Rows.{Row}
 use Rattle.meaning_typing.specs.Typing.{part_seen, row_with_constant, with_constant}
 use Rattle.c_types.specs.Table.{TypeTable, type_at}
-use Rattle.const_fold.specs.Known.{number_with}
+use Rattle.node_facts.specs.Known.{number_with}
 use Rattle.node_facts.specs.declared.fact.NodeFact.{NodeFact}
 use Rattle.node_facts.specs.declared.fact.NodeFact.TheVariants as facts
 use Rattle.node_facts.specs.Facts.{IsKnownNodeFact, fact_seen, node_seen, nodes_seen, number_in}

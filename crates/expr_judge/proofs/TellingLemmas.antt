@@ -5,7 +5,7 @@ use Rattle.std.proofs.lemmas.Result.{IfOk-weaker}
 use Rattle.std.proofs.lemmas.List.Elements.{All-append, All-cons, All-nil}
 use Rattle.sparse_model.specs.declared.failure.Failure.{Failure}
 use Rattle.meaning_typing.specs.Rows.{Row}
-use Rattle.meaning_rules.specs.Rules.{least_token}
+use Rattle.expression_rows.specs.Rules.{least_token}
 use Rattle.c_types.specs.Table.{TypeTable}
 use Rattle.node_facts.specs.declared.expression.ExpressionFact.{ExpressionFact}
 use Rattle.node_facts.specs.Facts.{IsKnownNodeFact, node_seen}

@@ -6,8 +6,8 @@ use Rattle.meaning_constants.specs.Nodes.{node_constant}
 use Rattle.meaning_typing.specs.Facts.{Fact}
 use Rattle.meaning_typing.specs.Typing.{facts_for_constant, known_sizes}
 use Rattle.meaning_typing.specs.Units.{UnitNodes}
-use Rattle.const_fold.specs.declared.folded.Folded.{Folded}
-use Rattle.const_fold.specs.declared.folded.Folded.TheVariants as answers
+use Rattle.node_facts.specs.Folded.{Folded}
+use Rattle.node_facts.specs.Folded.TheVariants as answers
 use Rattle.node_facts.specs.declared.fact.NodeFact.{NodeFact}
 use Rattle.node_facts.specs.declared.fact.NodeFact.TheVariants as facts
 

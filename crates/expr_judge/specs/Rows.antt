@@ -4,7 +4,7 @@ use Rattle.sparse_model.specs.declared.failure.Failure.{Failure}
 use Rattle.meaning_operands.specs.Failures as meaning
 use Rattle.meaning_typing.specs.Facts.{Fact}
 use Rattle.meaning_typing.specs.Rows.{Row}
-use Rattle.meaning_rules.specs.Rules.{least_broken, least_token}
+use Rattle.expression_rows.specs.Rules.{least_broken, least_token}
 use Rattle.c_types.specs.Table.{TypeTable}
 use Rattle.node_facts.specs.declared.expression.ExpressionFact.{ExpressionFact}
 use Rattle.node_facts.specs.declared.fact.NodeFact.{NodeFact}

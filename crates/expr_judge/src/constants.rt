@@ -2,8 +2,7 @@
 ghost use Rattle.std.specs.Prelude.{◌≡◌, ◌<◌};
 ghost use Rattle.expr_judge.specs.Constants.{bits_folded, with_bits};
 
-use const_fold::Folded;
-use node_facts::NodeFact;
+use node_facts::{Folded, NodeFact};
 
 /// The bits of a constant, if it is one.
 pub fn bits_folded(constant: Folded) -> Option<u64>

@@ -5,13 +5,13 @@ use Rattle.vocabulary.specs.declared.int_kind.IntKind.{IntKind}
 use Rattle.meaning_types.specs.Types.{TypeTree, Typed, VoidTree, IntegerTree, RestrictedTree, PointerTree, ArrayTree, FunctionTree, AggregateTree}
 use Rattle.meaning_types.specs.Spaces.{is_void}
 use Rattle.meaning_operands.specs.Operands.{identity_of, is_restricted}
-use Rattle.meaning_constants.specs.Constants.{kind_of}
+use Rattle.node_facts.specs.Constants.{kind_of}
 use Rattle.meaning_typing.specs.Facts.{decays, is_plain_integer}
 use Rattle.meaning_typing.specs.Declarators.{is_function}
 use Rattle.meaning_typing.specs.Expressions.{is_array}
 use Rattle.c_types.specs.Operands.{identity_seen}
 use Rattle.c_types.specs.Outlines.{outline_of, is_void_outline}
-use Rattle.const_fold.specs.Known.{number_with}
+use Rattle.node_facts.specs.Known.{number_with}
 use Rattle.node_facts.specs.Facts.{number_in}
 use Rattle.expression_rows.specs.Outlines.{is_array_outline, is_function_outline, is_integer_outline}
 

@@ -9,7 +9,7 @@ use Rattle.meaning_types.specs.Spaces.{is_void}
 use Rattle.meaning_operands.specs.Operands.{is_restricted}
 use Rattle.meaning_operands.specs.Operators.{Operands, IntegerOperands, ScalarOperands, ElementOperands, SumOperands, DifferenceOperands, StepOperands, ComparedOperands, ArmOperands, AnyOperands, law_of}
 use Rattle.meaning_typing.specs.Facts.{ExpressionFact}
-use Rattle.meaning_constants.specs.Constants.{binary_kind, keeps_identity}
+use Rattle.node_facts.specs.Constants.{binary_kind, keeps_identity}
 use Rattle.meaning_layout.specs.Sizes.{Told}
 use Rattle.meaning_typing.specs.Declarators.{is_function}
 use Rattle.meaning_typing.specs.Operators.{binary_by, or_else, points_to_function, points_to_void, sort_of, target_broken, value_sort}

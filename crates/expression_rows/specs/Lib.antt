@@ -12,3 +12,4 @@ pub mod Changes
 pub mod Arms
 pub mod Expected
 pub mod Casts
+pub use Rattle.meaning_rules.specs.Rules

@@ -6,7 +6,7 @@ use Rattle.vocabulary.specs.declared.operator.Operator.{Operator}
 use Rattle.vocabulary.specs.declared.error_kind.ErrorKind.TheVariants.{IncompleteType}
 use Rattle.meaning_types.specs.Types.{TypeTree}
 use Rattle.meaning_types.specs.Conversions.{promoted, usual}
-use Rattle.meaning_constants.specs.Constants.{is_comparison, is_shift}
+use Rattle.node_facts.specs.Constants.{is_comparison, is_shift}
 use Rattle.meaning_layout.specs.Sizes as sizes
 use Rattle.meaning_operands.specs.Failures.{Broken}
 use Rattle.meaning_typing.specs.Operators as meaning

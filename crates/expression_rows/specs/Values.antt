@@ -3,14 +3,14 @@ use Rattle.std.specs.Prelude.{ℕ, false, List, [], ◌∷◌, Option, Some, Non
 use Rattle.sparse_model.specs.declared.space.Space.TheVariants as spaces
 use Rattle.sparse_model.specs.declared.ids.TypeId.{TypeId}
 use Rattle.meaning_types.specs.Types.{TypeTree, Typed, VoidTree, IntegerTree, RestrictedTree, AggregateTree, TypeTrees, MoreTypes, decayed, pointer_to, no_qualifiers, no_flags, value_type}
-use Rattle.meaning_constants.specs.Nodes.{loaded_type}
+use Rattle.node_facts.specs.Nodes.{loaded_type}
 use Rattle.meaning_typing.specs.Facts.{decays}
 use Rattle.c_types.specs.declared.shapes.ShapeBase.{ShapeBase}
 use Rattle.c_types.specs.declared.shapes.TypeShape.{TypeShape}
 use Rattle.c_types.specs.declared.shapes.OuterBase.{OuterBase}
 use Rattle.c_types.specs.declared.shapes.OuterBase.TheVariants as outers
 use Rattle.c_types.specs.Rows.{type_numbered}
-use Rattle.const_fold.specs.Outlined.{loaded_kind_if}
+use Rattle.node_facts.specs.Outlined.{loaded_kind_if}
 
 -- a shape without qualifiers and flags
 abbrev pub plain_shape : ShapeBase → TypeShape

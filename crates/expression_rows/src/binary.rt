@@ -1,6 +1,6 @@
 // Binary operators (C11 6.5.5 to 6.5.12).
 ghost use Rattle.std.specs.Prelude.{◌≡◌, IfOk, IfSome, OnOk};
-ghost use Rattle.meaning_constants.specs.Constants.{is_comparison, is_shift, keeps_identity};
+ghost use Rattle.node_facts.specs.Constants.{is_comparison, is_shift, keeps_identity};
 ghost use Rattle.meaning_operands.specs.Operators.{law_of};
 ghost use Rattle.meaning_typing.specs.Facts.{type_of_value};
 ghost use Rattle.meaning_typing.specs.Operators as meaning;

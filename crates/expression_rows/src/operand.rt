@@ -17,8 +17,7 @@ ghost use Rattle.expression_rows.specs.Rows.{broken_seen};
 use crate::row::{Broken, broken_at};
 use crate::value::Valued;
 use c_types::{Operand, Outline, Types};
-use const_fold::part_of;
-use node_facts::ExpressionFact;
+use node_facts::{ExpressionFact, part_of};
 use sparse_model::{ErrorKind, TypeId};
 
 /// The number of its constant.

@@ -13,7 +13,7 @@ use crate::row::failed;
 use crate::sort::ValueSort;
 use crate::value::Valued;
 use c_types::{Types, bits, promoted_kind};
-use const_fold::{converted, wrapped};
+use node_facts::{converted, wrapped};
 use sparse_model::{Failure, IntKind, RuleCode};
 
 // The kind of a value: a fouled one keeps the bits that its restricted type hasn't.

@@ -9,8 +9,7 @@ ghost use Rattle.expression_rows.specs.Values.{plain_shape, value_by_base, value
 
 use crate::operand::is_function;
 use c_types::{OuterBase, ShapeBase, TypeShape, Types};
-use const_fold::loaded_kind;
-use node_facts::ExpressionFact;
+use node_facts::{ExpressionFact, loaded_kind};
 use sparse_model::{Space, TypeId};
 use std::alloc::AllocError;
 

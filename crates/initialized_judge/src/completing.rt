@@ -14,8 +14,7 @@ ghost use Rattle.node_surroundings.specs.Seen.{surroundings_seen};
 
 use c_tree::{Handle, Unit};
 use c_types::{LayoutFault, Types};
-use declaration_judge::{Declarations, redeclared_otherwise};
-use declaration_rows::{is_unbounded, standing_at};
+use declaration_judge::{Declarations, is_unbounded, redeclared_otherwise, standing_at};
 use node_facts::{Addressed, DeclaredFact, ExpressionFact};
 use node_surroundings::Surroundings;
 use sparse_model::{Failure, TypeId};

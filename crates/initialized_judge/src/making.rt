@@ -5,7 +5,7 @@ ghost use Rattle.meaning_tree.specs.Laid.{IsLaid};
 ghost use Rattle.c_types.specs.Table.{IsTypeId, type_at};
 ghost use Rattle.decl_judge.specs.Units.{nodes_of};
 ghost use Rattle.declaration_judge.specs.Kept.{IsKeptOf, OnlyTypesJoin, facts_seen};
-ghost use Rattle.initializer_levels.specs.Steps.{AreKnownIn};
+ghost use Rattle.init_judge.specs.Steps.{AreKnownIn};
 ghost use Rattle.node_surroundings.specs.Seen.{surroundings_seen};
 ghost use Rattle.initialized_judge.specs.Judging.{IsMade};
 

@@ -18,7 +18,7 @@ use crate::declarators::declarator_before;
 use c_tree::{Handle, Unit};
 use c_types::Types;
 use decl_judge::{child_at, kind_at, named_type_at, specifiers_of};
-use declaration_rows::{in_file, is_no_object, is_unbounded};
+use declaration_judge::{in_file, is_no_object, is_unbounded};
 use expr_judge::declaration_of;
 use node_facts::{DeclaredFact, NodeFacts, SpecifiedFact};
 use node_surroundings::{Surrounding, Surroundings};

@@ -18,9 +18,8 @@ use crate::parts::{Part, PartType, parts_of};
 use crate::steps::{Index, Step, step_to_element, step_to_member};
 use c_tree::{Handle, Unit};
 use c_types::Types;
-use const_fold::part_of;
 use decl_judge::{child_at, kind_at, node_at};
-use node_facts::{NodeFact, NodeFacts};
+use node_facts::{NodeFact, NodeFacts, part_of};
 use sparse_model::{NameId, NodeKind};
 use std::alloc::{AllocError, Global};
 

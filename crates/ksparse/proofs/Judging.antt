@@ -27,7 +27,7 @@ use Rattle.c_preproc.specs.declared.unit.UnitTokens.{UnitTokens}
 use Rattle.decl_judge.specs.Units.{nodes_of}
 use Rattle.expression_rows.specs.declared.row.Broken.{Broken}
 use Rattle.expression_rows.specs.Rows as judge
-use Rattle.expr_judge.specs.Found.{found_seen}
+use Rattle.context_judge.specs.Found.{found_seen}
 use Rattle.node_facts.specs.Facts.{name_seen}
 use Rattle.context_judge.specs.JudgeFault.TheVariants as faults
 use Rattle.context_judge.specs.Judging.{IsRefusedFor}

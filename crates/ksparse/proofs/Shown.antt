@@ -22,7 +22,7 @@ use Rattle.c_preproc.specs.Units.{failures_from}
 use Rattle.c_preproc.specs.declared.unit.UnitTokens.{UnitTokens}
 use Rattle.node_facts.specs.Facts.{name_seen}
 use Rattle.expression_rows.specs.Rows as judge
-use Rattle.expr_judge.specs.Found.{found_seen}
+use Rattle.context_judge.specs.Found.{found_seen}
 use Rattle.context_judge.specs.Judged.{Judged}
 use Rattle.context_judge.specs.Judging.{IsJudgedSo}
 use Rattle.warn_print.specs.Seen as warn

@@ -11,7 +11,7 @@ ghost use Rattle.c_parse.specs.Answers.{DerivesUnit};
 ghost use Rattle.c_preproc.specs.Units.{IsKnownUnit, failures_from};
 ghost use Rattle.c_tokens.specs.Seen.{toks_of};
 ghost use Rattle.decl_judge.specs.Units.{nodes_of};
-ghost use Rattle.expr_judge.specs.Found.{found_seen};
+ghost use Rattle.context_judge.specs.Found.{found_seen};
 ghost use Rattle.parse_state.specs.Finished.{spelled};
 ghost use Rattle.context_judge.specs.Judging.{HasTypeIds, IsJudgedSo};
 ghost use Rattle.ksparse.specs.Ending.{ending_seen};

@@ -7,3 +7,6 @@ pub mod Bits
 pub mod Nodes
 pub mod laws
 pub mod examples
+pub use Rattle.meaning_operands.specs.Operands
+pub use Rattle.meaning_operands.specs.Operators
+pub use Rattle.meaning_operands.specs.Answers

@@ -1,7 +1,7 @@
 -- The sizes and alignments of types, in bytes (C11 6.5.3.4, 6.2.8). An aggregate has those of its layout, which is made when
 -- its members are told, so that nothing is looked at twice.
 use Rattle.std.specs.Prelude.{ℕ, ◌+◌, ◌*◌, ◌/◌, nat_le, Bool, Result, Ok, Err, Option, Some, None, List, slice_get, if◌then◌else◌}
-use Rattle.vocabulary.specs.declared.int_kind.IntKind.{IntKind}
+use Rattle.meaning_types.specs.IntKind.{IntKind}
 use Rattle.meaning_types.specs.Types.{TypeTree, Typed, BaseTree, VoidTree, IntegerTree, RestrictedTree, PointerTree, ArrayTree, FunctionTree, AggregateTree}
 use Rattle.meaning_types.specs.Ranges.{width}
 use Rattle.meaning_layout.specs.Bodies.{LayoutMember}

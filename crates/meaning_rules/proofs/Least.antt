@@ -5,7 +5,7 @@ use Rattle.std.proofs.lemmas.List.Elements.{Contains-append_left, Contains-appen
 use Rattle.std.proofs.lemmas.Bool.Decides.{nat_tests}
 use Rattle.std.proofs.lemmas.Bool.{ltb-true, ltb-false}
 use Rattle.vocabulary.specs.Errors.{error_number}
-use Rattle.meaning_operands.specs.Failures.{Broken}
+use Rattle.meaning_typing.specs.Failures.{Broken}
 use Rattle.meaning_rules.specs.Rules.{goes_before, lesser, least_broken, lower, least_token}
 use Rattle.meaning_rules.specs.laws.Least.{StandsBefore, IsLeastOf, LeastStandsFirst, IsLeastToken, LeastTokenIsFirst}
 

@@ -1,7 +1,7 @@
 -- What is told of a unit, of all that fails in it and all that it breaks.
 use Rattle.std.specs.Prelude.{ℕ, zero, suc, Bool, ◌||◌, ◌&&◌, nat_lt, nat_le, nat_eq, List, [], ◌∷◌, ◌++◌, Option, Some, None, if◌then◌else◌}
 use Rattle.vocabulary.specs.Errors.{error_number}
-use Rattle.meaning_operands.specs.Failures.{Failure, Broken}
+use Rattle.meaning_typing.specs.Failures.{Failure, Broken}
 
 -- What nodes have, one after the other
 

@@ -8,7 +8,7 @@ use Rattle.vocabulary.specs.declared.rule.RuleCode.{RuleCode}
 use Rattle.vocabulary.specs.declared.rule.RuleCode.TheVariants.{B6, S4, S5}
 use Rattle.meaning_types.specs.Types.{TypeTree}
 use Rattle.meaning_types.specs.Spaces.{is_void}
-use Rattle.meaning_constants.specs.Numbers.{label_number}
+use Rattle.meaning_typing.specs.Numbers.{label_number}
 use Rattle.meaning_operands.specs.Failures.{Failure, Broken}
 use Rattle.meaning_typing.specs.Facts.{Fact, Expression, ExpressionFact, type_of_value}
 use Rattle.meaning_typing.specs.Rows.{Row, nothing, breaks_at, breaks_named, fails_with, void_used}

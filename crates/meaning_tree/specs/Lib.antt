@@ -7,3 +7,4 @@ pub mod Runs
 pub mod Forms
 pub mod laws
 pub mod examples
+pub use Rattle.vocabulary.specs.declared.node_kind.NodeKind

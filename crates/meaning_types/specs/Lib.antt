@@ -8,3 +8,4 @@ pub mod Composite
 pub mod Spelling
 pub mod laws
 pub mod examples
+pub use Rattle.vocabulary.specs.declared.int_kind.IntKind

@@ -32,3 +32,7 @@ pub mod Building
 pub mod Reach
 pub mod laws
 pub mod examples
+pub use Rattle.meaning_constants.specs.Numbers
+pub use Rattle.meaning_types.specs.Types
+pub use Rattle.meaning_tree.specs.Trees
+pub use Rattle.meaning_operands.specs.Failures

@@ -5,3 +5,5 @@ pub mod Members
 pub mod Seen
 pub mod Widths
 pub mod OpenArrays
+pub use Rattle.declaration_rows.specs.Kept
+pub use Rattle.declaration_rows.specs.declared.declarator.DeclaratorParts

@@ -21,6 +21,7 @@ mod row;
 mod widths;
 
 pub use bit_fields::bit_field_row;
+pub use declaration_rows::{declarator_parts, declared_behind, result_in, type_of_name};
 pub use entries::declarator_of_width;
 pub use fact::member_fact;
 pub use flexible::{FlexiblePlace, LastMember, NamedMembers, may_be_flexible};

@@ -11,7 +11,7 @@ ghost use Rattle.member_rows.specs.Steps.{bytes_to_element};
 ghost use Rattle.node_facts.specs.Facts.{name_seen};
 
 use c_types::Types;
-use const_fold::asked_size;
+use node_facts::asked_size;
 use sparse_model::{NameId, TypeId};
 
 /// The most bytes that an object may have: 2^40.

@@ -18,9 +18,8 @@ use crate::element::{bytes_to_element, bytes_to_member};
 use crate::reached::{OffsetStep, Reached};
 use crate::selection::{Selection, selection_of};
 use c_types::{FoundMember, Types};
-use const_fold::element_of;
 use expression_rows::{Valued, broken_at, lesser, number_of, void_used};
-use node_facts::ExpressionFact;
+use node_facts::{ExpressionFact, element_of};
 use sparse_model::{ErrorKind, Failure, NameId, RuleCode, TypeId};
 
 // A member that was found.

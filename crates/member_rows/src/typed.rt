@@ -17,9 +17,8 @@ use crate::marks::{PlaceMarks, later_space};
 use c_types::{
     FoundMember, NodeType, NodeValue, OuterBase, OuterShape, Outline, ShapeBase, TypeShape, Types,
 };
-use const_fold::element_of;
 use expression_rows::type_of_value;
-use node_facts::{ExpressionFact, ExpressionMarks};
+use node_facts::{ExpressionFact, ExpressionMarks, element_of};
 use sparse_model::{Space, TypeId};
 use std::alloc::AllocError;
 

@@ -4,8 +4,8 @@ use Rattle.std.proofs.lemmas.List.{append_assoc}
 use Rattle.std.proofs.lemmas.List.Elements.{All-cons, All-head, All-nil, All-tail}
 use Rattle.std.proofs.lemmas.Option.{slice_get_within}
 use Rattle.sparse_model.specs.declared.ids.TypeId.{TypeId}
-use Rattle.meaning_types.specs.Types.{TypeTree}
-use Rattle.meaning_constants.specs.Nodes.{loaded_type}
+use Rattle.meaning_typing.specs.Types.{TypeTree}
+use Rattle.const_fold.specs.Nodes.{loaded_type}
 use Rattle.meaning_typing.specs.Facts as meaning
 use Rattle.c_types.specs.Rows.{no_type}
 use Rattle.c_types.specs.Table.{TypeTable, IsLonger, IsTypeId, type_at, types_in}

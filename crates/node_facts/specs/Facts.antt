@@ -2,9 +2,9 @@
 use Rattle.std.specs.Prelude.{ℕ, ℤ, nat_eq, true, false, List, [], ◌∷◌, map, Option, Some, None, if◌then◌else◌}
 use Rattle.sparse_model.specs.declared.ids.NameId.{NameId}
 use Rattle.sparse_model.specs.declared.ids.TypeId.{TypeId}
-use Rattle.meaning_types.specs.Types.{TypeTree}
-use Rattle.meaning_constants.specs.Constants.{kind_of}
-use Rattle.meaning_constants.specs.Nodes.{loaded_type}
+use Rattle.meaning_typing.specs.Types.{TypeTree}
+use Rattle.const_fold.specs.Constants.{kind_of}
+use Rattle.const_fold.specs.Nodes.{loaded_type}
 use Rattle.meaning_typing.specs.Facts as meaning
 use Rattle.c_types.specs.declared.nodes.NodeType.{NodeType}
 use Rattle.c_types.specs.Table.{TypeTable, IsTypeId, type_at}

@@ -2,3 +2,10 @@ pub mod Facts
 pub mod Kept
 pub mod Marks
 pub mod Growing
+pub use Rattle.const_fold.specs.Known
+pub use Rattle.const_fold.specs.Outlined
+pub use Rattle.const_fold.specs.Offsets
+pub use Rattle.const_fold.specs.Sized
+pub use Rattle.const_fold.specs.declared.folded.Folded
+pub use Rattle.const_fold.specs.Constants
+pub use Rattle.const_fold.specs.Nodes

@@ -6,8 +6,8 @@ ghost use Rattle.node_facts.specs.Kept.{expression_kept, fact_kept, mark_kept, n
 use crate::expression::{ExpressionFact, ExpressionMarks, plain_node};
 use crate::fact::NodeFact;
 use crate::marks::{NodeMark, NodeMarks};
-use c_tree::Handle;
 use c_types::{NodeType, NodeTypes};
+use const_fold::Handle;
 use std::alloc::{AllocError, Global};
 use std::marker::Model;
 

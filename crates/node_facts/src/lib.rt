@@ -10,6 +10,9 @@ mod fact;
 mod kept;
 mod marks;
 
+pub use const_fold::{
+    Folded, asked_size, converted, element_of, fold, label_number, loaded_kind, part_of, wrapped,
+};
 pub use declared::{DeclaredFact, SpecifiedFact, Storage};
 pub use expression::{Addressed, ExpressionFact, ExpressionMarks};
 pub use fact::NodeFact;

@@ -8,7 +8,7 @@ use Rattle.std.proofs.lemmas.Option.{none-some}
 use Rattle.std.specs.Map.{lookup}
 use Rattle.meaning_layout.specs.Members.{DeclaredBody}
 use Rattle.meaning_typing.specs.Aggregates.{Bodies}
-use Rattle.body_members.specs.Seen.{body_seen, member_seen}
+use Rattle.specifier_judge.specs.Seen.{body_seen, member_seen}
 use Rattle.c_types.specs.declared.bodies.AggregateBody.{AggregateBody}
 use Rattle.c_types.specs.declared.bodies.Member.{Member}
 use Rattle.c_types.specs.Layouts as layouts

@@ -23,7 +23,7 @@ use Rattle.c_types.specs.Layouts.{body_told, told_in, told_of_bodies}
 use Rattle.c_types.specs.Members.{body_declared}
 use Rattle.c_types.specs.Rows.{Row}
 use Rattle.c_types.specs.Table.{TypeTable, Extends, IsBodyOver, types_in}
-use Rattle.declaration_rows.specs.Kept.{AreDefined, AreTentative}
+use Rattle.member_declarations.specs.Kept.{AreDefined, AreTentative}
 use Rattle.linked_names.proofs.GrowthLemmas.{Extends-twice, id-later, type-later}
 use Rattle.declaration_judge.specs.declared.declarations.Declarations.{Declarations}
 use Rattle.declaration_judge.specs.Kept.{IsKeptOf, OnlyTypesJoin}

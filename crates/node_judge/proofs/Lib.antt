@@ -10,3 +10,4 @@ pub mod RowLemmas
 pub mod TellLemmas
 pub mod JudgingLemmas
 pub mod NamedTypeLemmas
+pub use Rattle.member_rows.proofs.AggregateLemmas

@@ -22,7 +22,7 @@ use Rattle.meaning_typing.specs.Units.{UnitNodes, child_at, children_at, kind_at
 use Rattle.meaning_typing.specs.WholeTyping.{declaration_row_by, declared_row, large_by, own_name_broken, whole_declarator_row}
 use Rattle.c_types.specs.Layouts.{told_in}
 use Rattle.c_types.specs.Table.{TypeTable, IsTypeId, type_at}
-use Rattle.declaration_rows.specs.declared.declarator.DeclaratorParts.{DeclaratorParts}
+use Rattle.member_declarations.specs.DeclaratorParts.{DeclaratorParts}
 use Rattle.declaration_judge.specs.Rows.{row_without_type}
 use Rattle.declaration_judge.proofs.RowLemmas.{declarator_row, row_typed, row_untyped, untyped_silent}
 use Rattle.expression_rows.specs.declared.row.Broken.{Broken}

@@ -17,8 +17,8 @@ use Rattle.meaning_typing.specs.MemberDeclarations.{bodies_at, bodies_before, is
 use Rattle.meaning_typing.specs.MemberRows.{aggregates_before}
 use Rattle.meaning_typing.specs.Surroundings.{Surrounding}
 use Rattle.meaning_typing.specs.Units.{UnitNodes, kind_at}
-use Rattle.aggregate_rows.specs.Bodies.{is_aggregate}
-use Rattle.body_members.specs.Seen.{body_seen, member_seen}
+use Rattle.specifier_judge.specs.Bodies.{is_aggregate}
+use Rattle.specifier_judge.specs.Seen.{body_seen, member_seen}
 use Rattle.c_types.specs.declared.bodies.AggregateBody.{AggregateBody}
 use Rattle.c_types.specs.declared.bodies.Member.{Member}
 use Rattle.c_types.specs.Layouts as layouts

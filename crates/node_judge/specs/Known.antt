@@ -11,7 +11,7 @@ use Rattle.declaration_judge.specs.Kept as declarations
 use Rattle.member_names.specs.Kept.{AreTwice}
 use Rattle.member_rows.specs.Aggregates.{aggregates_in, bodies_in}
 use Rattle.specifier_judge.specs.Kept as enumerations
-use Rattle.tag_rows.specs.Kept.{StandsFor}
+use Rattle.specifier_judge.specs.Kept.{StandsFor}
 use Rattle.whole_judge.specs.Known.{AreKnownBodies}
 use Rattle.whole_rows.specs.ConstAggregates.{AreConst}
 use Rattle.node_judge.specs.declared.known.Known.{Known}

@@ -5,3 +5,4 @@ pub mod Members
 pub mod Rows
 pub mod Judging
 pub mod NamedTypes
+pub use Rattle.member_rows.specs.Aggregates

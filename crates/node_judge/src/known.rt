@@ -16,9 +16,8 @@ use declaration_judge::Declarations;
 use member_names::MemberNames;
 use node_facts::NodeFact;
 use node_surroundings::Surroundings;
-use specifier_judge::Enumerations;
+use specifier_judge::{Enumerations, TagsSeen};
 use std::alloc::{AllocError, Global};
-use tag_rows::TagsSeen;
 use whole_rows::ConstAggregates;
 
 /// What rows ask of a unit, and of the nodes that stand before.

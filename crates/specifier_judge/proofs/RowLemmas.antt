@@ -24,6 +24,7 @@ use Rattle.enum_rows.specs.Rows as enumerations
 use Rattle.aggregate_rows.specs.declared.row.AggregateRow.{AggregateRow}
 use Rattle.aggregate_rows.specs.Seen.{passed_listed}
 use Rattle.aggregate_rows.specs.Seen as aggregates
+pub use Rattle.aggregate_rows.proofs.RowLemmas.{first_body_is_all}
 use Rattle.expr_judge.specs.declared.row.NodeRow.{NodeRow}
 use Rattle.expr_judge.specs.Rows.{SaysOnly, Tells, known_row, row_kept, row_seen}
 use Rattle.expr_judge.proofs.TellingLemmas.{one_known, one_listed}

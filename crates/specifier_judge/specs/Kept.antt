@@ -7,6 +7,7 @@ use Rattle.meaning_typing.specs.Units.{UnitNodes}
 use Rattle.enum_rows.specs.declared.names.Sharing.{Sharing}
 use Rattle.enum_rows.specs.declared.names.Sharing.TheVariants as sharings
 use Rattle.enum_rows.specs.Names.{IsSharing}
+pub use Rattle.tag_rows.specs.Kept.{StandsFor}
 use Rattle.specifier_judge.specs.declared.enumerations.Enumerations.{Enumerations}
 
 -- of a node without enumerators nothing is kept: each of them has its own type

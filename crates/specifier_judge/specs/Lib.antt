@@ -4,3 +4,6 @@ pub mod Kept
 pub mod Parts
 pub mod Rows
 pub mod Worked
+pub use Rattle.enum_rows.specs.Names
+pub use Rattle.body_members.specs.Seen
+pub use Rattle.aggregate_rows.specs.Bodies

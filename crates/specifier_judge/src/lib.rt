@@ -22,7 +22,9 @@ mod rows;
 mod specifiers;
 mod taken;
 
+pub use body_members::specifier_body;
 pub use enumerations::Enumerations;
 pub use kinds::is_of_specifiers;
 pub use laws::worked_rows;
 pub use rows::judge_specifier;
+pub use tag_rows::TagsSeen;

@@ -4,7 +4,7 @@ use Rattle.meaning_typing.specs.Units.{UnitNodes}
 use Rattle.meaning_typing.specs.Surroundings.{Surrounding}
 use Rattle.meaning_statements.specs.Above.{Above, expressions_among, first_above, innermost, is_statement_expression, node_above, nodes_above, outermost}
 use Rattle.meaning_statements.specs.Jumps.{in_loop, in_loop_or_switch, in_switch}
-use Rattle.statement_judge.specs.declared.enclosing.Enclosing.{Enclosing}
+pub use Rattle.statement_judge.specs.declared.enclosing.Enclosing.{Enclosing}
 
 -- nothing does
 abbrev pub nothing_above : Enclosing

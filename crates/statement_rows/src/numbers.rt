@@ -6,8 +6,8 @@ ghost use Rattle.expression_rows.specs.Facts.{IsValued, valued_part, valued_seen
 ghost use Rattle.expression_rows.specs.Sorts.{sort_in};
 
 use c_types::{Outline, Types};
-use const_fold::label_number;
 use expression_rows::{Valued, number_of};
+use node_facts::label_number;
 use sparse_model::IntKind;
 
 fn kind_in(outline: Outline) -> Option<IntKind>

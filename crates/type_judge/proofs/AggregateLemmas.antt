@@ -12,9 +12,9 @@ use Rattle.meaning_typing.specs.Surroundings.{Surrounding}
 use Rattle.meaning_typing.specs.Units.{UnitNodes}
 use Rattle.c_types.specs.Layouts.{told_in}
 use Rattle.initialized_judge.specs.Laws.{TablesKnowAggregates}
-use Rattle.initializer_levels.specs.Steps.{AreKnownIn}
-use Rattle.member_rows.specs.Aggregates.{bodies_in}
-use Rattle.member_rows.proofs.AggregateLemmas.{told_is}
+use Rattle.initialized_judge.specs.Steps.{AreKnownIn}
+use Rattle.node_judge.specs.Aggregates.{bodies_in}
+use Rattle.node_judge.proofs.AggregateLemmas.{told_is}
 use Rattle.node_facts.specs.Facts.{name_seen}
 use Rattle.node_judge.specs.declared.known.Known.{Known}
 use Rattle.node_judge.specs.Bodies.{AreOneFirst}

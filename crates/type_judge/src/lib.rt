@@ -19,3 +19,4 @@ mod rows;
 pub use expression_rows::Broken;
 pub use fault::JudgeFault;
 pub use judging::{Judged, judge};
+pub use statement_judge::enclosings_of;

@@ -23,9 +23,9 @@ use Rattle.meaning_typing.specs.Units.{UnitNodes, children_at, children_from, ki
 use Rattle.meaning_typing.specs.WholeTyping.{enumerator_part, whole_operation_row, whole_row_of}
 use Rattle.c_types.specs.declared.nodes.NodeType.{NodeType}
 use Rattle.c_types.specs.Table.{TypeTable}
-use Rattle.const_fold.specs.Known.{enumerator_at, folded_answer, node_facts}
-use Rattle.const_fold.specs.Offsets.{offset_of_node}
-use Rattle.const_fold.specs.Sized.{sized_constant, sized_constant_at, sizes_in}
+use Rattle.node_facts.specs.Known.{enumerator_at, folded_answer, node_facts}
+use Rattle.node_facts.specs.Offsets.{offset_of_node}
+use Rattle.node_facts.specs.Sized.{sized_constant, sized_constant_at, sizes_in}
 use Rattle.decl_judge.specs.Units.{nodes_of}
 use Rattle.meaning_operands.specs.Failures.{Broken}
 use Rattle.node_facts.specs.declared.fact.NodeFact.{NodeFact}

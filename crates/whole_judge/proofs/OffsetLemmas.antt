@@ -18,8 +18,8 @@ use Rattle.meaning_typing.specs.Units.{UnitNodes, children_at, kind_at, no_node,
 use Rattle.c_types.specs.declared.nodes.NodeType.{NodeType}
 use Rattle.c_types.specs.Layouts.{told_in}
 use Rattle.c_types.specs.Table.{TypeTable, type_at}
-use Rattle.const_fold.specs.Known as known
-use Rattle.const_fold.specs.Offsets as fold
+use Rattle.node_facts.specs.Known as known
+use Rattle.node_facts.specs.Offsets as fold
 use Rattle.decl_judge.specs.Units.{named_node, nodes_of}
 use Rattle.node_facts.specs.declared.fact.NodeFact.{NodeFact}
 use Rattle.node_facts.specs.declared.fact.NodeFact.TheVariants as facts

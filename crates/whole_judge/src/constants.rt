@@ -12,9 +12,8 @@ ghost use Rattle.whole_judge.specs.Constants.{constant_of_node};
 
 use c_tree::{Handle, Unit};
 use c_types::Types;
-use const_fold::fold;
 use expr_judge::bits_folded;
-use node_facts::NodeFacts;
+use node_facts::{NodeFacts, fold};
 
 /// The bits of the constant of a node that is no name, if it has one. It takes no memory, and one step; of `__builtin_offsetof` one
 /// for each designator.

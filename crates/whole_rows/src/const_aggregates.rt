@@ -9,8 +9,8 @@ ghost use Rattle.whole_rows.specs.ConstAggregates.{AreConst, is_among, is_one_co
 ghost use Rattle.whole_rows.specs.Stores.{has_const_in, has_const_member};
 
 use c_types::{AggregateBody, Member, Outline, Types};
-use const_fold::element_of;
 use indexmap::IndexSet;
+use node_facts::element_of;
 use sparse_model::TypeId;
 use std::alloc::{AllocError, Global};
 use std::marker::Model;

@@ -1,6 +1,6 @@
 -- Worked examples: members by their names, which are numbers here.
 use Rattle.std.specs.Prelude.{◌≡◌, ℕ, nat_eq, false, true, Option, Some, None, List, [], ◌∷◌, map, option_map}
-use Rattle.vocabulary.specs.declared.int_kind.IntKind.TheVariants as kinds
+use Rattle.meaning_types.specs.IntKind.TheVariants as kinds
 use Rattle.meaning_types.specs.Types.{Qualifiers, Flags, TypeTree, Typed, AggregateTree, no_qualifiers, no_flags}
 use Rattle.meaning_types.specs.examples.Types.{plain, only_const, only_noderef}
 use Rattle.meaning_types.specs.examples.Derived.{structure_at, union_at}

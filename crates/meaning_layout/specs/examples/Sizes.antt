@@ -1,6 +1,6 @@
 -- Worked examples: sizes and alignments of types, offsets of members, and bit-fields.
 use Rattle.std.specs.Prelude.{◌≡◌, ℕ, ◌==◌, Some, None, Option, Result, Ok, Err, List, [], ◌∷◌, map, replicate, if◌then◌else◌}
-use Rattle.vocabulary.specs.declared.int_kind.IntKind.TheVariants as kinds
+use Rattle.meaning_types.specs.IntKind.TheVariants as kinds
 use Rattle.meaning_types.specs.Types.{TypeTree, pointer_to}
 use Rattle.meaning_types.specs.examples.Types.{plain, signed_kinds, unsigned_kinds, only_const, only_noderef, int_with}
 use Rattle.meaning_types.specs.examples.Derived.{void, array_of, function_type, restricted_at, structure_at}

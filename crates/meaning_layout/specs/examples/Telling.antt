@@ -1,6 +1,6 @@
 -- Worked examples: bodies that are told one after the other.
 use Rattle.std.specs.Prelude.{◌≡◌, ℕ, false, true, Some, None, Ok, Err, List, [], ◌∷◌}
-use Rattle.vocabulary.specs.declared.int_kind.IntKind.TheVariants as kinds
+use Rattle.meaning_types.specs.IntKind.TheVariants as kinds
 use Rattle.meaning_types.specs.Types.{TypeTree, pointer_to}
 use Rattle.meaning_types.specs.examples.Types.{plain}
 use Rattle.meaning_types.specs.examples.Derived.{array_of, structure_at, void}

@@ -5,10 +5,10 @@ use Rattle.vocabulary.specs.declared.error_kind.ErrorKind.TheVariants.{CannotDer
 use Rattle.vocabulary.specs.declared.int_kind.IntKind.TheVariants as integers
 use Rattle.vocabulary.specs.declared.node_kind.NodeKind.TheVariants as kinds
 use Rattle.vocabulary.specs.declared.rule.RuleCode.TheVariants.{A1, A4, A7}
-use Rattle.meaning_types.specs.Types.{TypeTree, Typed, IntegerTree, no_flags, pointer_to}
+use Rattle.meaning_typing.specs.Types.{TypeTree, Typed, IntegerTree, no_flags, pointer_to}
 use Rattle.vocabulary.specs.declared.role.Role.TheVariants.{Unevaluated}
-use Rattle.meaning_tree.specs.Trees.{SyntaxTree, Node, NoParts, Part}
-use Rattle.meaning_operands.specs.Failures.{Failure, Broken}
+use Rattle.meaning_typing.specs.Trees.{SyntaxTree, Node, NoParts, Part}
+use Rattle.meaning_typing.specs.Failures.{Failure, Broken}
 use Rattle.meaning_typing.specs.Units.{UnitNodes}
 use Rattle.meaning_typing.specs.Specifiers.{plain_type}
 use Rattle.meaning_typing.specs.Declarators.{array_type}

@@ -2,7 +2,7 @@
 use Rattle.std.specs.Prelude.{◌≡◌, ◌⊎◌, ℕ, ◌<◌, ◌≤◌, List, [], Contains, Option, Some, None}
 use Rattle.std.specs.List.{AllByRecursion}
 use Rattle.vocabulary.specs.Errors.{error_number}
-use Rattle.meaning_operands.specs.Failures.{Broken}
+use Rattle.meaning_typing.specs.Failures.{Broken}
 use Rattle.meaning_rules.specs.Rules.{least_broken, least_token}
 
 -- at an earlier token, or at the same one with a number that isn't greater

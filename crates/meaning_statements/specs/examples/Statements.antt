@@ -5,13 +5,12 @@ use Rattle.vocabulary.specs.declared.node_kind.NodeKind.TheVariants as kinds
 use Rattle.vocabulary.specs.declared.rule.RuleCode.TheVariants.{B3, B5, B6, S4, S5}
 use Rattle.meaning_types.specs.Types.{TypeTree}
 use Rattle.meaning_operands.specs.Failures.{Failure}
-use Rattle.meaning_typing.specs.Surroundings.{ForEffect, ForValue}
+use Rattle.meaning_typing.specs.Surroundings.{ForEffect, ForValue, want_of}
 use Rattle.meaning_typing.specs.Facts.{Expression, ExpressionFact, Unknown, value}
 use Rattle.meaning_typing.specs.Rows.{Row, breaks, breaks_at, nothing}
 use Rattle.meaning_typing.specs.examples.Drawn.{int}
 use Rattle.meaning_typing.specs.examples.Values.{be32, c, fouled_h, h, i, l, le16, le32, long, names, none, null_pointer, number, p, r, shows, t, ui, void, void_value, x, zero}
 use Rattle.meaning_statements.specs.Statements.{case_row, condition_row, do_row, number_of_label, says, switch_row, whole_return_row}
-use Rattle.meaning_typing.specs.Surroundings.{want_of}
 
 abbrev pub tested : ExpressionFact → Row
 tested condition = condition_row 2 3 (Expression condition)

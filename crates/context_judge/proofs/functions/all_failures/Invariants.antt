@@ -1,7 +1,7 @@
 -- What fails at the nodes so far.
 use Rattle.c_types.specs.Table.{TypeTable}
 use Rattle.meaning_contexts.specs.Failures.{AreFailuresBefore}
-use Rattle.expr_judge.specs.Found.{AreKnownFailures, found_seen}
+use Rattle.type_judge.specs.Found.{AreKnownFailures, found_seen}
 use Rattle.linear_code.specs.Known.{judged_unit}
 use Rattle.judged_control.specs.Judged.{known_of_nodes}
 use Rattle.context_judge.proofs.functions.all_failures.Given as goal

@@ -3,7 +3,7 @@ use Rattle.std.proofs.Common.{sym, subst, arith}
 use Rattle.std.proofs.lemmas.Result.{IfOk-weaker}
 use Rattle.meaning_contexts.specs.Failures.{AreContextFailures}
 use Rattle.meaning_control.specs.Nodes.{JudgedUnit}
-use Rattle.expr_judge.specs.Found.{found_seen}
+use Rattle.type_judge.specs.Found.{found_seen}
 use Rattle.linear_code.specs.Known.{judged_unit}
 use Rattle.judged_control.specs.Judged.{JudgedNodes, known_of_nodes}
 use Rattle.context_judge.specs.Asked.{IsReady}

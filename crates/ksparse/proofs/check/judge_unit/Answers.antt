@@ -3,7 +3,7 @@ use Rattle.std.proofs.lemmas.Result.{IfOk-weaker}
 use Rattle.meaning_rules.specs.Rules.{Holds, BreaksConstraint, PassesObjectSize}
 use Rattle.decl_judge.specs.Units.{nodes_of}
 use Rattle.expression_rows.specs.Rows.{broken_seen}
-use Rattle.expr_judge.specs.Found.{found_seen}
+use Rattle.context_judge.specs.Found.{found_seen}
 use Rattle.context_judge.specs.Judging.{IsRefusedFor}
 use Rattle.ksparse.specs.Written.{reply_seen}
 use Rattle.ksparse.proofs.Judging.{constraint-told, limit-passed, unit-told}

@@ -2,7 +2,7 @@ use Rattle.std.proofs.Common.{ap, ◌∙◌}
 use Rattle.std.proofs.lemmas.Result.{IfOk-weaker}
 use Rattle.meaning_answer.specs.Units.{warned_reply}
 use Rattle.decl_judge.specs.Units.{nodes_of}
-use Rattle.expr_judge.specs.Found.{found_seen}
+use Rattle.context_judge.specs.Found.{found_seen}
 use Rattle.ksparse.proofs.Judging.{shown-ordered}
 use Rattle.ksparse.proofs.Shown.{warnings-shown}
 use Rattle.ksparse.proofs.check.tell.Goals as goal

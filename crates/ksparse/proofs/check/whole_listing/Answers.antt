@@ -2,7 +2,7 @@
 use Rattle.std.proofs.Common.{◌≡◌, List, ◌++◌, ap₂, ◌∙◌}
 use Rattle.std.proofs.lemmas.Result.{IfOk-weaker}
 use Rattle.sparse_model.specs.declared.failure.Failure.{Failure}
-use Rattle.expr_judge.specs.Found.{found_seen}
+use Rattle.context_judge.specs.Found.{found_seen}
 use Rattle.ksparse.proofs.Judging.{joined-lists}
 use Rattle.ksparse.proofs.check.whole_listing.Goals as goal
 

@@ -3,7 +3,7 @@ use Rattle.std.proofs.Common.{◌≡◌, ◌++◌, ◌∷◌, [], nat_eq, option
 use Rattle.std.specs.Map.{lookup}
 use Rattle.std.proofs.lemmas.Result.{IfOk-weaker}
 use Rattle.c_types.specs.Table.{TypeTable}
-use Rattle.body_members.specs.Seen.{body_seen}
+use Rattle.specifier_judge.specs.Seen.{body_seen}
 use Rattle.member_rows.specs.Aggregates.{aggregates_in, bodies_in}
 use Rattle.whole_rows.specs.ConstAggregates.{AreConst}
 use Rattle.node_judge.specs.Bodies.{AreOneFirst, BodiesJoin, aggregates_with}

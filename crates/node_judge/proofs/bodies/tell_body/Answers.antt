@@ -2,7 +2,7 @@
 use Rattle.std.proofs.Common.{sym, ap, ◌∙◌}
 use Rattle.std.proofs.lemmas.List.{length-map}
 use Rattle.meaning_typing.specs.Units.{kind_at}
-use Rattle.aggregate_rows.specs.Bodies.{is_aggregate}
+use Rattle.specifier_judge.specs.Bodies.{is_aggregate}
 use Rattle.decl_judge.specs.Units.{nodes_of}
 use Rattle.member_rows.specs.Aggregates.{aggregates_in, bodies_in}
 use Rattle.node_facts.specs.Facts.{node_seen, nodes_seen}

@@ -1,5 +1,5 @@
 use Rattle.std.proofs.Common.{◌≡◌, ◌++◌, ◌∷◌, [], ℕ, OnOk, subst}
-use Rattle.body_members.specs.Seen.{body_seen}
+use Rattle.specifier_judge.specs.Seen.{body_seen}
 use Rattle.member_rows.specs.Aggregates.{aggregates_in, bodies_in}
 use Rattle.node_judge.specs.Bodies.{AreOneFirst, aggregates_with}
 use Rattle.node_judge.proofs.bodies.tell_numbered.Goals as goal

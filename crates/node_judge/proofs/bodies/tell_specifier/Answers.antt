@@ -7,8 +7,8 @@ use Rattle.meaning_tree.specs.Nodes.{TreeNode}
 use Rattle.meaning_typing.specs.MemberDeclarations.{member_lists}
 use Rattle.meaning_typing.specs.Surroundings.{Surrounding, surrounding_at}
 use Rattle.meaning_typing.specs.Units.{node_at}
-use Rattle.aggregate_rows.proofs.RowLemmas.{first_body_is_all}
-use Rattle.body_members.specs.Seen.{IsFirstBody, body_seen}
+use Rattle.specifier_judge.proofs.RowLemmas.{first_body_is_all}
+use Rattle.specifier_judge.specs.Seen.{IsFirstBody, body_seen}
 use Rattle.c_tree.specs.Seen.{node_of}
 use Rattle.decl_judge.specs.Units.{handles_of, nodes_of}
 use Rattle.expr_judge.proofs.NodeLemmas.{node-is}

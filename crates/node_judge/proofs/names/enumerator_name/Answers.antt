@@ -9,7 +9,7 @@ use Rattle.meaning_typing.specs.Surroundings.{Surrounding, surrounding_at}
 use Rattle.meaning_typing.specs.Units.{kind_at, node_at}
 use Rattle.meaning_typing.specs.Wholes.{row_loaded}
 use Rattle.decl_judge.specs.Units.{nodes_of}
-use Rattle.enum_rows.specs.Names.{IsSharing}
+use Rattle.specifier_judge.specs.Names.{IsSharing}
 use Rattle.expr_judge.specs.declared.row.NodeRow.{NodeRow}
 use Rattle.expr_judge.specs.Rows.{SaysOnly, Tells}
 use Rattle.expr_judge.proofs.PartLemmas.{kept-is, known_at}

@@ -1,6 +1,6 @@
 -- What is folded is the constant by the definitions.
 use Rattle.std.proofs.Common.{All, ap, subst, sym, ◌∙◌}
-use Rattle.const_fold.specs.Known.{IsKnownNode}
+use Rattle.node_facts.specs.Known.{IsKnownNode}
 use Rattle.expr_judge.specs.Constants.{bits_folded}
 use Rattle.expr_judge.proofs.ConstantLemmas.{all_kept}
 use Rattle.whole_judge.proofs.ConstantLemmas.{bits_told}

@@ -18,7 +18,8 @@ pub(crate) fn read_parts(
     ensures chains { IfOk result (λ parts. (s : Spelling) → grouped (map (part_by s) parts.items) ≡ chains_of (with_rests variadic count (map (piece_by s) pieces.now))) }
     ensures begins { IfOk result (λ parts. (s : Spelling) → begins_next (map (part_by s) parts.items) ≡ true) }
 {
-    let mut parts = Vec::new(alloc);
+    // They stay as long as the macro, and most macros have one: a vector that grows has room for four.
+    let mut parts = Vec::with_capacity(alloc, pieces.len())?;
     let mut joined = false;
     let mut rest = pieces;
     while let Some((first, others)) = rest.split_first() {

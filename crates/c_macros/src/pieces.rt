@@ -15,7 +15,7 @@ use std::alloc::{AllocError, Global};
 pub(crate) fn inner_body(alloc: Global, body: &[Token]) -> Result<Vec<Token>, AllocError>
     ensures { IfOk result (λ inner. (s : Spelling) → map (token_by s) inner.items ≡ without_first_space (map (token_by s) body.now)) }
 {
-    let mut inner = Vec::new(alloc);
+    let mut inner = Vec::with_capacity(alloc, body.len())?;
     if let Some((first, others)) = body.split_first() {
         inner.push(without_space(first))?;
         inner.extend_from_slice(others)?;
@@ -43,7 +43,7 @@ pub(crate) fn read_pieces(
 ) -> Result<Vec<Piece>, AllocError>
     ensures { IfOk result (λ pieces. (s : Spelling) → KeepsApart s → map (piece_by s) pieces.items ≡ pieces_of (map s parameters.now) (map (token_by s) body.now)) }
 {
-    let mut pieces = Vec::new(alloc);
+    let mut pieces = Vec::with_capacity(alloc, body.len())?;
     let mut rest = body;
     while let Some((token, others)) = rest.split_first() {
         let (piece, behind) = first_piece(parameters, token, others);

@@ -1,5 +1,5 @@
 -- Elements of lists of which one is set.
-use Rattle.std.proofs.Common.{◌≡◌, ◌≢◌, ℕ, zero, suc, ◌<◌, List, [], ◌∷◌, Some, length, map, slice_get, replicate, refl, ap, arith}
+use Rattle.std.proofs.Common.{◌≡◌, ◌≢◌, ℕ, zero, suc, ◌<◌, List, [], ◌∷◌, Some, length, map, get_or, slice_get, replicate, refl, ap, arith}
 use Rattle.std.specs.Prelude.{slice_set}
 
 -- it is what was set
@@ -26,3 +26,14 @@ pub slice_get-replicate : {X : Type 0} (count : ℕ) (x : X) (place : ℕ) → p
 slice_get-replicate zero x place within = absurd (omega (arith, within))
 slice_get-replicate (suc count) x zero within = refl
 slice_get-replicate (suc count) x (suc place) within = slice_get-replicate count x place (omega (arith, within))
+
+pub get_or-replicate : {X : Type 0} (count : ℕ) (x : X) (place : ℕ) (d : X) → place < count → get_or (replicate count x) place d ≡ x
+get_or-replicate zero x place d within = absurd (omega (arith, within))
+get_or-replicate (suc count) x zero d within = refl
+get_or-replicate (suc count) x (suc place) d within = get_or-replicate count x place d (omega (arith, within))
+
+-- a list that has an element is there
+pub within-get_or : {X : Type 0} (xss : List (List X)) (place number : ℕ) → number < length (get_or xss place []) → place < length xss
+within-get_or [] place number below = absurd (omega (arith, below))
+within-get_or (xs ∷ xss) zero number below = omega arith
+within-get_or (xs ∷ xss) (suc place) number below = omega (arith, within-get_or xss place number below)

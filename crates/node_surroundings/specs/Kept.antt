@@ -1,6 +1,6 @@
 -- What entries stand for, over the settings that they name.
-use Rattle.std.specs.Prelude.{◌≡◌, ℕ, ◌<◌, List, ◌++◌, None, get_or, map}
-use Rattle.std.specs.List.{AllByRecursion}
+use Rattle.std.specs.Prelude.{◌≡◌, ℕ, suc, ◌<◌, ◌/◌, List, [], ◌∷◌, ◌++◌, None, get_or, length, map}
+use Rattle.std.specs.Global.{Vec}
 use Rattle.node_surroundings.specs.declared.surrounding.Around.{Around}
 use Rattle.node_surroundings.specs.declared.surrounding.Surrounding.{Surrounding}
 use Rattle.node_surroundings.specs.declared.standing.Entry.{Entry}
@@ -31,12 +31,23 @@ entry_seen settings entry =
       around = get_or settings entry.setting nobody;
     }
 
-abbrev pub entries_seen : (settings : List Around) → List Entry → List Surrounding
-entries_seen settings entries = map (entry_seen settings) entries
+-- the entries of nodes from this handle on, where each handle has settings
+abbrev pub entries_seen : (ℕ → List Around) → (first : ℕ) → List Entry → List Surrounding
+entries_seen settings first [] = []
+entries_seen settings first (entry ∷ entries) = entry_seen (settings first) entry ∷ entries_seen settings (suc first) entries
 
--- the numbers of settings are below this one
-abbrev pub AreWithin : ℕ → List Entry → Type 0
-AreWithin count entries = AllByRecursion (λ entry. entry.setting < count) entries
+-- each names a setting that is there
+abbrev pub AreWithin : (ℕ → List Around) → (first : ℕ) → List Entry → Type 0
+AreWithin settings first [] = Unit {0}
+AreWithin settings first (entry ∷ entries) = (entry.setting < length (settings first)) × AreWithin settings (suc first) entries
+
+-- lists of settings, as lists
+abbrev pub lists_of : List (Vec Around) → List (List Around)
+lists_of lists = map (λ list. list.items) lists
+
+-- and the one of a handle
+abbrev pub settings_at : List (Vec Around) → (handle : ℕ) → List Around
+settings_at lists handle = get_or (lists_of lists) (handle / 32768) []
 
 -- more of them came behind
 abbrev pub IsLonger : List Around → List Around → Type 0

@@ -1,29 +1,29 @@
-// What the nodes of a unit stand in, as it is kept: sixteen bytes a node, and each setting once.
+// What the nodes of a unit stand in, as it is kept: twelve bytes a node, and each setting once for nodes whose handles are near.
 ghost use Rattle.std.specs.Prelude.{◌≡◌, ◌<◌, Some, length, replicate, slice_get, slice_set, IfOk, OnErr, OnOk};
 
-use crate::settings::number_of;
+use crate::settings::{list_of, lists_with, number_in};
 use crate::surrounding::{Around, Surrounding, Want};
 use c_tree::Handle;
 use std::alloc::{AllocError, Global};
 use std::marker::Model;
 
-// What a node stands in. Who is around it is told by the number of a setting.
+// What a node stands in. Who is around it is told by the number of a setting in the list of its handle.
 #[derive(Clone, Copy)]
 pub struct Entry {
     pub parent: Handle,
     pub place: u32,
-    pub setting: u32,
+    pub setting: u16,
     pub want: Want,
     pub is_evaluated: bool,
 }
 
-const _: () = prove!(size_of::<Entry>() == 16);
+const _: () = prove!(size_of::<Entry>() == 12);
 
 impl Entry {
     ghost use Rattle.node_surroundings.specs.Kept.{entry_of};
 
     // The entry of a node that stands so, where the setting has this number.
-    fn new(setting: u32, surrounding: Surrounding) -> Entry
+    fn new(setting: u16, surrounding: Surrounding) -> Entry
         ensures { result ≡ entry_of setting surrounding }
     {
         Entry {
@@ -40,19 +40,19 @@ impl Entry {
 #[derive(Drop)]
 pub struct Surroundings {
     entries: Vec<Entry>,
-    settings: Vec<Around>,
+    settings: Vec<Vec<Around>>,
 }
 
 impl Model for Surroundings {
     ghost use Rattle.std.specs.Prelude.{List, length};
     ghost use Rattle.node_surroundings.specs.declared.surrounding.Surrounding.{Surrounding};
-    ghost use Rattle.node_surroundings.specs.Kept.{AreWithin, entries_seen};
+    ghost use Rattle.node_surroundings.specs.Kept.{AreWithin, entries_seen, settings_at};
 
     ghost Value = { List Surrounding };
 
-    ghost view = { λ kept. entries_seen kept.settings.items kept.entries.items };
+    ghost view = { λ kept. entries_seen (settings_at kept.settings.items) 0 kept.entries.items };
 
-    ghost invariant = { λ kept. AreWithin (length kept.settings.items) kept.entries.items };
+    ghost invariant = { λ kept. AreWithin (settings_at kept.settings.items) 0 kept.entries.items };
 }
 
 impl Surroundings {
@@ -67,7 +67,7 @@ impl Surroundings {
     ) -> Result<Surroundings, AllocError>
         ensures { IfOk result (λ filled. filled ≡ replicate count surrounding) }
     {
-        let settings = vec![in alloc; surrounding.around; 1]?;
+        let settings = lists_with(alloc, list_of(count) + 1, surrounding.around)?;
         let entries = vec![in alloc; Entry::new(0, surrounding); count as usize]?;
         Ok(Surroundings { entries, settings })
     }
@@ -81,7 +81,8 @@ impl Surroundings {
     {
         // Most nodes have the setting of the node above, or that of the part before.
         let outer = self.entries[surrounding.parent as usize].setting;
-        let setting = number_of(&mut self.settings, outer, surrounding.around)?;
+        let list = list_of(handle);
+        let setting = number_in(&mut self.settings, list, outer, surrounding.around)?;
         self.entries[handle as usize] = Entry::new(setting, surrounding);
         Ok(())
     }
@@ -100,12 +101,13 @@ impl Surroundings {
         ensures seen { surrounding_seen result ≡ surrounding_at (surroundings_seen self.now) handle }
     {
         let entry = self.entries[handle as usize];
+        let settings = &self.settings[list_of(handle)];
         Surrounding {
             parent: entry.parent,
             place: entry.place,
             want: entry.want,
             is_evaluated: entry.is_evaluated,
-            around: self.settings[entry.setting as usize],
+            around: settings[entry.setting as usize],
         }
     }
 }

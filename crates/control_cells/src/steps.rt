@@ -9,7 +9,7 @@ use crate::kind::ControlKind;
 use control_flow::{ContextNote, Step};
 
 /// At most two steps, in their order.
-#[derive(Clone, Copy, Debug, PartialEq, Eq)]
+#[derive(Clone, Copy)]
 pub enum Steps {
     Nothing,
     One(Step),

@@ -8,7 +8,7 @@ pub struct ContextNote {
 }
 
 /// What holds of all paths of a flow. Each number of a token is that of the step at which it stands.
-#[derive(Clone, Copy, Debug, PartialEq, Eq)]
+#[derive(Clone, Copy)]
 pub enum ContextAnswer {
     /// No path breaks a rule.
     Balanced,

@@ -2,7 +2,7 @@
 use sparse_model::Seq;
 
 /// A step of a path, with the index of the token at which it stands.
-#[derive(Clone, Copy, Debug, PartialEq, Eq)]
+#[derive(Clone, Copy)]
 pub enum Step {
     /// A point. The flag tells the moment before a loop's condition, and the leaving of a `return`, from
     /// all others; two points are one exactly where they are equal.

@@ -8,7 +8,7 @@ use Rattle.std.proofs.lemmas.Str.{digit_value_digit}
 use Rattle.std.proofs.lemmas.Str.Parse.{digit_from_value}
 use Rattle.std.specs.Str.Parse.{AllDigits, IsNumeral, digits_value, digits_value_after}
 use Rattle.std.specs.Char.{digit_value}
-use Rattle.flow_lines.specs.Shown.{shown_change}
+use Rattle.control_flow.specs.Shown.{shown_change}
 use Rattle.flows.specs.declared.wrong.Wrong.TheVariants.{LargeNumber, NoNumber}
 use Rattle.flows.specs.Reading.{Reads, Fails, behind_spaces, bounded, digits_from, is_digit, negative_at, number_at, positive_at, reads_on, signed_at}
 use Rattle.flows.specs.Lines.{begins_number}

@@ -7,7 +7,7 @@ use Rattle.meaning_paths.specs.Steps.{Step, Point, Add, Call, End}
 use Rattle.meaning_paths.specs.Graphs.{BasicBlock}
 use Rattle.control_flow.specs.declared.note.ContextNote.{ContextNote}
 use Rattle.control_flow.specs.Seen.{the_key}
-use Rattle.flow_lines.specs.Shown.{shown_block, shown_blocks, shown_blocks_behind, shown_change, shown_counts, shown_note, shown_numbers, shown_step, shown_steps, shown_steps_behind, shown_successors}
+use Rattle.control_flow.specs.Shown.{shown_block, shown_blocks, shown_blocks_behind, shown_change, shown_counts, shown_note, shown_numbers, shown_step, shown_steps, shown_steps_behind, shown_successors}
 use Rattle.flows.specs.declared.wrong.Wrong.TheVariants.{NoClosing, NoComma, NoStep}
 use Rattle.flows.specs.Reading.{Reading, Reads, Fails, behind_spaces, mark_at, number_at, reads_on, signed_at}
 use Rattle.flows.specs.Steps.{call_at, count_at, is_letter, step_at, step_with}

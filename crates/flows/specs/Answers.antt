@@ -1,13 +1,11 @@
 -- What is answered for a line, for a text of lines, and for a file.
-use Rattle.std.specs.Prelude.{◌≡◌, ℕ, ◌+◌, ◌-◌, ◌<◌, Option, Some, None, Result, Ok, Err, List, [], ◌∷◌, ◌++◌, length}
+use Rattle.std.specs.Prelude.{◌≡◌, ℕ, ◌+◌, ◌-◌, ◌<◌, Option, Some, None, List, [], ◌∷◌, ◌++◌, length}
 use Rattle.meaning_paths.specs.Graphs.{IsPathOf}
 use Rattle.meaning_paths.specs.ContextRules.{IsAnswer}
 use Rattle.control_flow.specs.declared.note.ContextAnswer.{ContextAnswer}
 use Rattle.control_flow.specs.Seen.{answer_of, the_key}
 use Rattle.flows.specs.declared.line.NoLine.{NoLine}
 use Rattle.flows.specs.declared.line.NoLine.TheVariants as no_line
-use Rattle.flows.specs.declared.text.NoAnswer.{NoAnswer}
-use Rattle.flows.specs.declared.text.NoAnswer.TheVariants as no_answer
 use Rattle.flows.specs.declared.wrong.Wrong.{Wrong}
 use Rattle.flows.specs.declared.wrong.Fault.{Fault}
 use Rattle.flows.specs.declared.wrong.Place.{Place}
@@ -81,9 +79,3 @@ pub data Shows : (number : ℕ) → (before text after : List ℕ) → Option Pl
       → stop ≡ Some (place_of number (first_line text) fault) → Shows number before text after stop
   goes : {number : ℕ} {before text after : List ℕ} {stop : Option Place} {answer : ContextAnswer} → 0 < length text → IsAnswerOf (first_line text) answer
       → Shows (number + 1) (before ++ shown_answer answer) (behind_line text) after stop → Shows number before text after stop
-
--- how the answers to a text end; want of memory alone is free
-abbrev pub EndsSo : (before text after : List ℕ) → Result Unit NoAnswer → Type 0
-EndsSo before text after (Ok done) = Shows 1 before text after None
-EndsSo before text after (Err (no_answer.Wrong place)) = Shows 1 before text after (Some place)
-EndsSo before text after (Err no_answer.NoMemory) = Unit {0}

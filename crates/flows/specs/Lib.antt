@@ -4,6 +4,5 @@ pub mod Lines
 pub mod Asked
 pub mod Shown
 pub mod Answers
-pub mod Stops
 pub mod Files
 pub mod Written

@@ -5,7 +5,7 @@ use Rattle.meaning_paths.specs.Steps.{Step, Point, Add, Call, End}
 use Rattle.meaning_paths.specs.Graphs.{BasicBlock}
 use Rattle.control_flow.specs.declared.note.ContextNote.{ContextNote}
 use Rattle.control_flow.specs.Seen.{the_key}
-use Rattle.flow_lines.specs.Shown.{shown_line}
+use Rattle.control_flow.specs.Shown.{shown_line}
 use Rattle.flows.specs.Reading.{Reads}
 use Rattle.flows.specs.Lines.{line_at, line_with}
 

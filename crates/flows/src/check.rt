@@ -2,7 +2,7 @@
 ghost use Rattle.std.specs.Prelude.{◌≡◌, ◌-◌, IfErr, IfNone, IfOk, None, Some, length, map};
 ghost use Rattle.meaning_paths.specs.Graphs.{size_of_steps};
 ghost use Rattle.control_flow.specs.Seen.{block_of, graph_of_blocks, step_of, targets};
-ghost use Rattle.flows.specs.Asked.{IsAsked, all_below, asked_fault, begins_with_point, block_fault, fault_from, is_point};
+ghost use Rattle.flows.specs.Asked.{IsAsked, all_below, asked_fault, begins_with_point, block_fault, fault_from};
 
 use crate::wrong::Wrong;
 use context_walk::left_of;
@@ -70,15 +70,10 @@ fn begins_with_point(steps: &[Step]) -> bool
     ensures { result ≡ begins_with_point (map step_of steps.now) }
 {
     match steps.split_first() {
-        Some((step, _)) => is_point(*step),
         None => true,
+        Some((Step::Point(_, _), _)) => true,
+        Some(_) => false,
     }
-}
-
-fn is_point(step: Step) -> bool
-    ensures { result ≡ is_point (step_of step) }
-{
-    matches!(step, Step::Point(_, _))
 }
 
 // All numbers are those of blocks.

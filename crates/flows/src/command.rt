@@ -5,8 +5,9 @@ ghost use Rattle.meaning_outside.specs.Files.{FileMap, file_at};
 ghost use Rattle.flows.specs.Shown.{shown_place, stop_text};
 ghost use Rattle.flows.specs.Files.{IsFileAnswered};
 
-use crate::text::{NoAnswer, push_answers, push_number};
+use crate::text::push_answers;
 use crate::wrong::Place;
+use control_flow::push_number;
 use sparse_outside::{Files, Load, load_leaves_buffer};
 use std::alloc::{AllocError, Global};
 
@@ -21,30 +22,6 @@ pub enum Stop {
     NoFile,
     ReadFault,
     NoMemory,
-}
-
-impl From<NoAnswer> for Stop {
-    ghost use Rattle.flows.specs.Stops.{IsStopOf};
-
-    ghost from_gives = { IsStopOf };
-
-    fn from(why: NoAnswer) -> Self {
-        match why {
-            NoAnswer::Wrong(place) => Stop::Wrong(place),
-            NoAnswer::NoMemory => Stop::NoMemory,
-        }
-    }
-}
-
-impl From<AllocError> for Stop {
-    ghost use Rattle.std.specs.Prelude.{◌≡◌};
-    ghost use Rattle.flows.specs.declared.command.Stop.TheVariants.{NoMemory};
-
-    ghost from_gives = { λ _ stop. stop ≡ NoMemory };
-
-    fn from(_error: AllocError) -> Self {
-        Stop::NoMemory
-    }
 }
 
 /// Appends the answers to the flows of the file at this path, a line each, up to the first line that has none.
@@ -64,10 +41,15 @@ pub fn flow_answers<F: Files>(
     load_leaves_buffer();
     let mut text = Vec::new(alloc);
     match files.load(path, MOST_BYTES, &mut text) {
-        Load::Whole => Ok(push_answers(shown, alloc, &text)?),
-        Load::Missing | Load::TooLong => Err(Stop::NoFile),
-        Load::Failed => Err(Stop::ReadFault),
-        Load::NoMemory => Err(Stop::NoMemory),
+        Load::Whole => {}
+        Load::Missing | Load::TooLong => return Err(Stop::NoFile),
+        Load::Failed => return Err(Stop::ReadFault),
+        Load::NoMemory => return Err(Stop::NoMemory),
+    }
+    match push_answers(shown, alloc, &text) {
+        Ok(None) => Ok(()),
+        Ok(Some(place)) => Err(Stop::Wrong(place)),
+        Err(_) => Err(Stop::NoMemory),
     }
 }
 
@@ -94,7 +76,8 @@ fn push_reason(text: &mut Vec<u8>, stop: Stop) -> Result<(), AllocError>
 fn push_place(text: &mut Vec<u8>, place: Place) -> Result<(), AllocError>
     ensures { OnOk result (text.new.items ≡ text.old.items ++ shown_place place) }
 {
-    push_number(text, b":", place.line as u64, b":")?;
-    push_number(text, b"", place.column as u64, b": ")?;
+    push_number(text, b":", place.line as u64)?;
+    push_number(text, b":", place.column as u64)?;
+    text.extend_from_slice(b": ")?;
     text.extend_from_slice(place.wrong.text())
 }

@@ -28,11 +28,10 @@ const STOPPED: u8 = 2;
 fn main(rt: HostRuntime) -> io::Result<ExitCode> {
     let mut args = env::args(&rt)?;
     args.next();
-    let (Some(path), None) = (args.next(), args.next()) else {
-        rt.stderr().write_all(b"usage: flows FILE\n")?;
-        return Ok(ExitCode::from(STOPPED));
-    };
-    answer_file(&rt, path.as_bytes())
+    match (args.next(), args.next()) {
+        (Some(path), None) => answer_file(&rt, path.as_bytes()),
+        _ => tell(&rt, b"usage: flows FILE\n"),
+    }
 }
 
 // Writes the answers of a file, and what stopped them.
@@ -49,6 +48,10 @@ fn answer_file(rt: &HostRuntime, path: &[u8]) -> io::Result<ExitCode> {
 fn tell_stop(rt: &HostRuntime, path: &[u8], stop: Stop) -> io::Result<ExitCode> {
     let mut told = Vec::new(rt.alloc());
     push_stop(&mut told, path, stop)?;
-    rt.stderr().write_all(told.as_slice())?;
+    tell(rt, told.as_slice())
+}
+
+fn tell(rt: &HostRuntime, text: &[u8]) -> io::Result<ExitCode> {
+    rt.stderr().write_all(text)?;
     Ok(ExitCode::from(STOPPED))
 }

@@ -25,13 +25,10 @@ pub(crate) fn behind_mark(text: &[u8], mark: u8, wrong: Wrong) -> Result<&[u8], 
     ensures fails { IfErr result (λ fault. mark_at mark wrong text.now ≡ Fails fault.wrong fault.left) }
     ensures shorter { IfOk result (λ rest. length rest.now < length text.now) }
 {
-    let Some((byte, others)) = text.split_first() else {
-        return Err(fault_at(text, wrong));
-    };
-    if *byte != mark {
-        return Err(fault_at(text, wrong));
+    match text.split_first() {
+        Some((byte, others)) if *byte == mark => Ok(others),
+        _ => Err(fault_at(text, wrong)),
     }
-    Ok(others)
 }
 
 /// A number in decimal that is at most so large.

@@ -1,42 +1,27 @@
 // The lines of a text to their answers, a line each.
-ghost use Rattle.std.specs.Prelude.{◌≡◌, ◌<◌, ◌≤◌, ◌+◌, ◌^◌, ◌++◌, IfErr, IfOk, OnOk, length};
+ghost use Rattle.std.specs.Prelude.{◌≡◌, ◌<◌, ◌≤◌, ◌+◌, ◌^◌, ◌++◌, IfErr, IfOk, OnOk, codes, length};
 ghost use Rattle.std.specs.Fmt.{decimal};
 ghost use Rattle.flows.specs.Shown.{shown_answer, shown_exit};
 ghost use Rattle.control_flow.specs.Seen.{graph_of};
 ghost use Rattle.flows.specs.Lines.{line_with};
-ghost use Rattle.flows.specs.Answers.{EndsSo, IsAnswerFor, IsAnswerOf, IsFaultFor, IsFaultOf, place_of};
+ghost use Rattle.flows.specs.Answers.{IsAnswerFor, IsAnswerOf, IsFaultFor, IsFaultOf, Shows, place_of};
 
 use crate::check::asked_fault;
 use crate::front::{from_block, split_at_byte};
 use crate::line::{NoLine, read_line};
 use crate::wrong::{Fault, Place, fault_at};
 use context_walk::{ContextAnswer, ContextNote, walk};
-use control_flow::{BlockList, Flow};
-use itoa::Buffer;
+use control_flow::{BlockList, Flow, push_count, push_number};
 use std::alloc::{AllocError, Global};
 
-/// Why a text is answered no further.
-#[derive(Clone, Copy)]
-pub(crate) enum NoAnswer {
-    Wrong(Place),
-    NoMemory,
-}
-
-impl From<AllocError> for NoAnswer {
-    ghost use Rattle.std.specs.Prelude.{◌≡◌};
-    ghost use Rattle.flows.specs.declared.text.NoAnswer.TheVariants.{NoMemory};
-
-    ghost from_gives = { λ _ no_answer. no_answer ≡ NoMemory };
-
-    fn from(_error: AllocError) -> Self {
-        NoAnswer::NoMemory
-    }
-}
-
-/// Appends the answers to the lines of a text, up to the first line that has none.
-pub(crate) fn push_answers(shown: &mut Vec<u8>, alloc: Global, text: &[u8]) -> Result<(), NoAnswer>
+/// Appends the answers to the lines of a text, up to the first line that has none, and gives the place of that one.
+pub(crate) fn push_answers(
+    shown: &mut Vec<u8>,
+    alloc: Global,
+    text: &[u8],
+) -> Result<Option<Place>, AllocError>
     requires { length text.now ≤ 2 ^ 30 }
-    ensures { EndsSo shown.old.items text.now shown.new.items result }
+    ensures { IfOk result (Shows 1 shown.old.items text.now shown.new.items) }
 {
     let mut rest = text;
     let mut number: usize = 1;
@@ -44,13 +29,13 @@ pub(crate) fn push_answers(shown: &mut Vec<u8>, alloc: Global, text: &[u8]) -> R
         let (line, others) = split_at_byte(rest, b'\n');
         match answer_line(alloc, line) {
             Ok(answer) => push_answer(shown, answer)?,
-            Err(NoLine::NoMemory) => return Err(NoAnswer::NoMemory),
-            Err(NoLine::Wrong(fault)) => return Err(NoAnswer::Wrong(place_of(number, line, fault))),
+            Err(NoLine::NoMemory) => return Err(AllocError),
+            Err(NoLine::Wrong(fault)) => return Ok(Some(place_of(number, line, fault))),
         }
         number += 1;
         rest = others;
     }
-    Ok(())
+    Ok(None)
 }
 
 fn place_of(number: usize, line: &[u8], fault: Fault) -> Place
@@ -98,34 +83,23 @@ fn push_answer(shown: &mut Vec<u8>, answer: ContextAnswer) -> Result<(), AllocEr
 {
     match answer {
         ContextAnswer::Balanced => shown.extend_from_slice(b"Balanced\n"),
-        ContextAnswer::Different(token) => {
-            push_number(shown, b"Different(", u64::from(token), b")\n")
-        }
-        ContextAnswer::Below(token) => push_number(shown, b"Below(", u64::from(token), b")\n"),
+        ContextAnswer::Different(token) => push_token(shown, b"Different(", token),
+        ContextAnswer::Below(token) => push_token(shown, b"Below(", token),
         ContextAnswer::WrongExit(token, found) => push_exit(shown, token, found),
     }
+}
+
+fn push_token(shown: &mut Vec<u8>, front: &[u8], token: u32) -> Result<(), AllocError>
+    ensures { OnOk result (shown.new.items ≡ shown.old.items ++ front.now ++ decimal token ++ codes ")\n") }
+{
+    push_number(shown, front, u64::from(token))?;
+    shown.extend_from_slice(b")\n")
 }
 
 fn push_exit(shown: &mut Vec<u8>, token: u32, found: i64) -> Result<(), AllocError>
     ensures { OnOk result (shown.new.items ≡ shown.old.items ++ shown_exit token found) }
 {
-    let mut buffer = Buffer::new();
-    push_number(shown, b"WrongExit(", u64::from(token), b", ")?;
-    shown.extend_from_slice(buffer.format(found).as_bytes())?;
+    push_number(shown, b"WrongExit(", u64::from(token))?;
+    push_count(shown, b", ", found)?;
     shown.extend_from_slice(b")\n")
-}
-
-/// Appends a number in decimal, between these texts.
-pub(crate) fn push_number(
-    text: &mut Vec<u8>,
-    front: &[u8],
-    number: u64,
-    back: &[u8],
-) -> Result<(), AllocError>
-    ensures { OnOk result (text.new.items ≡ text.old.items ++ front.now ++ decimal number ++ back.now) }
-{
-    let mut buffer = Buffer::new();
-    text.extend_from_slice(front)?;
-    text.extend_from_slice(buffer.format(number).as_bytes())?;
-    text.extend_from_slice(back)
 }

@@ -7,7 +7,7 @@ use Rattle.meaning_control.specs.Nodes.{JudgedUnit}
 use Rattle.meaning_contexts.specs.Failures.{declarator_of, sums_of, sums_or_none}
 use Rattle.control_flow.specs.declared.note.ContextNote.{ContextNote}
 use Rattle.linear_code.specs.Known.{note_of}
-use Rattle.flow_lines.specs.Shown.{shown_line}
+use Rattle.control_flow.specs.Shown.{shown_line}
 use Rattle.context_judge.specs.Kinds.{is_function_definition}
 use Rattle.lowered_flows.specs.Lines.{AppendsOne, AreLinesBefore, HasItsPaths, IsFunctionLine, IsLineOfKind, IsLineAt}
 

@@ -9,7 +9,7 @@ use Rattle.meaning_control.specs.Functions.{IsPathOfFunction}
 use Rattle.meaning_control.specs.Nodes.{JudgedUnit}
 use Rattle.meaning_contexts.specs.Failures.{sums_of}
 use Rattle.linear_code.specs.Known.{note_of}
-use Rattle.flow_lines.specs.Shown.{shown_line}
+use Rattle.control_flow.specs.Shown.{shown_line}
 
 -- A function
 

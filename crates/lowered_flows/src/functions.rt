@@ -11,8 +11,8 @@ ghost use Rattle.lowered_flows.specs.Lines.{AppendsOne, AreFlowLines, IsFunction
 
 use c_tree::{Handle, Unit};
 use context_judge::{has_body, is_function_definition, note_at};
+use control_flow::push_line;
 use decl_judge::{child_at, kind_at};
-use flow_lines::push_line;
 use judged_control::JudgedFacts;
 use linear_code::linearize;
 use std::alloc::{AllocError, Global};

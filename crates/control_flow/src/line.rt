@@ -1,12 +1,21 @@
-// A flow and the counts of its function.
+// A flow as a line of text: blocks and the counts of their function in, a line out in the notation that the program `flows` reads.
+//
+// Blocks stand behind one another from 0, parted by ` | `: steps, or `-` for none, then ` >` and the numbers of successors, if there
+// are some. `P5` is a point at token 5, `M5` one with the flag, `A5+1` a change, `C5(0,1)` a call with in 0 and out 1, `E5` an end.
+// Behind ` ; ` stand the counts to enter and to leave with: `P2 > 1 2 | P4 A4+1 > 2 | P9 E9 ; 0, 1`. How a line is read isn't known
+// here.
 ghost use Rattle.std.specs.Prelude.{◌≡◌, ◌++◌, OnOk, codes};
 ghost use Rattle.std.specs.Fmt.{signed_decimal};
 ghost use Rattle.control_flow.specs.Seen.{graph_of};
-ghost use Rattle.flow_lines.specs.Shown.{shown_line, shown_note};
+ghost use Rattle.control_flow.specs.Shown.{shown_line, shown_note};
 
-use crate::blocks::push_blocks;
+mod blocks;
+mod steps;
+
+use crate::flow::Flow;
+use crate::line::blocks::push_blocks;
+use crate::note::ContextNote;
 use crate::numbers::push_count;
-use control_flow::{ContextNote, Flow};
 use std::alloc::AllocError;
 
 /// Appends a flow, and the counts with which its function is entered and left, as they stand in a line. Tags of successors aren't

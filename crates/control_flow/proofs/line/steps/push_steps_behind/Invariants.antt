@@ -1,8 +1,8 @@
 -- What was appended, and the steps that are left, make up all.
 use Rattle.std.proofs.Common.{◌≡◌, ◌++◌, length, map}
 use Rattle.control_flow.specs.Seen.{step_of}
-use Rattle.flow_lines.specs.Shown.{shown_steps_behind}
-use Rattle.flow_lines.proofs.steps.push_steps_behind.Given as goal
+use Rattle.control_flow.specs.Shown.{shown_steps_behind}
+use Rattle.control_flow.proofs.line.steps.push_steps_behind.Given as goal
 
 abbrev pub invariant-steps : goal.invariant-steps
 invariant-steps l = l.text.items ++ shown_steps_behind (map step_of l.rest) ≡ l.fn.text.items ++ shown_steps_behind (map step_of l.steps)

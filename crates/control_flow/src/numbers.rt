@@ -1,7 +1,7 @@
 // Numbers in decimal, behind a mark.
 ghost use Rattle.std.specs.Prelude.{◌≡◌, ◌++◌, OnOk};
 ghost use Rattle.std.specs.Fmt.{decimal, signed_decimal};
-ghost use Rattle.flow_lines.specs.Shown.{shown_change};
+ghost use Rattle.control_flow.specs.Shown.{shown_change};
 
 use itoa::Buffer;
 use std::alloc::AllocError;

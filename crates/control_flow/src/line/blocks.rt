@@ -1,11 +1,11 @@
 // Blocks: their steps, and the numbers of their successors.
 ghost use Rattle.std.specs.Prelude.{◌≡◌, ◌++◌, OnOk, codes};
 ghost use Rattle.control_flow.specs.Seen.{block_of, graph_of_blocks, targets};
-ghost use Rattle.flow_lines.specs.Shown.{shown_block, shown_blocks, shown_blocks_behind, shown_numbers, shown_successors};
+ghost use Rattle.control_flow.specs.Shown.{shown_block, shown_blocks, shown_blocks_behind, shown_numbers, shown_successors};
 
+use crate::flow::Block;
+use crate::line::steps::push_steps;
 use crate::numbers::push_number;
-use crate::steps::push_steps;
-use control_flow::Block;
 use std::alloc::AllocError;
 use tag_list::TagList;
 

@@ -2,10 +2,10 @@
 ghost use Rattle.std.specs.Prelude.{◌≡◌, ◌++◌, OnOk, codes, map};
 ghost use Rattle.std.specs.Fmt.{decimal, signed_decimal};
 ghost use Rattle.control_flow.specs.Seen.{step_of};
-ghost use Rattle.flow_lines.specs.Shown.{shown_counts, shown_step, shown_steps, shown_steps_behind};
+ghost use Rattle.control_flow.specs.Shown.{shown_counts, shown_step, shown_steps, shown_steps_behind};
 
 use crate::numbers::{push_change, push_count, push_number};
-use control_flow::Step;
+use crate::step::Step;
 use std::alloc::AllocError;
 
 fn push_counts(text: &mut Vec<u8>, enters: i64, leaves: i64) -> Result<(), AllocError>

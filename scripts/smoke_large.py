@@ -11,6 +11,7 @@ import tempfile
 from typing import NamedTuple
 
 import bench_contexts
+import bench_texts
 from bench_flows import back_to_first, cases, row
 
 # How many blocks a long flow has, and how many successors a wide one.
@@ -103,6 +104,30 @@ READ_CHAINS = (
     Read("char x[] = ", '"" ', 500_000, '"";'),
 )
 ENUMERATORS = "enum {" + "".join(f" e{number}," for number in range(500_000)) + " };"
+
+# Declarations that are many or wide, what ends them, and what ends them else and is refused: the column within that, and what is told.
+WIDE = (
+    ("members, each used", bench_texts.used_members(100_000)[:-1], "}", "x.n; }", 2, "error[67]: no such member 'n'"),
+    ("structures that point to the one before", bench_texts.structures_of_pointers(100_000), "", "struct s0 k;", 11, "error[70]: incomplete type"),
+    ("types of functions of the one before", bench_texts.typedefs_of_functions(240_000), "", "typedef int t0;", 13, "error[101]: typedef 't0' has another type"),
+)
+
+# One name is declared so often with one type, and as often with another one.
+REDECLARATIONS = 50_000
+BOTH_TYPES = (("extern int *p; ", "int *"), ("extern char *p; ", "char *"))
+
+
+def redeclared():
+    """The text of such declarations, and what is told: each but the first differs from an earlier one of the other type."""
+    told, column = [], 1
+    for number in range(2 * REDECLARATIONS):
+        part, type_ = BOTH_TYPES[number % 2]
+        place = f"t.c:1:{column + part.index('p;')}:"
+        lines = ("warning: symbol 'p' redeclared with different type", f"   expected {BOTH_TYPES[1 - number % 2][1]}", f"   got {type_}")
+        told += [f"{place} {line}\n" for line in lines] if number else []
+        column += len(part)
+    return "".join(part for part, _ in BOTH_TYPES) * REDECLARATIONS, "".join(told)
+
 
 # A unit of 499,996 statements of four tokens each: what stands between its first object and its function, which have four and seven
 # more, what stands behind the statements, and the answer. The limit goes before a rule that fails and before a syntax error.
@@ -262,7 +287,7 @@ def differs(name, command, path, text, expected):
     with tempfile.TemporaryDirectory() as folder:
         with open(os.path.join(folder, path), "w", encoding="utf-8") as file:
             file.write(text)
-        ran = subprocess.run(command, cwd=folder, capture_output=True, text=True, timeout=60, check=False)
+        ran = subprocess.run(command, cwd=folder, capture_output=True, text=True, timeout=120, check=False)
     got = (ran.stdout, ran.stderr, ran.returncode)
     if got == expected:
         return False
@@ -311,6 +336,21 @@ def chains_differ(ksparse):
     return sum(differs(it.name, [ksparse, *it.words, "t.c"], "t.c", it.text(), ("", it.told(), it.status())) for it in CHAINS)
 
 
+def declarations_differ(ksparse):
+    """How many declarations that are many or wide are judged otherwise."""
+
+    def check_differs(name, text, answer):
+        return differs(name, [ksparse, "t.c"], "t.c", text, ("", *answer))
+
+    text, told = redeclared()
+    failures = check_differs("redeclarations", text, (told, 1))
+    for name, text, end, failing, column, told in WIDE:
+        text = text.decode()
+        failures += check_differs(name, text + end, SILENT)
+        failures += check_differs(f"{name}, and what is refused", text + failing, (f"t.c:1:{len(text) + column}: {told}\n", 2))
+    return failures
+
+
 def contexts_differ(ksparse):
     """How many functions with contexts are judged otherwise, each kind as large as it is measured: silent, and with one more that fails.
     Where each part doubles what is passed, memory is wanting at once."""
@@ -329,6 +369,7 @@ def contexts_differ(ksparse):
 def main():
     flows, workbench, ksparse = map(os.path.abspath, sys.argv[1:])
     failures = flows_differ(flows) + workbench_differs(workbench) + checks_differ(ksparse) + chains_differ(ksparse) + contexts_differ(ksparse)
+    failures += declarations_differ(ksparse)
     print(f"smoke: {failures} differences in large texts")
     return 1 if failures else 0
 

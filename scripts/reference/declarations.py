@@ -44,6 +44,14 @@ class Carried(NamedTuple):
     noreturn: bool
 
 
+class Linked(NamedTuple):
+    """A declaration of a name with linkage: its type, the one with which later declarations are told it, and what it carries."""
+
+    type: Type
+    told: Type
+    carried: Carried
+
+
 class Attributes(NamedTuple):
     """What some attribute lists come to."""
 
@@ -554,10 +562,12 @@ class Declarations(Initializing):
             of = self.found.refuses(10, declarator.at)
         self.declare_object(node, specifiers, declarator, of, is_file)
         earlier = self.linked.setdefault(declarator.name, []) if is_linked else []
-        number = len(earlier)
-        earlier += [(of, carried)] if of is not None else []
+        number, is_open = len(earlier), of is not None and not types.is_complete(of)
+        if is_linked and of is not None:
+            if not is_open:
+                self.is_told_again(declarator, of, carried)
+            earlier.append(Linked(of, of, carried))
         values = self.judges(initializer, is_evaluated)
-        del earlier[number : number + 1]
         if is_linked and not is_file:
             self.found.refuses(38, initializer.at)
         elif of is not None:
@@ -565,7 +575,10 @@ class Declarations(Initializing):
             self.declared[declarator.at] = self.declared[declarator.at]._replace(type=of)
         if is_linked and of is not None:
             self.define(declarator)
-            self.link(declarator, of, carried)
+            if is_open:
+                self.is_told_again(declarator, of, carried)
+            earlier[number] = earlier[number]._replace(told=of)
+            earlier.append(Linked(of, of, Carried(None, False)))
 
     def completed(self, declarator, of, initializer, values, is_static):
         """The type of an object behind its initializer."""
@@ -613,20 +626,24 @@ class Declarations(Initializing):
 
     def link(self, declarator, of, carried):
         """A name with linkage is declared, perhaps again."""
-        earlier = self.linked.setdefault(declarator.name, [])
-        other = next((each for each, its in earlier if not types.agree(each, of) or differ(its.sums, carried.sums)), None)
+        self.is_told_again(declarator, of, carried)
+        self.linked.setdefault(declarator.name, []).append(Linked(of, of, carried))
+
+    def is_told_again(self, declarator, of, carried):
+        """Rule A7: the first earlier declaration that differs is told with the length that its initializer says, once that is known."""
+        earlier = self.linked.get(declarator.name, [])
+        other = next((each for each in earlier if not types.agree(each.type, of) or differ(each.carried.sums, carried.sums)), None)
         if other is not None:
-            self.found.fails("A7", declarator.at, other, of, word=declarator.name)
-        earlier.append((of, carried))
+            self.found.fails("A7", declarator.at, other.told, of, word=declarator.name)
 
     def carried(self, name):
         """What the declarations of a name with linkage carry, wherever they stand: the contexts of the first that has some."""
-        each = [its for _, its in self.linked[name]]
+        each = [one.carried for one in self.linked[name]]
         return Carried(next((its.sums for its in each if its.sums is not None), None), any(its.noreturn for its in each))
 
     def type_of_linked(self, name):
         """The type of the first declaration so far that is known, with a length that a later one has."""
-        first, *later = [each for each, _ in self.linked[name]]
+        first, *later = [one.type for one in self.linked[name]]
         if first.form != "array" or first.length is not None:
             return first
         lengths = [each.length for each in later if each.form == "array" and types.agree(first, each)]

@@ -1,5 +1,6 @@
 pub mod KeptLemmas
 pub mod LinkedLemmas
+pub mod BehindLemmas
 pub mod AgainLemmas
 pub mod RowLemmas
 pub mod DeclarationLemmas

@@ -1,9 +1,11 @@
 -- Declarations among what is kept of nodes are those that the definitions find among facts.
 use Rattle.std.proofs.Common.{◌≡◌, ℕ, ◌+◌, Bool, true, false, ◌&&◌, not, nat_eq, bytes_eq, List, [], ◌∷◌, ◌++◌, All, Option, Some, None, if◌then◌else◌, option_map, refl, sym, ap, subst, ◌∙◌}
+use Rattle.std.specs.Option.{option_and_then}
 use Rattle.std.proofs.lemmas.List.Elements.{All-append, All-cons, All-head, All-nil, All-tail}
 use Rattle.sparse_model.specs.declared.ids.NameId.{NameId}
 use Rattle.sparse_model.specs.declared.ids.TypeId.{TypeId}
-use Rattle.meaning_typing.specs.ContextSums.{LinkedDeclaration, contexts_of, declarations_with, first_differing, linked_from, redeclared_otherwise}
+use Rattle.meaning_types.specs.Types.{TypeTree}
+use Rattle.meaning_typing.specs.ContextSums.{LinkedDeclaration, contexts_of, declarations_with, first_differing, linked_from, linked_nodes, nodes_with, redeclared_otherwise, told_type}
 use Rattle.meaning_typing.specs.ContextSums as meaning
 use Rattle.meaning_typing.specs.Names.{before_types, first_typedef, is_typedef_in, links_name, linked_types, redeclared, type_if}
 use Rattle.meaning_typing.specs.Surroundings.{Surrounding}
@@ -15,7 +17,7 @@ use Rattle.linked_names.specs.declared.declaration.Declared.{Declared}
 use Rattle.linked_names.specs.declared.declaration.Linked.{Linked}
 use Rattle.linked_names.specs.declared.declaration.Typedef.{Typedef}
 use Rattle.linked_names.specs.declared.sums.ContextSums.{ContextSums}
-use Rattle.linked_names.specs.Contexts.{declaration_of, declarations_of, sums_of}
+use Rattle.linked_names.specs.Contexts.{declaration_of, declarations_of, nodes_declaring, sums_of}
 use Rattle.linked_names.specs.Linked.{types_of}
 use Rattle.linked_names.specs.Typedefs.{AreTypedefIds, first_of}
 use Rattle.node_facts.specs.declared.declared.DeclaredFact.{DeclaredFact}
@@ -67,22 +69,22 @@ sums-kept (Some sums) = refl
 pub declared_is :
     (nodes : UnitNodes) (handle : ℕ) (surrounding : Surrounding) (declaration : DeclaredFact) (sums : Option ContextSums) → declaration.has_linkage ≡ true
     → option_map sums_of sums ≡ contexts_of nodes handle surrounding
-    → record { name = declaration.name; of = declaration.of; contexts = sums } ∷ [] ≡ declared_of nodes handle surrounding (facts.Declared declaration)
+    → record { node = handle; name = declaration.name; of = declaration.of; contexts = sums } ∷ [] ≡ declared_of nodes handle surrounding (facts.Declared declaration)
 declared_is nodes handle surrounding declaration sums links carries =
-    let one : Option ContextSums → Declared = λ contexts. record { name = declaration.name; of = declaration.of; contexts = contexts } in
+    let one : Option ContextSums → Declared = λ contexts. record { node = handle; name = declaration.name; of = declaration.of; contexts = contexts } in
     ap (λ contexts. one contexts ∷ []) (sym (sums-kept sums) ∙ ap (option_map sums_kept) carries)
     ∙ ap (λ test. only_if test (one (option_map sums_kept (contexts_of nodes handle surrounding)))) (sym links)
 
 module _ (table : TypeTable) (name : NameId) (nodes : UnitNodes) where
-  one-declared : (declaration : DeclaredFact) (sums : Option meaning.ContextSums) (has_linkage : Bool) (others : List Declared)
+  one-declared : (node : ℕ) (declaration : DeclaredFact) (sums : Option meaning.ContextSums) (has_linkage : Bool) (others : List Declared)
       → declarations_with (has_linkage && bytes_eq (name_seen declaration.name) (name_seen name))
       (record { type_ = type_at table declaration.of; contexts = sums }) (declarations_of table name others)
       ≡ declarations_of table name
-      (only_if has_linkage (record { name = declaration.name; of = declaration.of; contexts = option_map sums_kept sums }) ++ others)
-  one-declared declaration sums true others =
+      (only_if has_linkage (record { node = node; name = declaration.name; of = declaration.of; contexts = option_map sums_kept sums }) ++ others)
+  one-declared node declaration sums true others =
       λ i. declarations_with (name_same declaration.name name i)
       (record { type_ = type_at table declaration.of; contexts = sym (sums-same sums) i }) (declarations_of table name others)
-  one-declared declaration sums false others = refl
+  one-declared node declaration sums false others = refl
 
   declared-are : (first : ℕ) (surroundings : List Surrounding) (kept : List NodeFact)
       → linked_from nodes (name_seen name) first surroundings (nodes_seen table kept)
@@ -97,8 +99,35 @@ module _ (table : TypeTable) (name : NameId) (nodes : UnitNodes) where
       (declarations_with (links_name (name_seen name) (declared_seen table declaration))
       (record { type_ = type_at table declaration.of; contexts = contexts_of nodes first surrounding }))
       (declared-are (first + 1) surroundings kept)
-      ∙ one-declared declaration (contexts_of nodes first surrounding) declaration.has_linkage (said_by (declared_of nodes) (first + 1) surroundings kept)
+      ∙ one-declared first declaration (contexts_of nodes first surrounding) declaration.has_linkage (said_by (declared_of nodes) (first + 1) surroundings kept)
   declared-are first (surrounding ∷ surroundings) (facts.NamedType of ∷ kept) = declared-are (first + 1) surroundings kept
+
+  -- the nodes that declare them
+  one-node : (declared : Declared) (has_linkage : Bool) (others : List Declared)
+      → nodes_with (has_linkage && bytes_eq (name_seen declared.name) (name_seen name)) declared.node (nodes_declaring name others)
+      ≡ nodes_declaring name (only_if has_linkage declared ++ others)
+  one-node declared true others = ap (λ same. nodes_with same declared.node (nodes_declaring name others)) (name_same declared.name name)
+  one-node declared false others = refl
+
+  nodes-are : (first : ℕ) (surroundings : List Surrounding) (kept : List NodeFact)
+      → linked_nodes (name_seen name) first surroundings (nodes_seen table kept)
+      ≡ nodes_declaring name (said_by (declared_of nodes) first surroundings kept)
+  nodes-are first [] kept = refl
+  nodes-are first (surrounding ∷ surroundings) [] = refl
+  nodes-are first (surrounding ∷ surroundings) (facts.Unknown ∷ kept) = nodes-are (first + 1) surroundings kept
+  nodes-are first (surrounding ∷ surroundings) (facts.Expression expression ∷ kept) = nodes-are (first + 1) surroundings kept
+  nodes-are first (surrounding ∷ surroundings) (facts.Specified specifiers ∷ kept) = nodes-are (first + 1) surroundings kept
+  nodes-are first (surrounding ∷ surroundings) (facts.Declared declaration ∷ kept) =
+      ap (nodes_with (links_name (name_seen name) (declared_seen table declaration)) first) (nodes-are (first + 1) surroundings kept)
+      ∙ one-node
+      (record {
+        node = first;
+        name = declaration.name;
+        of = declaration.of;
+        contexts = option_map sums_kept (contexts_of nodes first surrounding);
+      })
+      declaration.has_linkage (said_by (declared_of nodes) (first + 1) surroundings kept)
+  nodes-are first (surrounding ∷ surroundings) (facts.NamedType of ∷ kept) = nodes-are (first + 1) surroundings kept
 
 module _ (nodes : UnitNodes) (surroundings : List Surrounding) (kept : Declarations) (is : IsKeptOf nodes surroundings kept) where
   -- those of a name
@@ -106,22 +135,30 @@ module _ (nodes : UnitNodes) (surroundings : List Surrounding) (kept : Declarati
       → declarations_of kept.types name kept.contexts.declarations ≡ linked_from nodes (name_seen name) 0 surroundings (facts_seen kept)
   declarations-are name = ap (declarations_of kept.types name) is.contexts ∙ sym (declared-are kept.types name nodes 0 surroundings kept.facts)
 
+  nodes_declaring-are : (name : NameId) → nodes_declaring name kept.contexts.declarations ≡ linked_nodes (name_seen name) 0 surroundings (facts_seen kept)
+  nodes_declaring-are name = ap (nodes_declaring name) is.contexts ∙ sym (nodes-are kept.types name nodes 0 surroundings kept.facts)
+
   -- the failure of a declaration with linkage
   pub otherwise_told :
       (declaration : DeclaredFact) (handle token : ℕ) (surrounding : Surrounding) (sums : Option ContextSums) (earlier : Option TypeId)
       → declaration.has_linkage ≡ true → token ≡ (node_at nodes handle).token → option_map sums_of sums ≡ contexts_of nodes handle surrounding
       → option_map (type_at kept.types) earlier
-      ≡ first_differing (declaration_of kept.types declaration.of sums) (declarations_of kept.types declaration.name kept.contexts.declarations)
+      ≡ option_and_then (told_type nodes surroundings (facts_seen kept))
+      (first_differing (declaration_of kept.types declaration.of sums) (nodes_declaring declaration.name kept.contexts.declarations)
+      (declarations_of kept.types declaration.name kept.contexts.declarations))
       → redeclared token (declared_seen kept.types declaration) (option_map (type_at kept.types) earlier)
       ≡ redeclared_otherwise nodes surroundings (facts_seen kept) handle surrounding (declared_seen kept.types declaration)
   otherwise_told declaration handle token surrounding sums earlier links stands carries differs =
       let meant = declared_seen kept.types declaration in
       let own : Option meaning.ContextSums → LinkedDeclaration = λ contexts. record { type_ = meant.type_; contexts = contexts } in
+      let first : Option meaning.ContextSums → (of_name : List ℕ) → List LinkedDeclaration → Option TypeTree =
+      λ contexts of_name earlier. option_and_then (told_type nodes surroundings (facts_seen kept)) (first_differing (own contexts) of_name earlier) in
       let failures =
       redeclared (node_at nodes handle).token meant
-      (first_differing (own (contexts_of nodes handle surrounding)) (linked_from nodes meant.name 0 surroundings (facts_seen kept))) in
+      (first (contexts_of nodes handle surrounding) (linked_nodes meant.name 0 surroundings (facts_seen kept))
+      (linked_from nodes meant.name 0 surroundings (facts_seen kept))) in
       ap (redeclared token meant) differs
-      ∙ (λ i. redeclared (stands i) meant (first_differing (own (carries i)) (declarations-are declaration.name i)))
+      ∙ (λ i. redeclared (stands i) meant (first (carries i) (nodes_declaring-are declaration.name i) (declarations-are declaration.name i)))
       ∙ ap (λ test. if test then failures else []) (sym links)
 
 -- Typedefs

@@ -47,7 +47,7 @@ sums_kept sums = record { enters = sums.enters; leaves = sums.leaves }
 abbrev pub declared_of : UnitNodes → (handle : ℕ) → Surrounding → NodeFact → List Declared
 declared_of nodes handle surrounding (facts.Declared declaration) =
     only_if declaration.has_linkage
-    (record { name = declaration.name; of = declaration.of; contexts = option_map sums_kept (contexts_of nodes handle surrounding) })
+    (record { node = handle; name = declaration.name; of = declaration.of; contexts = option_map sums_kept (contexts_of nodes handle surrounding) })
 declared_of nodes handle surrounding fact = []
 
 -- in order

@@ -93,6 +93,7 @@ fn differing(
     declaration: DeclaredFact,
 ) -> Result<Option<Failure>, AllocError>
     requires whole { unit.now.first ≡ 0 }
+    requires surroundings { length surroundings.now ≡ length unit.now.nodes }
     requires kept { IsKeptOf (nodes_of unit.now) (surroundings_seen surroundings.now) kept.now }
     requires of { IsTypeId kept.now.types declaration.of }
     ensures listed { IfOk result (λ failure. failure_listed kept.now.types failure ≡ meaning.differing_failures (nodes_of unit.now) (surroundings_seen surroundings.now) (facts_seen kept.now) handle (surrounding_seen surrounding) (declared_seen kept.now.types declaration)) }

@@ -70,7 +70,7 @@ fn carry_declaration(
         return Ok(());
     }
     let sums = contexts_of(unit, handle, surrounding.parent, surrounding.place)?;
-    contexts.declare(types, declaration.name, declaration.of, sums)
+    contexts.declare(types, handle, declaration.name, declaration.of, sums)
 }
 
 /// Keeps what is known of the node with this handle, which stands so, among the declarations with linkage and their contexts, if it

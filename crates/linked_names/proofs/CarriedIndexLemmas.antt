@@ -1,5 +1,5 @@
 -- The map keeps what belongs to the declarations with contexts, once one more has joined.
-use Rattle.std.proofs.Common.{◌≡◌, Bool, true, false, nat_eq, List, [], ◌∷◌, ◌++◌, Option, Some, None, IfSome, cond, option_map, refl, sym, ap, ◌∙◌, subst}
+use Rattle.std.proofs.Common.{◌≡◌, ℕ, Bool, true, false, nat_eq, List, [], ◌∷◌, ◌++◌, Option, Some, None, IfSome, cond, option_map, refl, sym, ap, ◌∙◌, subst}
 use Rattle.std.specs.List.{AllByRecursion}
 use Rattle.std.proofs.lemmas.Bool.{eqb-true}
 use Rattle.std.proofs.lemmas.List.{append-nil}
@@ -67,7 +67,7 @@ declarations_of-more table name (declaration ∷ declarations) next =
     ∙ sym (before-more (nat_eq declaration.name.0 name.0) (declaration_of table declaration.of declaration.contexts) (declarations_of table name declarations) _)
 
 module _ (over old new : TypeTable) (declarations : List Declared) (found later : NameId → Option Carried) (index : IsCarriedIndex over declarations found)
-    (before : Extends over old) (extends : Extends old new) (name : NameId) (of : TypeId) (contexts : Option ContextSums) (known : IsTypeId old of) (more : Carried)
+    (before : Extends over old) (extends : Extends old new) (node : ℕ) (name : NameId) (of : TypeId) (contexts : Option ContextSums) (known : IsTypeId old of) (more : Carried)
     (ids : AreCarriedIds new more) (kept : (types : List LinkedDeclaration) → AreCarriedKept old types (found name) → IsCarried new (types ++ declaration_of new of contexts ∷ []) more)
     (updates : (other : NameId) → later other ≡ cond (same_key name other) (Some more) (found other)) where
   abbrev all : Extends over new
@@ -91,13 +91,13 @@ module _ (over old new : TypeTable) (declarations : List Declared) (found later 
       subst (λ (types : List LinkedDeclaration). AreCarriedKept new types (found other)) (sym (append-nil _ ∙ declarations_of-later over new all other declarations index.known))
       (carried_kept-later over new all (declarations_of over other declarations) (found other) (index.ids other) (index.kept other))
 
-  pub carried_index-more : IsCarriedIndex new (declarations ++ record { name = name; of = of; contexts = contexts } ∷ []) later
+  pub carried_index-more : IsCarriedIndex new (declarations ++ record { node = node; name = name; of = of; contexts = contexts } ∷ []) later
   carried_index-more =
       record {
         known = known-push new declarations _ (declared-later over new all declarations index.known) (id-later old new extends of known);
         ids = λ other. subst (λ one. IfSome one (AreCarriedIds new)) (sym (updates other)) (ids_by other (same_key name other));
         kept = λ other.
-            subst (λ one. AreCarriedKept new (declarations_of new other (declarations ++ record { name = name; of = of; contexts = contexts } ∷ [])) one) (sym (updates other))
-            (subst (λ types. AreCarriedKept new types (cond (same_key name other) (Some more) (found other))) (sym (declarations_of-more new other declarations (record { name = name; of = of; contexts = contexts })))
+            subst (λ one. AreCarriedKept new (declarations_of new other (declarations ++ record { node = node; name = name; of = of; contexts = contexts } ∷ [])) one) (sym (updates other))
+            (subst (λ types. AreCarriedKept new types (cond (same_key name other) (Some more) (found other))) (sym (declarations_of-more new other declarations (record { node = node; name = name; of = of; contexts = contexts })))
             (kept_by other (nat_eq name.0 other.0) refl));
       }

@@ -3,9 +3,9 @@ use Rattle.std.proofs.Common.{◌≡◌, Bool, true, false, List, [], ◌∷◌,
 use Rattle.std.proofs.lemmas.List.{length-map}
 use Rattle.sparse_model.specs.declared.ids.TypeId.{TypeId}
 use Rattle.meaning_types.specs.Types.{TypeTree}
-use Rattle.meaning_typing.specs.ContextSums.{LinkedDeclaration, first_differing}
+use Rattle.meaning_typing.specs.ContextSums.{LinkedDeclaration, differs_from}
 use Rattle.c_types.specs.Table.{TypeTable, Extends, IsTypeId, type_at}
-use Rattle.linked_names.specs.Contexts.{AreCarriedIds, AreCarriedKept, AreCarriers, IsCarried, are_other_sums, carriers_with, declaration_of, differing_placed, first_carrier_with, no_carriers, other_carrier, other_than, placed_unlike, second_carrier_with, types_declared}
+use Rattle.linked_names.specs.Contexts.{AreCarriedIds, AreCarriedKept, AreCarriers, IsCarried, are_other_sums, carriers_with, declaration_of, differing_placed, first_carrier_with, first_where, no_carriers, other_carrier, other_than, placed_unlike, second_carrier_with, types_declared}
 use Rattle.linked_names.specs.Forms.{have_one_form, is_open_array}
 use Rattle.linked_names.specs.Kept.{AreDeclarations, AreIds}
 use Rattle.linked_names.specs.Witnesses.{AreWitnessIds, AreWitnesses, IsPlacedId, PlacedType, earlier_of, first_passing, placed_in, unlike_in_group}
@@ -38,49 +38,20 @@ module _ (table : TypeTable) where
       by false form = placed_of_another table types witnesses are of form first
 
   pub carried-told : (list : List LinkedDeclaration) (carried : Carried) → IsCarried table list carried → (of : TypeId) (contexts : Option ContextSums)
-      → option_map (type_at table) (option_map (λ placed. placed.of) (differing_placed table carried of contexts)) ≡ first_differing (declaration_of table of contexts) list
+      → option_map (λ (placed : Placed). placed.place) (differing_placed table carried of contexts)
+      ≡ option_map (λ (found : PlacedType). found.place) (first_where (differs_from (declaration_of table of contexts)) 0 list)
   carried-told list carried is of contexts =
-      type-placed table (differing_placed table carried of contexts)
-      ∙ ap (option_map (λ (one : PlacedType). one.type_))
+      place-placed (differing_placed table carried of contexts)
+      ∙ ap (option_map (λ (one : PlacedType). one.place))
       (earlier-placed table (placed_unlike table carried.declarations.witnesses of) (other_carrier carried.carriers contexts)
       ∙ ap₂ earlier_type
       (unlike-placed (types_declared list) carried.declarations.witnesses is.declarations.witnesses is.declarations.first of)
-      (carriers-told table list carried.carriers is.carriers contexts))
-      ∙ sym (differing-earlier (declaration_of table of contexts) list)
-
-  -- what is told is a type of the table
-  placed-known : (witnesses : Witnesses) (of : TypeId) → AreWitnessIds table witnesses → IsPlacedId table (placed_unlike table witnesses of)
-  placed-known witnesses of are = by (have_one_form (type_at table witnesses.first) (type_at table of)) (is_open_array (type_at table of))
+      (carriers-told table list carried.carriers is.carriers contexts)
+      ∙ sym (differing-earlier (declaration_of table of contexts) list))
     where
-      told : (is_open : Bool) → IsPlacedId table (unlike_in_group table (if is_open then witnesses.open_arrays else witnesses.others) (type_at table of))
-      told true = unlike_in-known table witnesses.open_arrays.first witnesses.open_arrays.second (type_at table of) are.open_arrays.first are.open_arrays.second
-      told false = unlike_in-known table witnesses.others.first witnesses.others.second (type_at table of) are.others.first are.others.second
-
-      by : (form is_open : Bool)
-          → IsPlacedId table
-          (if form
-          then earlier_of witnesses.foreign (unlike_in_group table (if is_open then witnesses.open_arrays else witnesses.others) (type_at table of))
-          else Some (record { place = 0; of = witnesses.first }))
-      by true is_open = earlier-known table witnesses.foreign _ are.foreign (told is_open)
-      by false is_open = are.first
-
-  other-known : (first : Option Carrier) (second : Option Placed) (sums : Option ContextSums) → IsPlacedId table (option_map (λ carrier. carrier.placed) first) → IsPlacedId table second
-      → IsPlacedId table (other_than first second sums)
-  other-known None second sums is is_second = tt
-  other-known (Some first) second None is is_second = tt
-  other-known (Some first) second (Some sums) is is_second = by (are_other_sums first.sums sums)
-    where
-      by : (test : Bool) → IsPlacedId table (if test then Some first.placed else second)
-      by true = is
-      by false = is_second
-
-  pub carried-known : (carried : Carried) (of : TypeId) (contexts : Option ContextSums) → AreCarriedIds table carried
-      → IfSome (option_map (λ placed. placed.of) (differing_placed table carried of contexts)) (IsTypeId table)
-  carried-known carried of contexts ids =
-      type-known table (differing_placed table carried of contexts)
-      (earlier-known table (placed_unlike table carried.declarations.witnesses of) (other_carrier carried.carriers contexts)
-      (placed-known carried.declarations.witnesses of ids.declarations.witnesses)
-      (other-known carried.carriers.first carried.carriers.second contexts ids.first ids.second))
+      place-placed : (placed : Option Placed) → option_map (λ (one : Placed). one.place) placed ≡ option_map (λ (one : PlacedType). one.place) (option_map (placed_in table) placed)
+      place-placed None = refl
+      place-placed (Some placed) = refl
 
 -- Where the table grows
 

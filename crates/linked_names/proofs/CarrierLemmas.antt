@@ -5,7 +5,7 @@ use Rattle.std.proofs.lemmas.Bool.{eqb-true, false≢true, le-leb, lt-leb}
 use Rattle.std.proofs.lemmas.Option.{none-some, same_Some}
 use Rattle.meaning_types.specs.Types.{TypeTree}
 use Rattle.meaning_types.specs.Composite.{composite}
-use Rattle.meaning_typing.specs.ContextSums.{LinkedDeclaration, differs_from, first_contexts, first_differing, have_other_sums, option_sums}
+use Rattle.meaning_typing.specs.ContextSums.{LinkedDeclaration, differs_from, first_contexts, have_other_sums, option_sums}
 use Rattle.meaning_typing.specs.ContextSums as meaning
 use Rattle.c_types.specs.Table.{TypeTable, type_at}
 use Rattle.linked_names.specs.Contexts.{AreCarriers, are_other_sums, carriers_with, declaration_of, first_where, first_carrier_with, has_contexts, has_others, no_carriers, other_carrier, other_than, second_carrier_with, sums_of, types_declared}
@@ -100,26 +100,13 @@ where-types type_ place (declaration ∷ list) =
     ap₂ (λ passes others. if passes then Some (record { place = place; type_ = declaration.type_ }) else others)
     (none-not_some (composite declaration.type_ type_)) (where-types type_ (place + 1) list)
 
-differing-where : (declaration : LinkedDeclaration) (place : ℕ) (list : List LinkedDeclaration)
-    → first_differing declaration list ≡ option_map (λ found. found.type_) (first_where (differs_from declaration) place list)
-differing-where declaration place [] = refl
-differing-where declaration place (earlier ∷ list) = by (differs_from declaration earlier) (differing-where declaration (place + 1) list)
-  where
-    by : (differs : Bool) → first_differing declaration list ≡ option_map (λ found. found.type_) (first_where (differs_from declaration) (place + 1) list)
-        → (if differs then Some earlier.type_ else first_differing declaration list)
-        ≡ option_map (λ found. found.type_) (if differs then Some (record { place = place; type_ = earlier.type_ }) else first_where (differs_from declaration) (place + 1) list)
-    by true later = refl
-    by false later = later
-
 -- it is the first whose type disagrees, or the first with other contexts
 pub differing-earlier : (declaration : LinkedDeclaration) (list : List LinkedDeclaration)
-    → first_differing declaration list
-    ≡ option_map (λ found. found.type_) (earlier_type (first_passing (disagrees declaration.type_) 0 (types_declared list)) (first_where (has_others declaration.contexts) 0 list))
+    → first_where (differs_from declaration) 0 list
+    ≡ earlier_type (first_passing (disagrees declaration.type_) 0 (types_declared list)) (first_where (has_others declaration.contexts) 0 list)
 differing-earlier declaration list =
-    differing-where declaration 0 list
-    ∙ ap (option_map (λ (found : PlacedType). found.type_))
-    (where-either (λ earlier. is_none (composite earlier.type_ declaration.type_)) (has_others declaration.contexts) 0 list
-    ∙ ap (λ found. earlier_type found (first_where (has_others declaration.contexts) 0 list)) (where-types declaration.type_ 0 list))
+    where-either (λ earlier. is_none (composite earlier.type_ declaration.type_)) (has_others declaration.contexts) 0 list
+    ∙ ap (λ found. earlier_type found (first_where (has_others declaration.contexts) 0 list)) (where-types declaration.type_ 0 list)
 
 -- Contexts
 

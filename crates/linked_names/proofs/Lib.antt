@@ -11,3 +11,4 @@ mod TypedefLemmas
 mod CarrierLemmas
 mod CarriedLemmas
 mod CarriedIndexLemmas
+mod NodeLemmas

@@ -1,11 +1,11 @@
 -- Declarations with linkage and their contexts: as callers see them, and the few that tell which is the first that differs from another.
-use Rattle.std.specs.Prelude.{◌≡◌, ℕ, ◌+◌, Bool, ◌&&◌, not, is_some, nat_eq, List, [], ◌∷◌, map, Option, Some, None, option_map, IfSome, if◌then◌else◌, All}
+use Rattle.std.specs.Prelude.{◌≡◌, ℕ, ◌+◌, Bool, ◌&&◌, not, is_some, nat_eq, List, [], ◌∷◌, map, Option, Some, None, option_map, IfSome, if◌then◌else◌, slice_get, All}
 use Rattle.std.specs.List.{AllByRecursion}
 use Rattle.std.specs.Option.{option_or}
 use Rattle.sparse_model.specs.declared.ids.NameId.{NameId}
 use Rattle.sparse_model.specs.declared.ids.TypeId.{TypeId}
 use Rattle.meaning_types.specs.Types.{TypeTree}
-use Rattle.meaning_typing.specs.ContextSums.{LinkedDeclaration, declarations_with, first_contexts, have_other_sums}
+use Rattle.meaning_typing.specs.ContextSums.{LinkedDeclaration, declarations_with, first_contexts, have_other_sums, nodes_with}
 use Rattle.meaning_typing.specs.ContextSums as meaning
 use Rattle.c_types.specs.Table.{TypeTable, IsTypeId, type_at}
 use Rattle.linked_names.specs.Forms.{have_one_form, is_open_array}
@@ -38,6 +38,11 @@ abbrev pub declarations_of : TypeTable → NameId → List Declared → List Lin
 declarations_of table name [] = []
 declarations_of table name (declared ∷ others) =
     declarations_with (nat_eq declared.name.0 name.0) (declaration_of table declared.of declared.contexts) (declarations_of table name others)
+
+-- the nodes that declare it
+abbrev pub nodes_declaring : NameId → List Declared → List ℕ
+nodes_declaring name [] = []
+nodes_declaring name (declared ∷ others) = nodes_with (nat_eq declared.name.0 name.0) declared.node (nodes_declaring name others)
 
 abbrev pub types_declared : List LinkedDeclaration → List TypeTree
 types_declared declarations = map (λ declaration. declaration.type_) declarations
@@ -97,6 +102,11 @@ abbrev pub differing_placed : TypeTable → Carried → TypeId → Option Contex
 differing_placed table carried of contexts =
     earlier_of (placed_unlike table carried.declarations.witnesses of) (other_carrier carried.carriers contexts)
 
+-- how many declarations
+abbrev pub count_of : Option Carried → ℕ
+count_of None = 0
+count_of (Some carried) = carried.declarations.witnesses.count
+
 -- That it is right
 
 pub record AreCarriedIds (table : TypeTable) (carried : Carried) : Type 0 where
@@ -129,3 +139,12 @@ pub record IsCarriedIndex (over : TypeTable) (declarations : List Declared) (fou
   pub known : AllByRecursion (λ declared. IsTypeId over declared.of) declarations
   pub ids : (name : NameId) → IfSome (found name) (AreCarriedIds over)
   pub kept : (name : NameId) → AreCarriedKept over (declarations_of over name declarations) (found name)
+
+-- each declaration's node is kept, by how many of its name stand before it
+abbrev pub AreKeptNodes : List Declared → (found : ℕ × NameId → Option ℕ) → Type 0
+AreKeptNodes declarations found = (name : NameId) (place node : ℕ) → slice_get (nodes_declaring name declarations) place ≡ Some node → found (place, name) ≡ Some node
+
+-- together
+pub record IsKeptOfAll (over : TypeTable) (declarations : List Declared) (found : NameId → Option Carried) (found_node : ℕ × NameId → Option ℕ) : Type 0 where
+  pub index : IsCarriedIndex over declarations found
+  pub nodes : AreKeptNodes declarations found_node

@@ -3,7 +3,7 @@ ghost use Rattle.std.specs.Prelude.{◌≡◌, ◌∷◌, ◌++◌, List, [], If
 ghost use Rattle.meaning_typing.specs.ContextSums.{LinkedDeclaration};
 ghost use Rattle.c_types.specs.Layouts.{told_in};
 ghost use Rattle.c_types.specs.Table.{Extends, IsTypeId, TellsNoMore, type_at};
-ghost use Rattle.linked_names.specs.Contexts.{AreCarriedIds, AreCarriedKept, IsCarried, declaration_of, differing_placed};
+ghost use Rattle.linked_names.specs.Contexts.{AreCarriedIds, AreCarriedKept, IsCarried, count_of, declaration_of, differing_placed};
 
 use crate::carriers::Carriers;
 use crate::declarations::Declarations;
@@ -21,20 +21,30 @@ pub(crate) struct Carried {
 }
 
 impl Carried {
-    /// The first that differs from a declaration of this type with these contexts.
+    /// How many stand before the first that differs from a declaration of this type with these contexts.
     pub(crate) fn first_differing(
         self,
         types: &Types,
         of: TypeId,
         contexts: Option<ContextSums>,
-    ) -> Option<TypeId>
+    ) -> Option<u32>
         requires ids { AreCarriedIds types.now self }
         requires known { IsTypeId types.now of }
-        ensures { result ≡ option_map (λ placed. placed.of) (differing_placed types.now self of contexts) }
+        ensures { result ≡ option_map (λ placed. placed.place) (differing_placed types.now self of contexts) }
     {
         let unlike = self.declarations.witnesses.placed_unlike(types, of);
         let found = earlier(unlike, self.carriers.first_other(contexts))?;
-        Some(found.of)
+        Some(found.place)
+    }
+
+    /// How many declarations are kept of a name.
+    pub(crate) fn count(found: Option<Carried>) -> u32
+        ensures { result ≡ count_of found }
+    {
+        match found {
+            Some(carried) => carried.declarations.witnesses.count,
+            None => 0,
+        }
     }
 
     // The first declaration of a name.

@@ -9,9 +9,10 @@ pub struct Linked {
     pub of: TypeId,
 }
 
-/// The same with the sums of its contexts, if it carries some.
+/// The same with the sums of its contexts, if it carries some, and the handle of the node that declares it.
 #[derive(Clone, Copy)]
 pub struct Declared {
+    pub node: u32,
     pub name: NameId,
     pub of: TypeId,
     pub contexts: Option<ContextSums>,

@@ -2,6 +2,7 @@
 -- earlier declaration that differs.
 use Rattle.std.specs.Prelude.{ℕ, ◌+◌, nat_eq, Bool, true, false, ◌&&◌, ◌||◌, not, is_none, List, [], ◌∷◌, ◌++◌, Option, Some, None, if◌then◌else◌}
 use Rattle.std.specs.List.{flat_map}
+use Rattle.std.specs.Option.{option_and_then}
 use Rattle.vocabulary.specs.declared.node_kind.NodeKind.{NodeKind}
 use Rattle.vocabulary.specs.declared.node_kind.NodeKind.TheVariants as kinds
 use Rattle.meaning_types.specs.Types.{TypeTree}
@@ -12,7 +13,7 @@ use Rattle.meaning_typing.specs.Surroundings.{Surrounding}
 use Rattle.meaning_typing.specs.Facts.{Fact, Declared, DeclaredFact}
 use Rattle.meaning_typing.specs.Specifiers.{attributes_among}
 use Rattle.meaning_typing.specs.Declarators.{is_declarator, lists_before, lists_behind}
-use Rattle.meaning_typing.specs.Names.{links_name, redeclared}
+use Rattle.meaning_typing.specs.Names.{declared_behind, links_name, redeclared}
 use Rattle.meaning_typing.specs.Tags.{attributes_of_specifiers}
 
 -- Sums: of the counts with which a function is entered and left, over its contexts
@@ -72,6 +73,17 @@ linked_from nodes name first (surrounding ∷ surroundings) (Declared declaratio
 linked_from nodes name first (surrounding ∷ surroundings) (fact ∷ facts) = linked_from nodes name (first + 1) surroundings facts
 linked_from nodes name first surroundings facts = []
 
+-- the nodes that declare them
+abbrev pub nodes_with : Bool → (node : ℕ) → List ℕ → List ℕ
+nodes_with true node others = node ∷ others
+nodes_with false node others = others
+
+abbrev pub linked_nodes : (name : List ℕ) → (first : ℕ) → List Surrounding → List Fact → List ℕ
+linked_nodes name first (surrounding ∷ surroundings) (Declared declaration ∷ facts) =
+    nodes_with (links_name name declaration) first (linked_nodes name (first + 1) surroundings facts)
+linked_nodes name first (surrounding ∷ surroundings) (fact ∷ facts) = linked_nodes name (first + 1) surroundings facts
+linked_nodes name first surroundings facts = []
+
 -- both carry contexts, and a sum differs
 abbrev pub have_other_sums : Option ContextSums → Option ContextSums → Bool
 have_other_sums (Some sums) (Some others) = not (nat_eq sums.enters others.enters && nat_eq sums.leaves others.leaves)
@@ -82,17 +94,28 @@ abbrev pub differs_from : LinkedDeclaration → LinkedDeclaration → Bool
 differs_from declaration earlier =
     is_none (composite earlier.type_ declaration.type_) || have_other_sums earlier.contexts declaration.contexts
 
-abbrev pub first_differing : LinkedDeclaration → List LinkedDeclaration → Option TypeTree
-first_differing declaration [] = None
-first_differing declaration (earlier ∷ others) = if differs_from declaration earlier then Some earlier.type_ else first_differing declaration others
+-- the node of the first that differs, where these are their nodes
+abbrev pub first_differing : LinkedDeclaration → (nodes : List ℕ) → List LinkedDeclaration → Option ℕ
+first_differing declaration (node ∷ nodes) (earlier ∷ others) =
+    if differs_from declaration earlier then Some node else first_differing declaration nodes others
+first_differing declaration nodes others = None
 
--- a declarator that declares an object or a function otherwise than before
+abbrev pub type_declared : Fact → Option TypeTree
+type_declared (Declared declaration) = Some declaration.type_
+type_declared fact = None
+
+-- the type with which it is told: an array has the length that its initializer says, once that is known (6.7.9 p22)
+abbrev pub told_type : UnitNodes → List Surrounding → List Fact → (declarator : ℕ) → Option TypeTree
+told_type nodes surroundings facts declarator = type_declared (declared_behind nodes surroundings facts declarator)
+
+-- a declarator that declares an object or a function otherwise than before; it is told the first that differs
 abbrev pub redeclared_otherwise : UnitNodes → List Surrounding → List Fact → (handle : ℕ) → Surrounding → DeclaredFact → List Failure
 redeclared_otherwise nodes surroundings facts handle surrounding declaration =
     if declaration.has_linkage
     then redeclared (node_at nodes handle).token declaration
+    (option_and_then (told_type nodes surroundings facts)
     (first_differing (record { type_ = declaration.type_; contexts = contexts_of nodes handle surrounding })
-    (linked_from nodes declaration.name 0 surroundings facts))
+    (linked_nodes declaration.name 0 surroundings facts) (linked_from nodes declaration.name 0 surroundings facts)))
     else []
 
 abbrev pub option_sums : Option ContextSums → Option ContextSums → Option ContextSums

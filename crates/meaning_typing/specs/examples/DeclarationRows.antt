@@ -6,20 +6,21 @@ use Rattle.vocabulary.specs.declared.node_kind.NodeKind.TheVariants as kinds
 use Rattle.vocabulary.specs.declared.role.Role.TheVariants.{TypePart}
 use Rattle.vocabulary.specs.declared.rule.RuleCode.{RuleCode}
 use Rattle.vocabulary.specs.declared.rule.RuleCode.TheVariants.{A7, S1, S2, S6}
+use Rattle.meaning_types.specs.Types.{TypeTree, pointer_to}
 use Rattle.meaning_tree.specs.Trees.{SyntaxTree, Node, parts_of}
 use Rattle.meaning_operands.specs.Failures.{Failure}
 use Rattle.meaning_typing.specs.Units.{UnitNodes}
 use Rattle.meaning_typing.specs.Surroundings.{surrounding_at}
 use Rattle.meaning_typing.specs.Building.{surroundings_of}
-use Rattle.meaning_typing.specs.Facts.{Fact, Unknown, Declared, Expression, value}
+use Rattle.meaning_typing.specs.Facts.{Fact, Unknown, Declared, DeclaredFact, Expression, value}
 use Rattle.meaning_typing.specs.Declarators.{array_type}
 use Rattle.meaning_typing.specs.Names.{declared_behind, linked_types}
-use Rattle.meaning_typing.specs.ContextSums.{ContextSums, contexts_of}
+use Rattle.meaning_typing.specs.ContextSums.{ContextSums, LinkedDeclaration, contexts_of, first_differing, redeclared_otherwise}
 use Rattle.meaning_typing.specs.WholeTyping.{first_whole_facts}
 use Rattle.meaning_typing.specs.Rows.{breaks_at, breaks_named, fails_with}
 use Rattle.meaning_typing.specs.DeclarationRows.{fact_of_declarator, size_broken}
 use Rattle.meaning_typing.specs.examples.Drawn.{array, declaration, declarator, function, int, leaf, nodes_of, number as one_number, over, parameter, type_over}
-use Rattle.meaning_typing.specs.examples.Values.{i, nothing_from_nothing, number, void_value, zero}
+use Rattle.meaning_typing.specs.examples.Values.{i, long, nothing_from_nothing, number, void_value, zero}
 use Rattle.meaning_typing.specs.examples.Declared.{aggregate, breaking, called, failing, int_at, ints, long_array, passing, tagged, word}
 
 -- Sizes, at token 4
@@ -217,15 +218,18 @@ pub record DeclarationFailures : Type 0 where
 -- Initializers
 
 -- `CONTEXT(0, 1) static int k[] = 1;`, whose declarator is node 8, and its initializer node 10
+abbrev pub initialized_array : SyntaxTree
+initialized_array =
+    declaration 0 (context 0 0 1 ∷ leaf kinds.StaticSpecifier 10 ∷ int_at 11) (declarator 12 k (no_length 13 ∷ []) ∷ over kinds.Initializer 15 (one_number 16 1 ∷ []) ∷ [])
+
 abbrev pub initialized : UnitNodes
-initialized =
-    nodes_of
-    (declaration 0 (context 0 0 1 ∷ leaf kinds.StaticSpecifier 10 ∷ int_at 11) (declarator 12 k (no_length 13 ∷ []) ∷ over kinds.Initializer 15 (one_number 16 1 ∷ []) ∷ []) ∷ [])
+initialized = nodes_of (initialized_array ∷ [])
+
+abbrev pub k_declared : TypeTree → DeclaredFact
+k_declared type_ = record { name = k; type_ = type_; is_typedef = false; has_linkage = true; is_static = true; is_register = false }
 
 abbrev pub array_declared : (length : Option ℕ) → Fact
-array_declared length =
-    Declared
-    (record { name = k; type_ = array_type int length; is_typedef = false; has_linkage = true; is_static = true; is_register = false })
+array_declared length = Declared (k_declared (array_type int length))
 
 -- before its initializer, and with it
 abbrev pub facts_within : List Fact
@@ -240,6 +244,20 @@ declared_at facts = declared_behind initialized (surroundings_of initialized) fa
 abbrev pub contexts_at : (handle : ℕ) → Option ContextSums
 contexts_at handle = contexts_of initialized handle (surrounding_at (surroundings_of initialized) handle)
 
+-- and behind it `int *k;`, whose declarator is node 15
+abbrev pub declared_again : UnitNodes
+declared_again = nodes_of (initialized_array ∷ declaration 18 (int_at 18) (declarator 20 k (leaf kinds.PointerDeclarator 19 ∷ []) ∷ []) ∷ [])
+
+abbrev pub otherwise_behind : List Fact → List Failure
+otherwise_behind facts =
+    redeclared_otherwise declared_again (surroundings_of declared_again) facts 15 (surrounding_at (surroundings_of declared_again) 15) (k_declared (pointer_to int))
+
+abbrev pub expects_array : (length : Option ℕ) → List Failure
+expects_array length = fails_with A7 20 0 (Some (array_type int length)) (Some (pointer_to int)) k ∷ []
+
+abbrev pub of_type : TypeTree → LinkedDeclaration
+of_type type_ = record { type_ = type_; contexts = None }
+
 pub record InitializerExamples : Type 0 where
   -- a name within it has the declared type, one behind it the completed type
   pub within : declared_at facts_within ≡ array_declared None
@@ -247,5 +265,9 @@ pub record InitializerExamples : Type 0 where
   -- what is linked has the completed length, and that is no declaration with contexts of its own
   pub linked : linked_types k facts_behind ≡ array_type int None ∷ array_type int (Some 2) ∷ []
   pub contexts : map contexts_at (8 ∷ 10 ∷ []) ≡ Some (record { enters = 0; leaves = 1 }) ∷ None ∷ []
+  -- `int *k` is told the completed type; where the initializer isn't known yet, the declared type
+  pub otherwise : map otherwise_behind (facts_behind ∷ facts_within ∷ []) ≡ expects_array (Some 2) ∷ expects_array None ∷ []
+  -- of `extern int *k; extern long k;` within it the second one differs from both, and the array is the first of them
+  pub first_of_two : first_differing (of_type long) (8 ∷ 12 ∷ []) (of_type (array_type int None) ∷ of_type (pointer_to int) ∷ []) ≡ Some 8
   -- nor does it define an object at file scope
   pub declarators : map (fact_of_declarator initialized facts_behind) (8 ∷ 10 ∷ []) ≡ array_declared None ∷ Unknown ∷ []

@@ -13,7 +13,7 @@ returns-clause-contexts c =
     let new = c.declare.new.self in
     let sums = c.in_ok-sums.sums in
     IfOk-weaker c.declare.result
-    (λ _. new.declarations ≡ old.declarations ++ record { name = declaration.name; of = declaration.of; contexts = sums } ∷ []) _
+    (λ _. new.declarations ≡ old.declarations ++ record { node = c.args.handle; name = declaration.name; of = declaration.of; contexts = sums } ∷ []) _
     (λ _ joins. joins
     ∙ ap (λ more. old.declarations ++ more)
     (declared_is (nodes_of c.args.unit.now) c.args.handle stands declaration sums

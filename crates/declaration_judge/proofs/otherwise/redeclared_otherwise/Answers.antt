@@ -10,7 +10,7 @@ returns-clause-listed c =
     let kept = c.args.kept.now in
     let stands = surrounding_seen c.args.surrounding in
     c.redeclared.ensures.listed kept.types
-    ∙ otherwise_told (nodes_of c.args.unit.now) (surroundings_seen c.args._surroundings.now) kept c.requires.kept declaration c.args.handle
-    c.token_at.result stands c.in_ok-contexts.contexts c.first_differing-earlier.result
+    ∙ otherwise_told (nodes_of c.args.unit.now) (surroundings_seen c.args.surroundings.now) kept c.requires.kept declaration c.args.handle
+    c.token_at.result stands c.in_ok-contexts.contexts c.differing_type-earlier.result
     (from_not declaration.has_linkage c.if-not-declaration.false) c.token_at.ensures (c.in_ok-contexts.ensures stands refl refl)
-    c.first_differing-earlier.ensures.differing
+    c.differing_type-earlier.ensures.told

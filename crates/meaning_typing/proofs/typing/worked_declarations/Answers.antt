@@ -51,5 +51,7 @@ returns-clause-initializers c = record {
   behind = refl;
   linked = refl;
   contexts = refl;
+  otherwise = refl;
+  first_of_two = refl;
   declarators = refl;
 }

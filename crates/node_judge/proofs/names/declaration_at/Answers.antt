@@ -4,7 +4,7 @@ use Rattle.decl_judge.specs.Units.{nodes_of}
 use Rattle.node_facts.specs.Facts.{nodes_seen}
 use Rattle.node_surroundings.specs.Seen.{surroundings_seen}
 use Rattle.expression_rows.specs.Names.{declared_by}
-use Rattle.node_judge.proofs.NameLemmas.{undeclared-past}
+use Rattle.declaration_judge.proofs.BehindLemmas.{undeclared-past}
 use Rattle.node_judge.proofs.names.declaration_at.Goals as goal
 
 pub returns-in-Some-clause-found : goal.returns-in-Some-clause-found

@@ -6,7 +6,7 @@ use Rattle.node_surroundings.specs.Seen.{surroundings_seen}
 use Rattle.expression_rows.specs.Names.{declared_by}
 use Rattle.expr_judge.specs.Parts.{declaration_in}
 use Rattle.expr_judge.proofs.NameLemmas.{declared_known}
-use Rattle.node_judge.proofs.NameLemmas.{declared-at, undeclared-at}
+use Rattle.declaration_judge.proofs.BehindLemmas.{declared-at, undeclared-at}
 use Rattle.node_judge.proofs.names.declaration_behind.Goals as goal
 
 pub declared_behind-requires-clause-declares : goal.declared_behind-requires-clause-declares

@@ -13,7 +13,7 @@ pub returns-in-Some-first : goal.returns-in-Some-first
 returns-in-Some-first c =
     let over = c.self.inside.trace.over in
     let kept =
-    carried_index-kept over over (Extends-itself over) c.self.inside.trace.declarations (get same_key c.self.inside.kept) c.self.invariant c.args.name
+    carried_index-kept over over (Extends-itself over) c.self.inside.trace.declarations (get same_key c.self.inside.kept) c.self.invariant.index c.args.name
     c.in-Some.carried.now (sym c.in-Some.ensures.value)
     in
     ap (option_map (λ (carrier : Carrier). sums_of carrier.sums)) (sym c.in-Some-first.is)
@@ -24,7 +24,7 @@ pub returns-in-None-first : goal.returns-in-None-first
 returns-in-None-first c =
     let over = c.self.inside.trace.over in
     let kept =
-    carried_index-kept over over (Extends-itself over) c.self.inside.trace.declarations (get same_key c.self.inside.kept) c.self.invariant c.args.name
+    carried_index-kept over over (Extends-itself over) c.self.inside.trace.declarations (get same_key c.self.inside.kept) c.self.invariant.index c.args.name
     c.in-Some.carried.now (sym c.in-Some.ensures.value)
     in
     ap (option_map (λ (carrier : Carrier). sums_of carrier.sums)) (sym c.in-None-first.is)
@@ -35,7 +35,7 @@ pub returns-in-None : goal.returns-in-None
 returns-in-None c =
     let over = c.self.inside.trace.over in
     let empty =
-    carried_index-empty over over (Extends-itself over) c.self.inside.trace.declarations (get same_key c.self.inside.kept) c.self.invariant c.args.name (sym c.in-None.ensures.value)
+    carried_index-empty over over (Extends-itself over) c.self.inside.trace.declarations (get same_key c.self.inside.kept) c.self.invariant.index c.args.name (sym c.in-None.ensures.value)
     in
     sym (ap first_contexts empty)
     ∙ ap (λ (list : CarriedDeclarations). first_contexts (declarations_of list.over c.args.name list.declarations)) c.self.view_is

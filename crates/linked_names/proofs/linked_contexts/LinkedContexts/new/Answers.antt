@@ -6,4 +6,4 @@ use Rattle.linked_names.proofs.GrowthLemmas.{Extends-none}
 use Rattle.linked_names.proofs.linked_contexts.LinkedContexts.new.Goals as goal
 
 pub returns-clause-over : goal.returns-clause-over
-returns-clause-over c = λ table. subst (λ (trace : DeclaredTrace). Extends trace.over table) (sym c.new-2.ensures) (Extends-none table)
+returns-clause-over c = λ table. subst (λ (trace : DeclaredTrace). Extends trace.over table) (sym c.new-3.ensures) (Extends-none table)

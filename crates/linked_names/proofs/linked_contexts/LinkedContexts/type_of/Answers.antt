@@ -14,7 +14,7 @@ returns-in-Some-clause-shared c =
     let over = c.self.inside.trace.over in
     let one = c.in-Some.carried.now in
     let kept =
-    carried_index-kept over over (Extends-itself over) c.self.inside.trace.declarations (get same_key c.self.inside.kept) c.self.invariant c.args.name one (sym c.in-Some.ensures.value)
+    carried_index-kept over over (Extends-itself over) c.self.inside.trace.declarations (get same_key c.self.inside.kept) c.self.invariant.index c.args.name one (sym c.in-Some.ensures.value)
     in
     subst (λ (list : CarriedDeclarations). Some (type_at list.over one.declarations.shared) ≡ shared_type (types_declared (declarations_of list.over c.args.name list.declarations))) c.self.view_is (sym kept.declarations.shared)
 
@@ -23,7 +23,7 @@ returns-in-Some-clause-known c =
     let over = c.self.inside.trace.over in
     let one = c.in-Some.carried.now in
     let ids =
-    carried_index-ids over over (Extends-itself over) c.self.inside.trace.declarations (get same_key c.self.inside.kept) c.self.invariant c.args.name one (sym c.in-Some.ensures.value)
+    carried_index-ids over over (Extends-itself over) c.self.inside.trace.declarations (get same_key c.self.inside.kept) c.self.invariant.index c.args.name one (sym c.in-Some.ensures.value)
     in
     subst (λ (list : CarriedDeclarations). IsTypeId list.over one.declarations.shared) c.self.view_is ids.declarations.shared
 
@@ -31,6 +31,6 @@ pub returns-in-None-clause-shared : goal.returns-in-None-clause-shared
 returns-in-None-clause-shared c =
     let over = c.self.inside.trace.over in
     let empty =
-    carried_index-empty over over (Extends-itself over) c.self.inside.trace.declarations (get same_key c.self.inside.kept) c.self.invariant c.args.name (sym c.in-None.ensures.value)
+    carried_index-empty over over (Extends-itself over) c.self.inside.trace.declarations (get same_key c.self.inside.kept) c.self.invariant.index c.args.name (sym c.in-None.ensures.value)
     in
     subst (λ (list : CarriedDeclarations). None ≡ shared_type (types_declared (declarations_of list.over c.args.name list.declarations))) c.self.view_is (sym (ap (λ list. shared_type (types_declared list)) empty))

@@ -1,10 +1,8 @@
 // The programs that a command can name.
-use expression_types::show_types;
 use ksparse::{Exit, ksparse};
-use lowered_flows::show_flows;
 use sparse_outside::{HonestFiles, MemorySink, Sink, Words};
 use std::alloc::{AllocError, Global};
-use trees::trees;
+use unit_commands::{Command, show};
 use workbench::{Stop, workbench};
 
 /// A program, each over a public call. A further one has its variant here, its name and its call.
@@ -62,9 +60,9 @@ impl Program {
         let mut err = MemorySink::new(alloc, ROOM)?;
         let exit = match self {
             Program::Ksparse => ksparse(alloc, words, files, &mut out, &mut err),
-            Program::Lowered => show_flows(alloc, words, files, &mut out, &mut err),
-            Program::Trees => trees(alloc, words, files, &mut out, &mut err),
-            Program::Types => show_types(alloc, words, files, &mut out, &mut err),
+            Program::Lowered => show(alloc, Command::Lowered, words, files, &mut out, &mut err),
+            Program::Trees => show(alloc, Command::Trees, words, files, &mut out, &mut err),
+            Program::Types => show(alloc, Command::Types, words, files, &mut out, &mut err),
             Program::Workbench => run_workbench(alloc, words, files, &mut out),
         };
         Ok(Ran {

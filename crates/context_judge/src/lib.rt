@@ -15,5 +15,5 @@ mod unit;
 pub use answer::has_body;
 pub use functions::note_at;
 pub use judging::context_failures;
-pub use type_judge::{JudgeFault, Judged, judge};
+pub use type_judge::{JudgeFault, Judged, enclosings_of, judge};
 pub use unit::{is_function_definition, knows_tokens};

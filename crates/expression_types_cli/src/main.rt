@@ -1,10 +1,10 @@
 //! The program `types`: its library's call over the files of the system, standard output and standard error.
 #![tactic(auto)]
 
-use expression_types::show_types;
 use sparse_outside::{RealFiles, RealSink, Words};
 use std::env;
 use std::process::ExitCode;
+use unit_commands::{Command, show};
 
 fn main(rt: HostRuntime) -> anyhow::Result<ExitCode> {
     let mut args = env::args(&rt)?;
@@ -16,6 +16,13 @@ fn main(rt: HostRuntime) -> anyhow::Result<ExitCode> {
     let mut files = RealFiles::new(&rt);
     let mut out = RealSink::new(rt.stdout());
     let mut err = RealSink::new(rt.stderr());
-    let exit = show_types(rt.alloc(), &words, &mut files, &mut out, &mut err);
+    let exit = show(
+        rt.alloc(),
+        Command::Types,
+        &words,
+        &mut files,
+        &mut out,
+        &mut err,
+    );
     Ok(ExitCode::from(exit.status()))
 }

@@ -17,3 +17,5 @@ pub mod Taken
 pub mod TokenLemmas
 pub mod TypeNames
 pub mod UnitReplies
+pub use Rattle.context_judge.proofs.JudgedLemmas
+pub use Rattle.context_judge.proofs.FunctionLemmas

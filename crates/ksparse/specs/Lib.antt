@@ -18,3 +18,7 @@ pub use Rattle.meaning_machine.specs.Runs
 pub use Rattle.meaning_outside.specs.Faults
 pub use Rattle.meaning_outside.specs.Files
 pub use Rattle.meaning_outside.specs.Loads
+pub use Rattle.context_judge.specs.Asked
+pub use Rattle.context_judge.specs.Bodies
+pub use Rattle.context_judge.specs.Judging
+pub use Rattle.context_judge.specs.Kinds

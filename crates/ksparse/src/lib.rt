@@ -23,6 +23,10 @@ mod write;
 pub use answer::{Stop, tell_stop};
 pub use check::check_tokens;
 pub use command::{Command, WordFault, read_words};
+pub use context_judge::{
+    JudgeFault, Judged, enclosings_of, has_body, is_function_definition, judge, knows_tokens,
+    note_at,
+};
 pub use examples::worked_examples;
 pub use exit::Exit;
 pub use parsing::tell_fault;

@@ -6,3 +6,4 @@ pub mod Rows
 pub mod Judging
 pub mod NamedTypes
 pub use Rattle.member_rows.specs.Aggregates
+pub use Rattle.whole_judge.specs.Kinds

@@ -4,7 +4,7 @@
 use sparse_outside::{RealFiles, RealSink, Words};
 use std::env;
 use std::process::ExitCode;
-use trees::trees;
+use unit_commands::{Command, show};
 
 fn main(rt: HostRuntime) -> anyhow::Result<ExitCode> {
     let mut args = env::args(&rt)?;
@@ -16,6 +16,13 @@ fn main(rt: HostRuntime) -> anyhow::Result<ExitCode> {
     let mut files = RealFiles::new(&rt);
     let mut out = RealSink::new(rt.stdout());
     let mut err = RealSink::new(rt.stderr());
-    let exit = trees(rt.alloc(), &words, &mut files, &mut out, &mut err);
+    let exit = show(
+        rt.alloc(),
+        Command::Trees,
+        &words,
+        &mut files,
+        &mut out,
+        &mut err,
+    );
     Ok(ExitCode::from(exit.status()))
 }

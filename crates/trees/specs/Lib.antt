@@ -1,4 +1,0 @@
-pub mod Words
-pub mod Lines
-pub mod Walk
-pub mod Shown

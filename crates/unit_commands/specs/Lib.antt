@@ -1,0 +1,14 @@
+pub mod Replies
+pub mod Appending
+pub mod Words
+pub mod TreeLines
+pub mod Walk
+pub mod Trees
+pub mod Constraints
+pub mod Known
+pub mod Asked
+pub mod Answers
+pub mod Types
+pub mod FlowLines
+pub mod Flows
+pub mod Commands

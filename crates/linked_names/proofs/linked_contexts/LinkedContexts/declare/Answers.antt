@@ -40,8 +40,9 @@ invariant_of-self-in_err-insert-2 c =
     let declarations = c.self.inside.trace.declarations in
     let found = get same_key c.self.inside.kept in
     let before = c.copied-found.ensures ∙ c.get.ensures.value in
+    let index : IsCarriedIndex over declarations (get same_key c.insert-2.new.self) = search rules in
     record {
-      index = subst (λ entries. IsCarriedIndex over declarations (get same_key (record c.self.inside.kept { entries = entries }))) (sym c.in_err-insert-2.ensures.err) c.self.invariant.index;
+      index = index;
       nodes =
           nodes-stay declarations (record { node = c.args.node; name = c.args.name; of = c.args.of; contexts = c.args.contexts }) (get same_scoped c.self.inside.nodes)
           (get same_scoped c.insert.new.self) c.self.invariant.nodes c.count.result

@@ -1,5 +1,5 @@
 -- One declaration more.
-use Rattle.std.proofs.Common.{IfSome, sym, ap, ◌∙◌, subst}
+use Rattle.std.proofs.Common.{IfSome, rules, sym, ap, ◌∙◌, subst}
 use Rattle.c_types.specs.Table.{Extends}
 use Rattle.indexmap.specs.IndexMap.{get}
 use Rattle.linked_names.specs.Contexts.{AreCarriedIds, AreCarriedKept, CarriedDeclarations, IsCarriedIndex, IsKeptOfAll, count_of}

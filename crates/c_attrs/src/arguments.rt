@@ -1,4 +1,5 @@
-// What stands behind the word of an item. What it means isn't known here.
+// What stands behind the word of an item: the tokens behind it arrive, and those between its parentheses leave, if there are any.
+// What they mean isn't known here.
 ghost use Rattle.std.specs.Prelude.{◌≡◌};
 ghost use Rattle.meaning_attributes.specs.Items.{arguments_inside, arguments_of};
 ghost use Rattle.c_attrs.specs.Seen.{significant};

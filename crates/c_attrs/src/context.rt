@@ -1,4 +1,5 @@
-// Contexts: how the count that a function keeps changes. The paths that keep it aren't known here.
+// Contexts: how the count that a function keeps changes. Tokens arrive, and two counts leave, or a change. The paths that keep
+// it aren't known here.
 ghost use Rattle.std.specs.Prelude.{◌≡◌, List, ℕ};
 ghost use Rattle.meaning_attributes.specs.Pieces.{comma_pieces};
 ghost use Rattle.meaning_attributes.specs.Items.{context_with};

@@ -1,4 +1,5 @@
-//! The integer constants among tokens, from their end.
+//! The integer constants among tokens, from their end: tokens arrive, and the last constant leaves with those before it. What it
+//! counts isn't known here.
 ghost use Rattle.std.specs.Prelude.{◌≡◌, ℕ, List, option_map};
 ghost use Rattle.meaning_literals.specs.Integers.{integer_of};
 ghost use Rattle.meaning_attributes.specs.Integers.{PlacedConstant, before_constants, constants_from};

@@ -1,4 +1,4 @@
-// The items of an attribute list: what each means.
+// The items of an attribute list: the tokens of one arrive, and what it means leaves. What the list is of isn't known here.
 ghost use Rattle.std.specs.Prelude.{◌≡◌, option_map};
 ghost use Rattle.meaning_attributes.specs.Items.{attribute_of, meaning_of};
 ghost use Rattle.c_tokens.specs.Seen.{toks_of};

@@ -1,4 +1,5 @@
-// A whole attribute list: what its items come to, or why it is refused.
+// A whole attribute list: its tokens arrive, and what its items come to leaves, or why it is refused. What the list is of isn't
+// known here.
 ghost use Rattle.std.specs.Prelude.{◌≡◌, ◌↔◌, ◌++◌, ◌<◌, ◌≤◌, ◌^◌, List, ℕ, Ok, Err, Option, None, IsErrOf, OnErr, OnOk, length, map, option_map, take};
 ghost use Rattle.meaning_attributes.specs.Pieces.{comma_pieces};
 ghost use Rattle.meaning_attributes.specs.Attributes.{Attributes, FunctionContext};

@@ -1,4 +1,5 @@
 //! Lists of tokens that are cut at their commas, and those between parentheses, which are counted, however deep they are.
+//! Tokens arrive, and some of them leave, in their order. What they mean isn't known here.
 ghost use Rattle.std.specs.Prelude.{◌≡◌, ◌∷◌, ◌+◌, ◌<◌, ◌≤◌, ◌^◌, List, ℕ, length};
 ghost use Rattle.meaning_attributes.specs.Pieces.{closes, comma_pieces, cuts, depth_behind, in_parentheses, length_to_inside, up_to_closing};
 ghost use Rattle.c_tokens.specs.Seen.{toks_of};

@@ -1,4 +1,5 @@
-// Address spaces and alignments: one token between parentheses.
+// Address spaces and alignments: the one token between parentheses arrives, and what it says leaves. Which type it is said of
+// isn't known here.
 ghost use Rattle.std.specs.Prelude.{◌≡◌, ◌≤◌, List, ℕ, true};
 ghost use Rattle.meaning_attributes.specs.Items.{align_numbered, align_of, is_alignment, space_at, space_of};
 ghost use Rattle.c_tokens.specs.Seen.{tok_of};

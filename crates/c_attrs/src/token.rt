@@ -1,5 +1,5 @@
 //! What a token is to an attribute, and those tokens of a list that mean something: all but each
-//! `__extension__`.
+//! `__extension__`. The words of attributes aren't known here.
 ghost use Rattle.std.specs.Prelude.{◌≡◌, ◌≤◌, length, option_map};
 ghost use Rattle.std.specs.List.{prefix_len};
 ghost use Rattle.meaning_literals.specs.Integers.{integer_of};

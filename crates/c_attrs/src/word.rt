@@ -1,4 +1,4 @@
-// The words of attributes.
+// The words of attributes: a spelling arrives, and what it says leaves. What stands behind the word isn't known here.
 ghost use Rattle.std.specs.Prelude.{◌≡◌, ◌≢◌, ◌++◌, List, ℕ, MatchOption, codes};
 ghost use Rattle.meaning_attributes.specs.Words.{attribute_word, flag_word, is_named};
 ghost use Rattle.c_attrs.specs.Meanings.{word_seen};

@@ -1,4 +1,5 @@
-// What is asked of trees and lists, and of the names that stand for something. Nothing is changed here.
+// What is asked of trees and lists, and of the names that stand for something: a depth arrives, and a token, a count or a
+// declaration leaves. Nothing is changed here.
 use crate::asking::{count_at, name_at, tree_at};
 use crate::state::ParseState;
 use c_scope::{Bound, NameSpace};

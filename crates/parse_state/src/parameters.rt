@@ -1,4 +1,5 @@
-// Parameter lists that are closed, and bodies that open their scopes again. What the parameters are isn't known here.
+// Parameter lists that are closed, and bodies that open their scopes again: a scope is kept by the token of its list, and put
+// back where a body awaits it. What the parameters are isn't known here.
 ghost use Rattle.std.specs.Prelude.{◌≡◌, ◌<◌, ◌≤◌, map, true};
 ghost use Rattle.std.specs.List.{list_all};
 ghost use Rattle.meaning_tree.specs.Nodes.{end_of};

@@ -1,4 +1,4 @@
-use Rattle.std.proofs.Common.{ap, ◌∙◌}
+use Rattle.std.proofs.Common.{ap, sym, ◌∙◌}
 use Rattle.std.specs.Option.{option_and_then}
 use Rattle.meaning_typing.specs.ContextSums.{told_type}
 use Rattle.decl_judge.specs.Units.{nodes_of}

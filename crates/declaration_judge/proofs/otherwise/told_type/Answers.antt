@@ -12,13 +12,13 @@ use Rattle.declaration_judge.specs.Kept.{facts_seen}
 use Rattle.declaration_judge.proofs.BehindLemmas.{declared-at, type_declared-by, undeclared-at}
 use Rattle.declaration_judge.proofs.otherwise.told_type.Goals as goal
 
-pub declared_behind-requires-clause-declares : goal.declared_behind-requires-clause-declares
-declared_behind-requires-clause-declares c =
+pub declared_behind-told-requires-clause-declares : goal.declared_behind-told-requires-clause-declares
+declared_behind-told-requires-clause-declares c =
     declared-at c.args.kept.now.types c.args.kept.now.facts c.args.node c.in-Some.declaration
     (ap declaration_in (sym c.at.ensures) ∙ sym c.declaration_of.ensures ∙ c.in-Some.is)
 
-pub declared_behind-requires-clause-of : goal.declared_behind-requires-clause-of
-declared_behind-requires-clause-of c =
+pub declared_behind-told-requires-clause-of : goal.declared_behind-told-requires-clause-of
+declared_behind-told-requires-clause-of c =
     let types = c.args.kept.now.types in
     subst (λ (found : Option kept.DeclaredFact). IfSome found (λ declaration. IsTypeId types declaration.of))
     (ap declaration_in (sym c.at.ensures) ∙ sym c.declaration_of.ensures ∙ c.in-Some.is)

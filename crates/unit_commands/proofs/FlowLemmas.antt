@@ -9,7 +9,8 @@ use Rattle.control_flow.specs.declared.note.ContextNote.{ContextNote}
 use Rattle.linear_code.specs.Known.{note_of}
 use Rattle.control_flow.specs.Shown.{shown_line}
 use Rattle.ksparse.specs.Kinds.{is_function_definition}
-use Rattle.unit_commands.specs.FlowLines.{AppendsOne, AreLinesBefore, HasItsPaths, IsFunctionLine, IsLineOfKind, IsLineAt}
+use Rattle.unit_commands.specs.Appending.{AppendsOne}
+use Rattle.unit_commands.specs.FlowLines.{AreLinesBefore, HasItsPaths, IsFunctionLine, IsLineOfKind, IsLineAt}
 
 -- by its declarator, the note of which has its sums
 pub function_appended :

@@ -7,7 +7,8 @@ ghost use Rattle.linear_code.specs.Known.{judged_unit};
 ghost use Rattle.judged_control.specs.Judged.{known_of_nodes};
 ghost use Rattle.ksparse.specs.Asked.{IsReady};
 ghost use Rattle.ksparse.specs.Bodies.{HasBody};
-ghost use Rattle.unit_commands.specs.FlowLines.{AppendsOne, AreFlowLines, IsFunctionLine, IsLineAt};
+ghost use Rattle.unit_commands.specs.Appending.{AppendsOne};
+ghost use Rattle.unit_commands.specs.FlowLines.{AreFlowLines, IsFunctionLine, IsLineAt};
 
 use c_tree::{Handle, Unit};
 use control_flow::push_line;

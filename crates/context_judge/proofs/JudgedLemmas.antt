@@ -15,7 +15,7 @@ use Rattle.decl_judge.specs.Units.{named_node, nodes_of}
 use Rattle.node_facts.specs.Facts.{name_seen, node_seen, nodes_seen}
 use Rattle.node_surroundings.specs.declared.surrounding.Surrounding.{Surrounding as KeptSurrounding}
 use Rattle.node_surroundings.specs.Seen.{AreSurroundingsOf, surroundings_seen}
-use Rattle.type_judge.specs.Enclosing.{AreEnclosings, Enclosing}
+use Rattle.type_judge.specs.Enclosing.{AreEnclosings}
 use Rattle.type_judge.specs.Kept.{AreObjects}
 use Rattle.linear_code.specs.Cells.{KnowsTokens}
 use Rattle.linear_code.specs.Known.{judged_unit}
@@ -48,7 +48,7 @@ module _ (unit : NodeList NameId) (whole : unit.first ≡ 0) (laid : IsLaid unit
       subst (λ (now : List Surrounding). AreObjects (nodes_of unit) now (nodes_seen judged.types judged.facts) judged.objects) same-surroundings
       (subst (λ (facts : List Fact). AreObjects (nodes_of unit) is.surroundings facts judged.objects) (sym is.known) is.objects)
 
-  pub is-judged : (enclosings : List Enclosing) → AreEnclosings (nodes_of unit) (surroundings_seen surroundings) enclosings
+  pub is-judged : (enclosings : _) → AreEnclosings (nodes_of unit) (surroundings_seen surroundings) enclosings
       → length unit.nodes ≤ 2 ^ 32 → HasTypeIds judged → IsJudged kept enclosings judged.objects
   is-judged enclosings are few ids = record {
     whole = whole;

@@ -398,6 +398,8 @@ JUDGING = (
     of_judging("comparisons that warn", b"void f(int *p, char *s) { ", b"p == s; ", b"", b"", b" }", status=1),
     of_judging("casts that warn", RESTRICTED + b"void f(t h) { ", b"(int)h; ", b"", b"", b" }", status=1),
     Family("judging: members, each used", texts.used_members, (10000, 100000), words=()),
+    Family("judging: members of anonymous structures, each used", texts.anonymous_beside_one_another, (10000, 100000), words=()),
+    Family("judging: anonymous structures in one another", texts.anonymous_in_one_another, (1300, 13000), words=()),
     of_judging("structures in one another", b"", b"struct { ", b"int y;", b" } x;", b"", (1300, 13000)),
     Family("judging: enumerators", texts.enumerators, (6000, 60000), words=()),
     Family("judging: structures that point to the one before", texts.structures_of_pointers, (10000, 100000), words=()),

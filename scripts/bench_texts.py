@@ -366,6 +366,21 @@ def used_members(count):
     return b"struct { " + members + b"} x; void f(void) { " + b"".join(b"x.m%06d; " % number for number in range(count)) + b"}"
 
 
+def anonymous_in_one_another(count):
+    """So many structures without a tag in one another, each with a name before the one inside and a name behind it, of which the outermost
+    and the innermost are used.
+    """
+    before = b"".join(b"struct { int a%05d; " % number for number in range(count))
+    behind = b"".join(b"int b%05d; }; " % number for number in reversed(range(count)))
+    return b"struct { " + before + behind + b"} x; void f(void) { x.a00000; x.b00000; x.a%05d; x.b%05d; }" % (count - 1, count - 1)
+
+
+def anonymous_beside_one_another(count):
+    """A structure of so many structures without a tag, each of whose names is used."""
+    members = b"".join(b"struct { int m%06d; }; " % number for number in range(count))
+    return b"struct { " + members + b"} x; void f(void) { " + b"".join(b"x.m%06d; " % number for number in range(count)) + b"}"
+
+
 def designated_items(count):
     """An array of so many elements, each initialized by its index."""
     return b"int a[%d] = { " % count + b"".join(b"[%d] = 1, " % number for number in range(count)) + b"};"

@@ -108,6 +108,8 @@ ENUMERATORS = "enum {" + "".join(f" e{number}," for number in range(500_000)) + 
 # Declarations that are many or wide, what ends them, and what ends them else and is refused: the column within that, and what is told.
 WIDE = (
     ("members, each used", bench_texts.used_members(100_000)[:-1], "}", "x.n; }", 2, "error[67]: no such member 'n'"),
+    ("members of anonymous structures, each used", bench_texts.anonymous_beside_one_another(100_000)[:-1], "}", "x.n; }", 2, "error[67]: no such member 'n'"),
+    ("anonymous structures in one another", bench_texts.anonymous_in_one_another(13_000)[:-1], "}", "x.n; }", 2, "error[67]: no such member 'n'"),
     ("structures that point to the one before", bench_texts.structures_of_pointers(100_000), "", "struct s0 k;", 11, "error[70]: incomplete type"),
     ("types of functions of the one before", bench_texts.typedefs_of_functions(240_000), "", "typedef int t0;", 13, "error[101]: typedef 't0' has another type"),
 )

@@ -253,7 +253,7 @@ module _ (told : Told) where
         ap is_some (own-by (Some index) true is ∙ ap (option_map (λ (entry : Layered). raised told (drop entry.level chain.links) entry.found)) (newest-some chain.entries name count index found).stands)
 
   -- all entries are from the first one on
-  own-all : (chain : Chain) (at : Option ℕ) → own_found told chain 0 at ≡ shown told chain at
+  pub own-all : (chain : Chain) (at : Option ℕ) → own_found told chain 0 at ≡ shown told chain at
   own-all chain None = refl
   own-all chain (Some index) = ap (λ b. cond b (shown told chain (Some index)) None) (leb-zero index)
 

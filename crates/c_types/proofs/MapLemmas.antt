@@ -1,28 +1,32 @@
 -- What is kept of aggregates where chains grow, where one more aggregate is told, and where there are more types.
-use Rattle.std.proofs.Common.{◌≡◌, ℕ, zero, suc, ◌<◌, ◌≤◌, ◌+◌, Bool, true, false, cond, nat_eq, List, [], ◌∷◌, ◌++◌, Option, Some, None, IfSome, IsSome, drop, length, map, option_map, slice_get, take, refl, sym, ap, ◌∙◌, subst, append_assoc, append-nil, length-append, arith}
+use Rattle.std.proofs.Common.{◌≡◌, ℕ, zero, suc, ◌<◌, ◌≤◌, ◌+◌, Bool, true, false, cond, nat_eq, List, [], ◌∷◌, ◌++◌, Option, Some, None, IfSome, IsSome, drop, length, map, option_map, slice_get, take, refl, sym, ap, ◌∙◌, subst, All, slice_set, get_or, append_assoc, append-nil, length-append, arith}
 use Rattle.std.proofs.lemmas.Bool.{eqb-true}
 use Rattle.std.proofs.lemmas.List.{map-append, take-append-le}
 use Rattle.std.proofs.lemmas.Map.Made.{lookup-map_values}
-use Rattle.std.proofs.lemmas.Option.{none-some, same_Some}
+use Rattle.std.proofs.lemmas.Option.{none-some, same_Some, slice_get_read, slice_get_within}
 use Rattle.std.specs.List.{AllByRecursion}
 use Rattle.std.specs.Map.{lookup}
 use Rattle.indexmap.specs.IndexMap.{insert_entry}
 use Rattle.sparse_model.specs.declared.ids.NameId.{NameId}
-use Rattle.meaning_types.specs.Types.{TypeTree}
-use Rattle.meaning_layout.specs.Members.{Names, bits_behind, first_bit_in}
+use Rattle.meaning_types.specs.Types.{TypeTree, Typed, VoidTree, IntegerTree, RestrictedTree, PointerTree, ArrayTree, FunctionTree, AggregateTree}
+use Rattle.meaning_layout.specs.Members.{DeclaredMember, Names, anonymous_names, bits_behind, first_bit_in, names_by, names_of_member, names_of_members, own_member, unnamed_names}
+use Rattle.meaning_layout.specs.Members as meaning
 use Rattle.meaning_layout.specs.Sizes.{Told}
 use Rattle.meaning_layout.specs.Telling.{or_incomplete}
+use Rattle.c_types.specs.declared.bodies.Member.{Member}
 use Rattle.c_types.specs.declared.chains.Layered.{Layered}
 use Rattle.c_types.specs.declared.maps.Standing.{Standing}
 use Rattle.c_types.specs.declared.members.Anonymous.{Anonymous}
 use Rattle.c_types.specs.declared.members.FoundMember.{FoundMember}
-use Rattle.c_types.specs.Chains.{AreKnownEntries, AreToldLinks, Chain, ChainGrows, Each, IsToldLink, names_below, raised, seen_before}
-use Rattle.c_types.specs.Maps.{AreMaps, ChainsGrow, IsStanding, IsTold, names_if, names_in_chain, names_kept, names_standing}
-use Rattle.c_types.specs.Members.{AreKnownNames, NameAlike, found_around, found_seen, is_name, names_seen}
+use Rattle.c_types.specs.Chains.{AreKnownEntries, AreToldLinks, Chain, ChainGrows, Each, IsToldLink, all_names, names_below, newest, or_later, own_name, raised, seen_before, shown}
+use Rattle.c_types.specs.declared.maps.Heavy.{Heavy}
+use Rattle.c_types.specs.Maps.{AreMaps, ChainsGrow, IsHeavy, IsOutermost, IsStanding, IsTold, names_if, names_in_chain, names_kept, names_standing}
+use Rattle.c_types.specs.Members.{AreKnownNames, NameAlike, anonymous_type, entries_around, found_around, found_seen, is_aggregate, is_name, member_declared, names_seen}
+use Rattle.c_types.specs.Rows.{type_numbered}
 use Rattle.c_types.specs.Table.{IsLonger}
-use Rattle.c_types.proofs.ChainLemmas.{below-append, each-push}
+use Rattle.c_types.proofs.ChainLemmas.{below-append, drop-from, each-push, get-append, get-last, lookup-newest, own-all}
 use Rattle.c_types.proofs.LayoutLemmas.{lookup-other, lookup-same}
-use Rattle.c_types.proofs.NameLemmas.{seen-later}
+use Rattle.c_types.proofs.NameLemmas.{around, found-known, known-append, known-around, lookup-append, seen-around, seen-later}
 
 -- Growing
 
@@ -203,3 +207,186 @@ module _ (types : List TypeTree) (told later : Told) (stay : (number : ℕ) (is_
       by : (found : Option Standing) → names_if types later chains found ≡ names_if types told chains found
       by None = refl
       by (Some one) = ap (names_seen types) (standing-later told later stay chains maps.links one)
+
+-- Reading
+
+-- the chain that is read is the one in which the aggregate stands
+pub standing-read : (chains : List Chain) (standing : Standing) → IsStanding chains standing → (chain : Chain) → chain ≡ get_or chains standing.chain chain
+    → (slice_get chains standing.chain ≡ Some chain) × (standing.level ≤ length chain.links) × (standing.count ≤ length chain.entries)
+standing-read chains standing stands chain is =
+    let at : slice_get chains standing.chain ≡ Some chain =
+    slice_get_read chains (length chains) standing.chain chain refl (slice_get_within chains standing.chain stands.0 stands.1) is
+    in
+    let same : stands.0 ≡ chain = same_Some _ _ (sym stands.1 ∙ at) in
+    (at, subst (λ (one : Chain). standing.level ≤ length one.links) same stands.2, subst (λ (one : Chain). standing.count ≤ length one.entries) same stands.3)
+
+-- what is found in it is what is kept
+module _ (types : List TypeTree) (told : Told) (chains : List Chain) (kept : List (ℕ × Standing)) (number : ℕ) (asked : NameId) where
+  pub find-kept : (standing : Standing) (chain : Chain) (found : Option FoundMember) → Some standing ≡ lookup (nat_eq number) kept → slice_get chains standing.chain ≡ Some chain
+      → found ≡ lookup (is_name asked) (names_below told (take standing.level chain.links) chain.entries standing.count)
+      → option_map (found_seen types) found ≡ lookup (is_name asked) (names_kept types told chains kept number)
+  find-kept standing chain found at stands is =
+      ap (option_map (found_seen types)) is
+      ∙ sym (lookup-map_values (found_seen types) (is_name asked) (names_below told (take standing.level chain.links) chain.entries standing.count))
+      ∙ sym (ap (λ one. lookup (is_name asked) (names_seen types (names_in_chain told one standing))) stands)
+      ∙ ap (λ one. lookup (is_name asked) (names_if types told chains one)) at
+
+  pub kept-none : None ≡ lookup (nat_eq number) kept → None ≡ lookup (is_name asked) (names_kept types told chains kept number)
+  kept-none none = ap (λ one. lookup (is_name asked) (names_if types told chains one)) none
+
+pub lookup-known : (types : List TypeTree) (asked : NameId) (es : List (NameId × FoundMember)) → AreKnownNames types es → (found : Option FoundMember) → found ≡ lookup (is_name asked) es
+    → IfSome found (λ one. one.of.0 < length types)
+lookup-known types asked es known None is = tt
+lookup-known types asked es known (Some found) is = found-known types asked found es known (sym is)
+
+-- What members bring
+
+module _ (types : List TypeTree) (told : Told) (chains : List Chain) (kept : List (ℕ × Standing)) (place : ℕ) (member : Member) where
+  abbrev pub brought : Names NameId
+  brought = names_of_member told (names_kept types told chains kept) place (member_declared types member)
+
+  abbrev of : TypeTree
+  of = type_numbered types member.of.0
+
+  as-unnamed : member.name ≡ None → brought ≡ unnamed_names told (names_kept types told chains kept) place member.width of
+  as-unnamed unnamed = ap (λ (name : Option NameId). names_by told (names_kept types told chains kept) place name (member_declared types member)) unnamed
+
+  as-anonymous : member.name ≡ None → member.width ≡ None → brought ≡ anonymous_names told (names_kept types told chains kept) place of
+  as-anonymous unnamed bare = as-unnamed unnamed ∙ ap (λ (width : Option ℕ). unnamed_names told (names_kept types told chains kept) place width of) bare
+
+  -- a bit-field, another type and an aggregate that isn't kept bring none
+  pub field-brings : member.name ≡ None → (width : ℕ) → member.width ≡ Some width → brought ≡ []
+  field-brings unnamed width is = as-unnamed unnamed ∙ ap (λ (w : Option ℕ). unnamed_names told (names_kept types told chains kept) place w of) is
+
+  pub other-brings : member.name ≡ None → member.width ≡ None → is_aggregate of ≡ false → brought ≡ []
+  other-brings unnamed bare is = as-anonymous unnamed bare ∙ by of is
+    where
+      by : (type_ : TypeTree) → is_aggregate type_ ≡ false → anonymous_names told (names_kept types told chains kept) place type_ ≡ []
+      by (Typed (AggregateTree number is_union) qualifiers flags) e = absurd (cc e)
+      by (Typed VoidTree qualifiers flags) e = refl
+      by (Typed (IntegerTree kind) qualifiers flags) e = refl
+      by (Typed (RestrictedTree kind identity) qualifiers flags) e = refl
+      by (Typed (PointerTree target) qualifiers flags) e = refl
+      by (Typed (ArrayTree element count) qualifiers flags) e = refl
+      by (Typed (FunctionTree result parameters variadic) qualifiers flags) e = refl
+
+  module _ (unnamed : member.name ≡ None) (bare : member.width ≡ None) (anonymous : Anonymous) (typed : of ≡ anonymous_type anonymous) (at : anonymous.place ≡ place) where
+    as-kept : brought ≡ map (λ entry. (entry.0, around types told anonymous entry.1)) (names_kept types told chains kept anonymous.number)
+    as-kept =
+        as-anonymous unnamed bare ∙ ap (anonymous_names told (names_kept types told chains kept) place) typed
+        ∙ sym (ap (λ (p : ℕ). anonymous_names told (names_kept types told chains kept) p (anonymous_type anonymous)) at)
+
+    pub unkept-brings : None ≡ lookup (nat_eq anonymous.number) kept → brought ≡ []
+    unkept-brings none = as-kept ∙ sym (ap (λ one. map (λ entry. (entry.0, around types told anonymous entry.1)) (names_if types told chains one)) none)
+
+    pub inner-brings : (standing : Standing) → Some standing ≡ lookup (nat_eq anonymous.number) kept → names_seen types (entries_around told anonymous (names_standing told chains standing)) ≡ brought
+    inner-brings standing found =
+        seen-around types told anonymous (names_standing told chains standing)
+        ∙ ap (λ one. map (λ entry. (entry.0, around types told anonymous entry.1)) (names_if types told chains one)) found ∙ sym as-kept
+
+  pub own-brings : (name : NameId) (found : FoundMember) → Some name ≡ member.name → found_seen types found ≡ own_member place (member_declared types member) → names_seen types ((name, found) ∷ []) ≡ brought
+  own-brings name found named seen =
+      ap (λ (one : meaning.FoundMember). (name, one) ∷ []) seen ∙ ap (λ (n : Option NameId). names_by told (names_kept types told chains kept) place n (member_declared types member)) named
+
+-- names that come behind others
+pub seen-behind : (types : List TypeTree) (es more new : List (NameId × FoundMember)) (seen_names : Names NameId) → new ≡ es ++ more → names_seen types more ≡ seen_names → names_seen types new ≡ names_seen types es ++ seen_names
+seen-behind types es more new seen_names is seen =
+    ap (names_seen types) is ∙ map-append (λ (entry : NameId × FoundMember). (entry.0, found_seen types entry.1)) es more ∙ ap (λ rest. names_seen types es ++ rest) seen
+
+pub seen-nothing : (types : List TypeTree) (es : List (NameId × FoundMember)) (seen_names : Names NameId) → seen_names ≡ [] → names_seen types es ≡ names_seen types es ++ seen_names
+seen-nothing types es seen_names none = sym (ap (λ rest. names_seen types es ++ rest) none ∙ append-nil (names_seen types es))
+
+pub known-behind : (types : List TypeTree) (es more new : List (NameId × FoundMember)) → new ≡ es ++ more → AreKnownNames types more → AreKnownNames types es → AreKnownNames types new
+known-behind types es more new is known before = subst (AreKnownNames types) (sym is) (known-append types es more before known)
+
+-- a member, and those behind it
+pub members-step : (types : List TypeTree) (told : Told) (names : ℕ → Names NameId) (place : ℕ) (member : Member) (others : List Member) (es new : Names NameId)
+    → new ≡ es ++ names_of_member told names place (member_declared types member)
+    → new ++ names_of_members told names (place + 1) (map (member_declared types) others) ≡ es ++ names_of_members told names place (map (member_declared types) (member ∷ others))
+members-step types told names place member others es new is =
+    let next : place + 1 ≡ suc place = omega arith in
+    (λ i. is i ++ names_of_members told names (next i) (map (member_declared types) others))
+    ∙ append_assoc es (names_of_member told names place (member_declared types member)) (names_of_members told names (suc place) (map (member_declared types) others))
+
+-- A chain of its own
+
+pub grow-push : (chains : List Chain) (chain : Chain) → ChainsGrow chains (chains ++ chain ∷ [])
+grow-push chains chain place one found = (one, get-append chains (chain ∷ []) place (slice_get_within chains place one found) ∙ found, grows-not one)
+
+pub fresh-names : (types : List TypeTree) (told : Told) (chains : List Chain) (chain : Chain) (names : List (NameId × FoundMember)) (seen_names : Names NameId) (asked : NameId) → chain.links ≡ []
+    → own_name told chain 0 asked ≡ or_later (own_name told (record { links = []; entries = [] }) 0 asked) (lookup (is_name asked) names) → names_seen types names ≡ seen_names
+    → lookup (is_name asked) (names_seen types (names_standing told (chains ++ chain ∷ []) (record { chain = length chains; level = 0; count = length chain.entries }))) ≡ lookup (is_name asked) seen_names
+fresh-names types told chains chain names seen_names asked bare named seen =
+    let standing : Standing = record { chain = length chains; level = 0; count = length chain.entries } in
+    let entries = names_below told [] chain.entries (length chain.entries) in
+    ap (λ one. lookup (is_name asked) (names_seen types (names_in_chain told one standing))) (get-last chains chain)
+    ∙ lookup-map_values (found_seen types) (is_name asked) entries
+    ∙ ap (option_map (found_seen types))
+    (lookup-newest told [] chain.entries asked (length chain.entries)
+    ∙ sym (own-all told (record { links = []; entries = chain.entries }) (newest chain.entries asked (length chain.entries)))
+    ∙ sym (ap (λ links. own_name told (record { links = links; entries = chain.entries }) 0 asked) bare) ∙ named)
+    ∙ sym (lookup-map_values (found_seen types) (is_name asked) names) ∙ ap (lookup (is_name asked)) seen
+
+pub fresh-stands : (chains : List Chain) (chain : Chain) → IsStanding (chains ++ chain ∷ []) (record { chain = length chains; level = 0; count = length chain.entries })
+fresh-stands chains chain = (chain, get-last chains chain, omega arith, omega arith)
+
+-- A chain that goes on
+
+module _ {X : Type 0} where
+  pub get-set : (xs : List X) (index : ℕ) (x : X) → index < length xs → slice_get (slice_set xs index x) index ≡ Some x
+  get-set [] index x within = absurd (omega (arith, within))
+  get-set (y ∷ xs) zero x within = refl
+  get-set (y ∷ xs) (suc index) x within = get-set xs index x (omega (arith, within))
+
+  -- each element of the new list is the one that was set, or an old one
+  pub each-set : (P : X → Type 0) (xs : List X) (index : ℕ) (x : X) → Each P xs → P x → Each P (slice_set xs index x)
+  each-set P [] index x each is at y found = absurd (none-some y found)
+  each-set P (z ∷ xs) zero x each is zero y found = subst P (same_Some _ _ found) is
+  each-set P (z ∷ xs) zero x each is (suc at) y found = each (suc at) y found
+  each-set P (z ∷ xs) (suc index) x each is zero y found = each zero y found
+  each-set P (z ∷ xs) (suc index) x each is (suc at) y found = each-set P xs index x (λ i. each (suc i)) is at y found
+
+pub grow-set : (chains : List Chain) (index : ℕ) (chain after : Chain) → slice_get chains index ≡ Some chain → ChainGrows chain after → ChainsGrow chains (slice_set chains index after)
+grow-set [] index chain after at grows place one found = absurd (none-some one found)
+grow-set (first ∷ chains) zero chain after at grows zero one found =
+    let same : chain ≡ one = same_Some _ _ (sym at ∙ found) in
+    (after, refl, subst (λ c. ChainGrows c after) same grows)
+grow-set (first ∷ chains) zero chain after at grows (suc place) one found = (one, found, grows-not one)
+grow-set (first ∷ chains) (suc index) chain after at grows zero one found = (one, found, grows-not one)
+grow-set (first ∷ chains) (suc index) chain after at grows (suc place) one found = grow-set chains index chain after at grows place one found
+
+take-all : {X : Type 0} (xs : List X) (count : ℕ) → count ≡ length xs → take count xs ≡ xs
+take-all [] zero is = refl
+take-all [] (suc count) is = refl
+take-all (x ∷ xs) zero is = absurd (omega (arith, is))
+take-all (x ∷ xs) (suc count) is = ap (λ rest. x ∷ rest) (take-all xs count (omega (arith, is)))
+
+-- the outermost aggregate has all names of its chain
+pub outermost-names : (told : Told) (chains : List Chain) (standing : Standing) (chain : Chain) → slice_get chains standing.chain ≡ Some chain → standing.level ≡ length chain.links → standing.count ≡ length chain.entries
+    → names_standing told chains standing ≡ all_names told chain
+outermost-names told chains standing chain at level count =
+    ap (λ one. names_in_chain told one standing) at ∙ (λ i. names_below told (take-all chain.links standing.level level i) chain.entries (count i))
+
+-- members before one, that one, and those behind it
+pub names-around : (types : List TypeTree) (told : Told) (names : ℕ → Names NameId) (members : List Member) (first index : ℕ) (member : Member) → slice_get members index ≡ Some member
+    → names_of_members told names first (map (member_declared types) members)
+    ≡ names_of_members told names first (map (member_declared types) (take index members)) ++ names_of_member told names (first + index) (member_declared types member)
+    ++ names_of_members told names (first + index + 1) (map (member_declared types) (drop (index + 1) members))
+names-around types told names [] first index member found = absurd (none-some member found)
+names-around types told names (one ∷ members) first zero member found =
+    let same : one ≡ member = same_Some _ _ found in
+    let here : first ≡ first + 0 = omega arith in
+    let next : suc first ≡ first + 0 + 1 = omega arith in
+    λ i. names_of_member told names (here i) (member_declared types (same i)) ++ names_of_members told names (next i) (map (member_declared types) members)
+names-around types told names (one ∷ members) first (suc index) member found =
+    let here : suc first + index ≡ first + suc index = omega arith in
+    let own = names_of_member told names first (member_declared types one) in
+    let before = names_of_members told names (suc first) (map (member_declared types) (take index members)) in
+    let heavy = names_of_member told names (first + suc index) (member_declared types member) in
+    let behind = names_of_members told names (first + suc index + 1) (map (member_declared types) (drop (suc index + 1) (one ∷ members))) in
+    let next : suc (index + 1) ≡ suc index + 1 = omega arith in
+    let rest =
+    names-around types told names members (suc first) index member found
+    ∙ (λ i. before ++ names_of_member told names (here i) (member_declared types member) ++ names_of_members told names (here i + 1) (map (member_declared types) (drop (next i) (one ∷ members))))
+    in
+    ap (λ later. own ++ later) rest ∙ sym (append_assoc own (before ++ heavy) behind) ∙ ap (λ front. front ++ behind) (sym (append_assoc own before heavy))

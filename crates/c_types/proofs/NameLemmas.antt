@@ -56,7 +56,7 @@ module _ (types : List TypeTree) where
     space-seen (spaces.Number number) = refl
     space-seen (spaces.Named name) = refl
 
-    abbrev around : meaning.FoundMember → meaning.FoundMember
+    abbrev pub around : meaning.FoundMember → meaning.FoundMember
     around =
         anonymous_member anonymous.place (or_incomplete (told anonymous.number anonymous.is_union)) (record { is_const = anonymous.is_const; is_volatile = anonymous.is_volatile })
         (record { noderef = anonymous.noderef; space = space_of anonymous.space })

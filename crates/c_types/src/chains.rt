@@ -120,8 +120,10 @@ impl NameChain {
         requires count { count ≤ length self.now.entries }
         ensures { result ≡ lookup (is_name name) (names_below (told_kept layouts.now.kept.entries) (take level self.now.links) self.now.entries count) }
     {
-        let index = self.newest(name, count)?;
-        Some(self.raised(layouts, self.entries[index as usize], level))
+        match self.newest(name, count) {
+            Some(index) => Some(self.raised(layouts, self.entries[index as usize], level)),
+            None => None,
+        }
     }
 
     /// Copies the names of the aggregate at a level, whose names are so many first entries, as those of an aggregate around.
@@ -220,7 +222,7 @@ impl NameChain {
         ensures told { (told : Told) → AreToldLinks told self.old.links → IsToldLink told anonymous → AreToldLinks told self.new.links }
         ensures named { OnOk result ((told : Told) (asked : NameId) → lookup (is_name asked) (all_names told self.new) ≡ lookup (is_name asked) (before.now ++ entries_around told anonymous (all_names told self.old) ++ behind.now)) }
     {
-        let first = self.count();
+        let first = self.entries.len() as u32;
         self.surround(anonymous)?;
         self.enter_all(before, first)?;
         self.enter_all(behind, 0)?;

@@ -85,8 +85,15 @@ impl MemberMaps {
         ensures seen { (types : List TypeTree) → option_map (found_seen types) result ≡ lookup (is_name name) (names_kept types (told_kept layouts.now.kept.entries) self.now.chains.items self.now.kept.entries aggregate) }
         ensures known { (types : List TypeTree) → AreMaps types (told_kept layouts.now.kept.entries) self.now.chains.items self.now.kept.entries → IfSome result (λ found. found.of.0 < length types) }
     {
-        let standing = self.kept.get(&aggregate).copied()?;
-        self.chains[standing.chain as usize].find(layouts, standing.level, standing.count, name)
+        match self.kept.get(&aggregate) {
+            Some(standing) => self.chains[standing.chain as usize].find(
+                layouts,
+                standing.level,
+                standing.count,
+                name,
+            ),
+            None => None,
+        }
     }
 
     // Copies the names that a member without a name brings.
@@ -113,7 +120,7 @@ impl MemberMaps {
         let Some(anonymous) = rows.anonymous(place, member.of.0) else {
             return Ok(());
         };
-        match self.kept.get(&anonymous.number).copied() {
+        match self.kept.get(&anonymous.number) {
             Some(standing) => self.chains[standing.chain as usize].copy_names(
                 layouts,
                 anonymous,
@@ -282,8 +289,8 @@ impl MemberMaps {
             ≡ lookup (is_name asked) (names_of_members (told_kept layouts.now.kept.entries) (names_kept (types_of rows.now.rows.entries) (told_kept layouts.now.kept.entries) self.old.chains.items self.old.kept.entries) 0 (map (member_declared (types_of rows.now.rows.entries)) members.now))) }
     {
         let place = heavy.anonymous.place;
-        let (before, others) = members.split_at(place as usize);
-        let behind = &others[1..];
+        let (before, _) = members.split_at(place as usize);
+        let (_, behind) = members.split_at(place as usize + 1);
         let before = self.names_of(alloc, rows, layouts, 0, before)?;
         let behind = self.names_of(alloc, rows, layouts, place + 1, behind)?;
         let chain = heavy.standing.chain;

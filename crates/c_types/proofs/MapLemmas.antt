@@ -1,10 +1,11 @@
 -- What is kept of aggregates where chains grow, where one more aggregate is told, and where there are more types.
-use Rattle.std.proofs.Common.{◌≡◌, ℕ, zero, suc, ◌<◌, ◌≤◌, ◌+◌, Bool, true, false, cond, nat_eq, List, [], ◌∷◌, ◌++◌, Option, Some, None, IfSome, IsSome, drop, length, map, option_map, slice_get, take, refl, sym, ap, ◌∙◌, subst, All, slice_set, get_or, append_assoc, append-nil, length-append, arith}
-use Rattle.std.proofs.lemmas.Bool.{eqb-true}
+use Rattle.std.proofs.Common.{◌≡◌, ℕ, zero, suc, ◌<◌, ◌≤◌, ◌+◌, Bool, true, false, cond, nat_eq, List, [], ◌∷◌, ◌++◌, Option, Some, None, IfSome, IsSome, is_some, drop, length, map, option_map, slice_get, take, refl, sym, ap, ◌∙◌, subst, All, IfOk, Result, Ok, Err, slice_set, get_or, append_assoc, append-nil, length-append, arith}
+use Rattle.std.proofs.lemmas.Bool.{eqb-true, false≢true}
+use Rattle.std.proofs.lemmas.Bool.Decides.{Decides-eqb}
 use Rattle.std.proofs.lemmas.List.{map-append, take-append-le}
 use Rattle.std.proofs.lemmas.Map.Made.{lookup-map_values}
 use Rattle.std.proofs.lemmas.Option.{none-some, same_Some, slice_get_read, slice_get_within}
-use Rattle.std.specs.List.{AllByRecursion}
+use Rattle.std.specs.Prelude.{OnOk, OnErr}
 use Rattle.std.specs.Map.{lookup}
 use Rattle.indexmap.specs.IndexMap.{insert_entry}
 use Rattle.sparse_model.specs.declared.ids.NameId.{NameId}
@@ -20,13 +21,17 @@ use Rattle.c_types.specs.declared.members.Anonymous.{Anonymous}
 use Rattle.c_types.specs.declared.members.FoundMember.{FoundMember}
 use Rattle.c_types.specs.Chains.{AreKnownEntries, AreToldLinks, Chain, ChainGrows, Each, IsToldLink, all_names, names_below, newest, or_later, own_name, raised, seen_before, shown}
 use Rattle.c_types.specs.declared.maps.Heavy.{Heavy}
-use Rattle.c_types.specs.Maps.{AreMaps, ChainsGrow, IsHeavy, IsOutermost, IsStanding, IsTold, names_if, names_in_chain, names_kept, names_standing}
-use Rattle.c_types.specs.Members.{AreKnownNames, NameAlike, anonymous_type, entries_around, found_around, found_seen, is_aggregate, is_name, member_declared, names_seen}
+use Rattle.c_types.specs.Maps.{AreMaps, AreNamed, ChainsGrow, IsEntered, IsHeavy, IsOutermost, IsStanding, IsTold, names_if, names_in_chain, names_kept, names_standing}
+use Rattle.c_types.specs.Members.{AreKnownNames, NameAlike, anonymous_type, entries_around, found_around, found_seen, is_aggregate, is_name, member_declared, names_of_bodies, names_seen}
 use Rattle.c_types.specs.Rows.{type_numbered}
 use Rattle.c_types.specs.Table.{IsLonger}
 use Rattle.c_types.proofs.ChainLemmas.{below-append, drop-from, each-push, get-append, get-last, lookup-newest, own-all}
-use Rattle.c_types.proofs.LayoutLemmas.{lookup-other, lookup-same}
-use Rattle.c_types.proofs.NameLemmas.{around, found-known, known-append, known-around, lookup-append, seen-around, seen-later}
+use Rattle.c_types.proofs.LayoutLemmas.{lookup-other, lookup-same, told_of_bodies-none}
+use Rattle.c_types.specs.declared.bodies.AggregateBody.{AggregateBody}
+use Rattle.c_types.specs.declared.layouts.AggregateLayout.{AggregateLayout}
+use Rattle.c_types.specs.Layouts.{layout_kept, told_kept, told_of_bodies}
+use Rattle.meaning_layout.specs.Members.{names_before, tell_names}
+use Rattle.c_types.proofs.NameLemmas.{alike-members, around, names_of_bodies-push, found-known, known-append, known-around, lookup-append, seen-around, seen-later}
 
 -- Growing
 
@@ -308,27 +313,71 @@ members-step types told names place member others es new is =
     (λ i. is i ++ names_of_members told names (next i) (map (member_declared types) others))
     ∙ append_assoc es (names_of_member told names place (member_declared types member)) (names_of_members told names (suc place) (map (member_declared types) others))
 
+-- The outermost aggregate
+
+take-all : {X : Type 0} (xs : List X) (count : ℕ) → count ≡ length xs → take count xs ≡ xs
+take-all [] zero is = refl
+take-all [] (suc count) is = refl
+take-all (x ∷ xs) zero is = absurd (omega (arith, is))
+take-all (x ∷ xs) (suc count) is = ap (λ rest. x ∷ rest) (take-all xs count (omega (arith, is)))
+
+-- the outermost aggregate has all names of its chain
+pub outermost-names : (told : Told) (chains : List Chain) (standing : Standing) (chain : Chain) → slice_get chains standing.chain ≡ Some chain → standing.level ≡ length chain.links → standing.count ≡ length chain.entries
+    → names_standing told chains standing ≡ all_names told chain
+outermost-names told chains standing chain at level count =
+    ap (λ one. names_in_chain told one standing) at ∙ (λ i. names_below told (take-all chain.links standing.level level i) chain.entries (count i))
+
 -- A chain of its own
 
 pub grow-push : (chains : List Chain) (chain : Chain) → ChainsGrow chains (chains ++ chain ∷ [])
 grow-push chains chain place one found = (one, get-append chains (chain ∷ []) place (slice_get_within chains place one found) ∙ found, grows-not one)
 
-pub fresh-names : (types : List TypeTree) (told : Told) (chains : List Chain) (chain : Chain) (names : List (NameId × FoundMember)) (seen_names : Names NameId) (asked : NameId) → chain.links ≡ []
-    → own_name told chain 0 asked ≡ or_later (own_name told (record { links = []; entries = [] }) 0 asked) (lookup (is_name asked) names) → names_seen types names ≡ seen_names
-    → lookup (is_name asked) (names_seen types (names_standing told (chains ++ chain ∷ []) (record { chain = length chains; level = 0; count = length chain.entries }))) ≡ lookup (is_name asked) seen_names
-fresh-names types told chains chain names seen_names asked bare named seen =
-    let standing : Standing = record { chain = length chains; level = 0; count = length chain.entries } in
-    let entries = names_below told [] chain.entries (length chain.entries) in
-    ap (λ one. lookup (is_name asked) (names_seen types (names_in_chain told one standing))) (get-last chains chain)
-    ∙ lookup-map_values (found_seen types) (is_name asked) entries
+pub fresh-names : (types : List TypeTree) (told : Told) (chain : Chain) (names : List (NameId × FoundMember)) (seen_names : Names NameId) (asked : NameId)
+    → own_name told chain 0 asked ≡ lookup (is_name asked) names → names_seen types names ≡ seen_names
+    → lookup (is_name asked) (names_seen types (all_names told chain)) ≡ lookup (is_name asked) seen_names
+fresh-names types told chain names seen_names asked named seen =
+    lookup-map_values (found_seen types) (is_name asked) (all_names told chain)
     ∙ ap (option_map (found_seen types))
-    (lookup-newest told [] chain.entries asked (length chain.entries)
-    ∙ sym (own-all told (record { links = []; entries = chain.entries }) (newest chain.entries asked (length chain.entries)))
-    ∙ sym (ap (λ links. own_name told (record { links = links; entries = chain.entries }) 0 asked) bare) ∙ named)
+    (lookup-newest told chain.links chain.entries asked (length chain.entries) ∙ sym (own-all told chain (newest chain.entries asked (length chain.entries))) ∙ named)
     ∙ sym (lookup-map_values (found_seen types) (is_name asked) names) ∙ ap (lookup (is_name asked)) seen
 
-pub fresh-stands : (chains : List Chain) (chain : Chain) → IsStanding (chains ++ chain ∷ []) (record { chain = length chains; level = 0; count = length chain.entries })
-fresh-stands chains chain = (chain, get-last chains chain, omega arith, omega arith)
+no-links : (told : Told) (links : List Anonymous) → links ≡ [] → AreToldLinks told links
+no-links told links bare = subst (AreToldLinks told) (sym bare) (λ index link found. absurd (none-some link found))
+
+module _ (types : List TypeTree) (told : Told) (chains : List Chain) (kept : List (ℕ × Standing)) (maps : AreMaps types told chains kept) where
+  pub none-entered : IsEntered types told chains chains kept
+  none-entered = record { grow = none-grows chains; maps = maps }
+
+  module _ (chain : Chain) (bare : chain.links ≡ []) where
+    pub fresh-entered : AreKnownEntries types chain.entries → IsEntered types told chains (chains ++ chain ∷ []) kept
+    fresh-entered known =
+        record {
+          grow = grow-push chains chain;
+          maps =
+              maps-grow types told chains (chains ++ chain ∷ []) kept maps (grow-push chains chain) (each-push (λ (one : Chain). AreKnownEntries types one.entries) chains chain maps.known known)
+              (each-push (λ (one : Chain). AreToldLinks told one.links) chains chain maps.links (no-links told chain.links bare));
+        }
+
+    pub fresh-named : (members : List Member)
+        → ((asked : NameId) → lookup (is_name asked) (names_seen types (all_names told chain)) ≡ lookup (is_name asked) (names_of_members told (names_kept types told chains kept) 0 (map (member_declared types) members)))
+        → AreNamed types told chains (chains ++ chain ∷ []) kept members (record { chain = length chains; level = 0; count = length chain.entries })
+    fresh-named members named =
+        let standing : Standing = record { chain = length chains; level = 0; count = length chain.entries } in
+        let at = get-last chains chain in
+        record {
+          stands = (chain, at, omega arith, omega arith);
+          named = λ asked.
+          ap (λ names. lookup (is_name asked) (names_seen types names)) (outermost-names told (chains ++ chain ∷ []) standing chain at (sym (ap length bare)) refl) ∙ named asked;
+        }
+
+-- what follows from both results
+pub result-either : {T E P Q R : Type 0} (result : Result T E) → OnOk result P → OnErr result Q → (P → R) → (Q → R) → R
+result-either (Ok value) ok err first second = first ok
+result-either (Err error) ok err first second = second err
+
+pub IfOk-with : {T E P : Type 0} (Q : T → Type 0) (value : T) (result : Result T E) → IfOk result (λ one. one ≡ value) → OnOk result P → (P → Q value) → IfOk result Q
+IfOk-with Q value (Ok one) is holds next = subst Q (sym is) (next holds)
+IfOk-with Q value (Err error) is holds next = tt
 
 -- A chain that goes on
 
@@ -355,18 +404,6 @@ grow-set (first ∷ chains) zero chain after at grows (suc place) one found = (o
 grow-set (first ∷ chains) (suc index) chain after at grows zero one found = (one, found, grows-not one)
 grow-set (first ∷ chains) (suc index) chain after at grows (suc place) one found = grow-set chains index chain after at grows place one found
 
-take-all : {X : Type 0} (xs : List X) (count : ℕ) → count ≡ length xs → take count xs ≡ xs
-take-all [] zero is = refl
-take-all [] (suc count) is = refl
-take-all (x ∷ xs) zero is = absurd (omega (arith, is))
-take-all (x ∷ xs) (suc count) is = ap (λ rest. x ∷ rest) (take-all xs count (omega (arith, is)))
-
--- the outermost aggregate has all names of its chain
-pub outermost-names : (told : Told) (chains : List Chain) (standing : Standing) (chain : Chain) → slice_get chains standing.chain ≡ Some chain → standing.level ≡ length chain.links → standing.count ≡ length chain.entries
-    → names_standing told chains standing ≡ all_names told chain
-outermost-names told chains standing chain at level count =
-    ap (λ one. names_in_chain told one standing) at ∙ (λ i. names_below told (take-all chain.links standing.level level i) chain.entries (count i))
-
 -- members before one, that one, and those behind it
 pub names-around : (types : List TypeTree) (told : Told) (names : ℕ → Names NameId) (members : List Member) (first index : ℕ) (member : Member) → slice_get members index ≡ Some member
     → names_of_members told names first (map (member_declared types) members)
@@ -390,3 +427,123 @@ names-around types told names (one ∷ members) first (suc index) member found =
     ∙ (λ i. before ++ names_of_member told names (here i) (member_declared types member) ++ names_of_members told names (here i + 1) (map (member_declared types) (drop (next i) (one ∷ members))))
     in
     ap (λ later. own ++ later) rest ∙ sym (append_assoc own (before ++ heavy) behind) ∙ ap (λ front. front ++ behind) (sym (append_assoc own before heavy))
+
+module _ (types : List TypeTree) (told : Told) (chains : List Chain) (kept : List (ℕ × Standing)) (maps : AreMaps types told chains kept) (members : List Member) (heavy : Heavy) (member : Member)
+    (within : slice_get members heavy.anonymous.place ≡ Some member) (is : IsHeavy types chains kept heavy.anonymous.place member heavy) (chain after : Chain) (at : slice_get chains heavy.standing.chain ≡ Some chain) where
+  abbrev all : List Chain
+  all = slice_set chains heavy.standing.chain after
+
+  pub heavy-told : IsToldLink told heavy.anonymous
+  heavy-told = maps.all_told heavy.anonymous.number heavy.standing is.stands heavy.anonymous.is_union
+
+  pub extended-entered : ChainGrows chain after → AreKnownEntries types after.entries → AreToldLinks told after.links → IsEntered types told chains all kept
+  extended-entered grows known links =
+      let grow = grow-set chains heavy.standing.chain chain after at grows in
+      record {
+        grow = grow;
+        maps =
+            maps-grow types told chains all kept maps grow (each-set (λ (one : Chain). AreKnownEntries types one.entries) chains heavy.standing.chain after maps.known known)
+            (each-set (λ (one : Chain). AreToldLinks told one.links) chains heavy.standing.chain after maps.links links);
+      }
+
+  same-chain : is.outermost.0 ≡ chain
+  same-chain = same_Some _ _ (sym is.outermost.1 ∙ at)
+
+  inner-level : heavy.standing.level ≡ length chain.links
+  inner-level = is.outermost.2 ∙ ap (λ one. length one.links) same-chain
+
+  inner-names : names_standing told chains heavy.standing ≡ all_names told chain
+  inner-names = outermost-names told chains heavy.standing chain at inner-level (is.outermost.3 ∙ ap (λ one. length one.entries) same-chain)
+
+  module _ (before behind : List (NameId × FoundMember)) where
+    abbrev inner : List (NameId × FoundMember)
+    inner = entries_around told heavy.anonymous (all_names told chain)
+
+    abbrev kept_names : ℕ → Names NameId
+    kept_names = names_kept types told chains kept
+
+    all-seen : names_seen types before ≡ names_of_members told kept_names 0 (map (member_declared types) (take heavy.anonymous.place members))
+        → names_seen types behind ≡ names_of_members told kept_names (heavy.anonymous.place + 1) (map (member_declared types) (drop (heavy.anonymous.place + 1) members))
+        → names_seen types (before ++ inner ++ behind) ≡ names_of_members told kept_names 0 (map (member_declared types) members)
+    all-seen first last =
+        let seen : NameId × FoundMember → NameId × meaning.FoundMember = λ entry. (entry.0, found_seen types entry.1) in
+        let place = heavy.anonymous.place in
+        let number : place ≡ 0 + place = omega arith in
+        let own : names_seen types inner ≡ names_of_member told kept_names place (member_declared types member) =
+        ap (λ names. names_seen types (entries_around told heavy.anonymous names)) (sym inner-names)
+        ∙ inner-brings types told chains kept place member is.unnamed is.bare heavy.anonymous is.typed is.at heavy.standing (sym is.stands)
+        in
+        map-append seen (before ++ inner) behind ∙ ap (λ front. front ++ names_seen types behind) (map-append seen before inner)
+        ∙ (λ i. first i ++ own i ++ last i)
+        ∙ (λ i. names_of_members told kept_names 0 (map (member_declared types) (take place members)) ++ names_of_member told kept_names (number i) (member_declared types member)
+        ++ names_of_members told kept_names (number i + 1) (map (member_declared types) (drop (place + 1) members)))
+        ∙ sym (names-around types told kept_names members 0 place member within)
+
+    pub extended-named : (level count : ℕ) → level ≡ length after.links → count ≡ length after.entries
+        → names_seen types before ≡ names_of_members told kept_names 0 (map (member_declared types) (take heavy.anonymous.place members))
+        → names_seen types behind ≡ names_of_members told kept_names (heavy.anonymous.place + 1) (map (member_declared types) (drop (heavy.anonymous.place + 1) members))
+        → ((asked : NameId) → lookup (is_name asked) (all_names told after) ≡ lookup (is_name asked) (before ++ inner ++ behind))
+        → AreNamed types told chains all kept members (record { chain = heavy.standing.chain; level = level; count = count })
+    extended-named level count levels counts first last named =
+        let standing : Standing = record { chain = heavy.standing.chain; level = level; count = count } in
+        let stands = get-set chains heavy.standing.chain after (slice_get_within chains heavy.standing.chain chain at) in
+        record {
+          stands = (after, stands, omega (arith, levels), omega (arith, counts));
+          named = λ asked.
+          ap (λ names. lookup (is_name asked) (names_seen types names)) (outermost-names told all standing after stands levels counts)
+          ∙ lookup-map_values (found_seen types) (is_name asked) (all_names told after) ∙ ap (option_map (found_seen types)) (named asked)
+          ∙ sym (lookup-map_values (found_seen types) (is_name asked) (before ++ inner ++ behind)) ∙ ap (lookup (is_name asked)) (all-seen first last);
+        }
+
+-- Telling
+
+module _ (types : List TypeTree) (bodies : List (ℕ × AggregateBody)) (layouts : List (ℕ × AggregateLayout)) (aggregate : ℕ) (body : AggregateBody) (made : AggregateLayout) (right : told_kept layouts ≡ told_of_bodies types bodies)
+    (untold : lookup (nat_eq aggregate) bodies ≡ None) where
+  abbrev told : Told
+  told = told_kept layouts
+
+  abbrev later : Told
+  later = told_kept (insert_entry nat_eq layouts aggregate made)
+
+  not-told : (number : ℕ) (is_union : Bool) → nat_eq number aggregate ≡ true → told number is_union ≡ None
+  not-told number is_union e =
+      (λ i. right i number is_union) ∙ told_of_bodies-none types bodies number is_union (ap (λ n. lookup (nat_eq n) bodies) (eqb-true number aggregate e) ∙ untold)
+
+  pub layouts-stay : (number : ℕ) (is_union : Bool) → IsSome (told number is_union) → later number is_union ≡ told number is_union
+  layouts-stay number is_union some = by (nat_eq number aggregate) refl
+    where
+      by : (test : Bool) → nat_eq number aggregate ≡ test → later number is_union ≡ told number is_union
+      by true e = absurd (false≢true (sym (ap is_some (not-told number is_union e)) ∙ some))
+      by false e = ap (option_map (λ kept. layout_kept kept is_union)) (lookup-other number aggregate made layouts e)
+
+  pub now-told : IsTold later aggregate
+  now-told is_union = ap (λ found. is_some (option_map (λ kept. layout_kept kept is_union) found)) (lookup-same aggregate aggregate made layouts refl ((Decides-eqb aggregate aggregate).1 refl))
+
+  module _ (chains more : List Chain) (kept : List (ℕ × Standing)) (standing : Standing) (maps : AreMaps types told chains kept) (grow : ChainsGrow chains more) (now : AreMaps types told more kept) where
+    abbrev members : List (DeclaredMember NameId)
+    members = map (member_declared types) body.members
+
+    pub alike-push : NameAlike (names_kept types told chains kept) (names_of_bodies types bodies)
+        → ((asked : NameId) → lookup (is_name asked) (names_seen types (names_standing told more standing)) ≡ lookup (is_name asked) (names_of_members told (names_kept types told chains kept) 0 members))
+        → NameAlike (names_kept types later more (insert_entry nat_eq kept aggregate standing)) (names_of_bodies types (bodies ++ (aggregate, body) ∷ []))
+    alike-push alike named number asked =
+        by (nat_eq number aggregate) refl ∙ ap (λ all. lookup (is_name asked) (all number)) (sym (names_of_bodies-push types bodies aggregate body))
+      where
+        told_names : Names NameId
+        told_names = names_of_members (told_of_bodies types bodies) (names_of_bodies types bodies) 0 members
+
+        entered : lookup (is_name asked) (names_seen types (names_standing told more standing)) ≡ lookup (is_name asked) told_names
+        entered =
+            named asked ∙ alike-members (names_kept types told chains kept) (names_of_bodies types bodies) alike told asked 0 members
+            ∙ ap (λ t. lookup (is_name asked) (names_of_members t (names_of_bodies types bodies) 0 members)) right
+
+        by : (test : Bool) → nat_eq number aggregate ≡ test → lookup (is_name asked) (names_kept types later more (insert_entry nat_eq kept aggregate standing) number)
+            ≡ lookup (is_name asked) (tell_names (told_of_bodies types bodies) (names_of_bodies types bodies) aggregate members number)
+        by true e =
+            let none = sym (λ i. right i number false) ∙ not-told number false e in
+            ap (lookup (is_name asked)) (names-same types told later layouts-stay more kept now aggregate standing number e) ∙ entered
+            ∙ sym (ap (λ before. lookup (is_name asked) (names_before before (names_of_bodies types bodies number) told_names)) none)
+            ∙ sym (ap (λ test. lookup (is_name asked) (cond test (names_before (told_of_bodies types bodies number false) (names_of_bodies types bodies number) told_names) (names_of_bodies types bodies number))) e)
+        by false e =
+            ap (lookup (is_name asked)) (names-other types told later layouts-stay more kept now aggregate standing number e ∙ names_kept-grow types told chains more kept maps grow number) ∙ alike number asked
+            ∙ sym (ap (λ test. lookup (is_name asked) (cond test (names_before (told_of_bodies types bodies number false) (names_of_bodies types bodies number) told_names) (names_of_bodies types bodies number))) e)

@@ -1,17 +1,17 @@
 -- The names of aggregates by their numbers, as they are kept: where each stands among the chains.
-use Rattle.std.specs.Prelude.{◌≡◌, ℕ, ◌≤◌, Bool, List, [], Option, Some, None, IsSome, length, nat_eq, slice_get, take}
+use Rattle.std.specs.Prelude.{◌≡◌, ℕ, ◌≤◌, Bool, List, [], Option, Some, None, IsSome, length, map, nat_eq, slice_get, take}
 use Rattle.std.specs.List.{AllByRecursion}
 use Rattle.std.specs.Map.{lookup}
 use Rattle.sparse_model.specs.declared.ids.NameId.{NameId}
 use Rattle.meaning_types.specs.Types.{TypeTree}
 use Rattle.meaning_layout.specs.Sizes.{Told}
-use Rattle.meaning_layout.specs.Members.{Names}
+use Rattle.meaning_layout.specs.Members.{Names, names_of_members}
 use Rattle.c_types.specs.declared.bodies.Member.{Member}
 use Rattle.c_types.specs.declared.maps.Heavy.{Heavy}
 use Rattle.c_types.specs.declared.maps.Standing.{Standing}
 use Rattle.c_types.specs.declared.members.FoundMember.{FoundMember}
 use Rattle.c_types.specs.Chains.{AreKnownEntries, AreToldLinks, Chain, ChainGrows, Each, names_below}
-use Rattle.c_types.specs.Members.{anonymous_type, names_seen}
+use Rattle.c_types.specs.Members.{anonymous_type, is_name, member_declared, names_seen}
 use Rattle.c_types.specs.Rows.{type_numbered}
 
 -- the names of an aggregate that stands so in this chain, if there is one
@@ -64,3 +64,16 @@ pub record IsHeavy (types : List TypeTree) (chains : List Chain) (kept : List (�
   pub at : heavy.anonymous.place ≡ place
   pub stands : lookup (nat_eq heavy.anonymous.number) kept ≡ Some heavy.standing
   pub outermost : IsOutermost chains heavy.standing
+
+-- What one more aggregate changes
+
+-- chains grew, and what is kept is right as before
+pub record IsEntered (types : List TypeTree) (told : Told) (old new : List Chain) (kept : List (ℕ × Standing)) : Type 0 where
+  pub grow : ChainsGrow old new
+  pub maps : AreMaps types told new kept
+
+-- where it stands, a name names what it names among these members
+pub record AreNamed (types : List TypeTree) (told : Told) (old new : List Chain) (kept : List (ℕ × Standing)) (members : List Member) (standing : Standing) : Type 0 where
+  pub stands : IsStanding new standing
+  pub named : (asked : NameId) → lookup (is_name asked) (names_seen types (names_standing told new standing))
+      ≡ lookup (is_name asked) (names_of_members told (names_kept types told old kept) 0 (map (member_declared types) members))

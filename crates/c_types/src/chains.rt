@@ -207,16 +207,17 @@ impl NameChain {
         Ok(())
     }
 
-    /// One more aggregate, in which the outermost one stands so, with names before those of that one and behind them. How many entries
-    /// there are then.
+    /// One more aggregate, in which the outermost one stands so, with names before those of that one and behind them. How many aggregates
+    /// stand inside it, and how many entries there are.
     pub fn extend(
         &mut self,
         anonymous: Anonymous,
         before: &[(NameId, FoundMember)],
         behind: &[(NameId, FoundMember)],
-    ) -> Result<u32, AllocError>
-        ensures count { IfOk result (λ count. count ≡ length self.new.entries) }
-        ensures level { OnOk result (length self.new.links ≡ length self.old.links + 1) }
+    ) -> Result<(u32, u32), AllocError>
+        ensures level { IfOk result (λ size. size.0 ≡ length self.new.links) }
+        ensures count { IfOk result (λ size. size.1 ≡ length self.new.entries) }
+        ensures longer { OnOk result (length self.new.links ≡ length self.old.links + 1) }
         ensures grows { ChainGrows self.old self.new }
         ensures known { (types : List TypeTree) → AreKnownEntries types self.old.entries → AreKnownNames types before.now → AreKnownNames types behind.now → AreKnownEntries types self.new.entries }
         ensures told { (told : Told) → AreToldLinks told self.old.links → IsToldLink told anonymous → AreToldLinks told self.new.links }
@@ -226,7 +227,7 @@ impl NameChain {
         self.surround(anonymous)?;
         self.enter_all(before, first)?;
         self.enter_all(behind, 0)?;
-        Ok(self.count())
+        Ok((self.level(), self.count()))
     }
 }
 

@@ -2,7 +2,7 @@
 //
 // The members of an aggregate arrive, whose anonymous ones were told before; its names stand behind those of the anonymous member
 // that has the most of them, and the names of the others are copied. So a name is copied only into more names than it stood among.
-ghost use Rattle.std.specs.Prelude.{◌≡◌, ◌<◌, ◌≤◌, ◌+◌, ◌++◌, ◌^◌, ◌⊎◌, [], All, IfOk, IfSome, List, None, OnOk, Some, length, map, nat_eq, option_map, slice_get, true, ℕ};
+ghost use Rattle.std.specs.Prelude.{◌≡◌, ◌<◌, ◌≤◌, ◌+◌, ◌++◌, ◌^◌, ◌⊎◌, ◌∷◌, [], All, IfOk, IfSome, List, None, OnErr, OnOk, Some, length, map, nat_eq, option_map, slice_get, true, ℕ};
 ghost use Rattle.meaning_types.specs.Types.{TypeTree};
 ghost use Rattle.std.specs.Map.{lookup};
 ghost use Rattle.indexmap.specs.IndexMap.{insert_entry, spare};
@@ -10,7 +10,8 @@ ghost use Rattle.meaning_layout.specs.Members.{names_of_member, names_of_members
 ghost use Rattle.sparse_model.specs.declared.ids.NameId.{NameId};
 ghost use Rattle.c_types.specs.declared.bodies.Member.{Member};
 ghost use Rattle.c_types.specs.Layouts.{told_kept};
-ghost use Rattle.c_types.specs.Maps.{AreMaps, ChainsGrow, IsHeavy, IsOutermost, IsStanding, names_kept, names_standing};
+ghost use Rattle.c_types.specs.Chains.{AreKnownEntries, all_names};
+ghost use Rattle.c_types.specs.Maps.{AreMaps, AreNamed, IsEntered, IsHeavy, IsOutermost, IsStanding, names_kept};
 ghost use Rattle.c_types.specs.Members.{AreKnownNames, found_seen, is_name, member_declared, names_seen};
 ghost use Rattle.c_types.specs.Rows.{AreRows, types_of};
 
@@ -232,6 +233,49 @@ impl MemberMaps {
         heaviest
     }
 
+    // A chain of its own for the names of members.
+    fn chain_of(
+        &self,
+        alloc: Global,
+        rows: &Rows,
+        layouts: &Layouts,
+        members: &[Member],
+    ) -> Result<NameChain, AllocError>
+        requires rows { AreRows rows.now.rows.entries }
+        requires known { All (λ member. member.of.0 < length (types_of rows.now.rows.entries)) members.now }
+        requires few { length members.now ≤ 2 ^ 30 }
+        requires maps { AreMaps (types_of rows.now.rows.entries) (told_kept layouts.now.kept.entries) self.now.chains.items self.now.kept.entries }
+        ensures bare { IfOk result (λ chain. chain.links ≡ []) }
+        ensures known { IfOk result (λ chain. AreKnownEntries (types_of rows.now.rows.entries) chain.entries) }
+        ensures named { IfOk result (λ chain. (asked : NameId) → lookup (is_name asked) (names_seen (types_of rows.now.rows.entries) (all_names (told_kept layouts.now.kept.entries) chain))
+            ≡ lookup (is_name asked) (names_of_members (told_kept layouts.now.kept.entries) (names_kept (types_of rows.now.rows.entries) (told_kept layouts.now.kept.entries) self.now.chains.items self.now.kept.entries) 0 (map (member_declared (types_of rows.now.rows.entries)) members.now))) }
+    {
+        let names = self.names_of(alloc, rows, layouts, 0, members)?;
+        let mut chain = NameChain::new(alloc);
+        chain.enter_all(names.as_slice(), 0)?;
+        Ok(chain)
+    }
+
+    // One chain more, and where its aggregate stands.
+    fn add(&mut self, chain: NameChain) -> Result<Standing, AllocError>
+        ensures kept { self.new.kept ≡ self.old.kept }
+        ensures chains { OnOk result (self.new.chains.items ≡ self.old.chains.items ++ chain ∷ []) }
+        ensures standing { IfOk result (λ standing. standing ≡ record { chain = length self.old.chains.items; level = 0; count = length chain.entries }) }
+        ensures err { OnErr result (self.new.chains.items ≡ self.old.chains.items) }
+    {
+        let place = self.chains.len();
+        if place >= MAX_MEMBERS {
+            return Err(AllocError);
+        }
+        let count = chain.count();
+        self.chains.push(chain)?;
+        Ok(Standing {
+            chain: place as u32,
+            level: 0,
+            count,
+        })
+    }
+
     // Enters the names of members into a chain of their own.
     fn begin(
         &mut self,
@@ -245,26 +289,11 @@ impl MemberMaps {
         requires few { length members.now ≤ 2 ^ 30 }
         requires maps { AreMaps (types_of rows.now.rows.entries) (told_kept layouts.now.kept.entries) self.old.chains.items self.old.kept.entries }
         ensures kept { self.new.kept ≡ self.old.kept }
-        ensures grows { ChainsGrow self.old.chains.items self.new.chains.items }
-        ensures maps { AreMaps (types_of rows.now.rows.entries) (told_kept layouts.now.kept.entries) self.new.chains.items self.new.kept.entries }
-        ensures stands { IfOk result (IsStanding self.new.chains.items) }
-        ensures named { IfOk result (λ standing. (asked : NameId) → lookup (is_name asked) (names_seen (types_of rows.now.rows.entries) (names_standing (told_kept layouts.now.kept.entries) self.new.chains.items standing))
-            ≡ lookup (is_name asked) (names_of_members (told_kept layouts.now.kept.entries) (names_kept (types_of rows.now.rows.entries) (told_kept layouts.now.kept.entries) self.old.chains.items self.old.kept.entries) 0 (map (member_declared (types_of rows.now.rows.entries)) members.now))) }
+        ensures right { IsEntered (types_of rows.now.rows.entries) (told_kept layouts.now.kept.entries) self.old.chains.items self.new.chains.items self.old.kept.entries }
+        ensures named { IfOk result (AreNamed (types_of rows.now.rows.entries) (told_kept layouts.now.kept.entries) self.old.chains.items self.new.chains.items self.old.kept.entries members.now) }
     {
-        let names = self.names_of(alloc, rows, layouts, 0, members)?;
-        let mut chain = NameChain::new(alloc);
-        chain.enter_all(names.as_slice(), 0)?;
-        let place = self.chains.len();
-        if place >= MAX_MEMBERS {
-            return Err(AllocError);
-        }
-        let count = chain.count();
-        self.chains.push(chain)?;
-        Ok(Standing {
-            chain: place as u32,
-            level: 0,
-            count,
-        })
+        let chain = self.chain_of(alloc, rows, layouts, members)?;
+        self.add(chain)
     }
 
     // Enters the names of members into the chain of one of them.
@@ -282,11 +311,8 @@ impl MemberMaps {
         requires maps { AreMaps (types_of rows.now.rows.entries) (told_kept layouts.now.kept.entries) self.old.chains.items self.old.kept.entries }
         requires heavy { (member : Member) × (slice_get members.now heavy.anonymous.place ≡ Some member) × IsHeavy (types_of rows.now.rows.entries) self.old.chains.items self.old.kept.entries heavy.anonymous.place member heavy }
         ensures kept { self.new.kept ≡ self.old.kept }
-        ensures grows { ChainsGrow self.old.chains.items self.new.chains.items }
-        ensures maps { AreMaps (types_of rows.now.rows.entries) (told_kept layouts.now.kept.entries) self.new.chains.items self.new.kept.entries }
-        ensures stands { IfOk result (IsStanding self.new.chains.items) }
-        ensures named { IfOk result (λ standing. (asked : NameId) → lookup (is_name asked) (names_seen (types_of rows.now.rows.entries) (names_standing (told_kept layouts.now.kept.entries) self.new.chains.items standing))
-            ≡ lookup (is_name asked) (names_of_members (told_kept layouts.now.kept.entries) (names_kept (types_of rows.now.rows.entries) (told_kept layouts.now.kept.entries) self.old.chains.items self.old.kept.entries) 0 (map (member_declared (types_of rows.now.rows.entries)) members.now))) }
+        ensures right { IsEntered (types_of rows.now.rows.entries) (told_kept layouts.now.kept.entries) self.old.chains.items self.new.chains.items self.old.kept.entries }
+        ensures named { IfOk result (AreNamed (types_of rows.now.rows.entries) (told_kept layouts.now.kept.entries) self.old.chains.items self.new.chains.items self.old.kept.entries members.now) }
     {
         let place = heavy.anonymous.place;
         let (before, _) = members.split_at(place as usize);
@@ -294,15 +320,15 @@ impl MemberMaps {
         let before = self.names_of(alloc, rows, layouts, 0, before)?;
         let behind = self.names_of(alloc, rows, layouts, place + 1, behind)?;
         let chain = heavy.standing.chain;
-        let count = self.chains[chain as usize].extend(
+        let size = self.chains[chain as usize].extend(
             heavy.anonymous,
             before.as_slice(),
             behind.as_slice(),
         )?;
         Ok(Standing {
             chain,
-            level: heavy.standing.level + 1,
-            count,
+            level: size.0,
+            count: size.1,
         })
     }
 
@@ -319,11 +345,8 @@ impl MemberMaps {
         requires known { All (λ member. member.of.0 < length (types_of rows.now.rows.entries)) members.now }
         requires maps { AreMaps (types_of rows.now.rows.entries) (told_kept layouts.now.kept.entries) self.old.chains.items self.old.kept.entries }
         ensures kept { self.new.kept ≡ self.old.kept }
-        ensures grows { ChainsGrow self.old.chains.items self.new.chains.items }
-        ensures maps { AreMaps (types_of rows.now.rows.entries) (told_kept layouts.now.kept.entries) self.new.chains.items self.new.kept.entries }
-        ensures stands { IfOk result (IsStanding self.new.chains.items) }
-        ensures named { IfOk result (λ standing. (asked : NameId) → lookup (is_name asked) (names_seen (types_of rows.now.rows.entries) (names_standing (told_kept layouts.now.kept.entries) self.new.chains.items standing))
-            ≡ lookup (is_name asked) (names_of_members (told_kept layouts.now.kept.entries) (names_kept (types_of rows.now.rows.entries) (told_kept layouts.now.kept.entries) self.old.chains.items self.old.kept.entries) 0 (map (member_declared (types_of rows.now.rows.entries)) members.now))) }
+        ensures right { IsEntered (types_of rows.now.rows.entries) (told_kept layouts.now.kept.entries) self.old.chains.items self.new.chains.items self.old.kept.entries }
+        ensures named { IfOk result (AreNamed (types_of rows.now.rows.entries) (told_kept layouts.now.kept.entries) self.old.chains.items self.new.chains.items self.old.kept.entries members.now) }
     {
         if members.len() > MAX_MEMBERS {
             return Err(AllocError);

@@ -18,10 +18,10 @@ use Rattle.c_types.specs.declared.maps.Standing.{Standing}
 use Rattle.c_types.specs.Chains.{Chain, Each}
 use Rattle.c_types.specs.Layouts.{AreNarrow, told_in, told_kept, told_of_bodies}
 use Rattle.c_types.specs.Kept.{IsKept}
-use Rattle.c_types.specs.Maps.{AreMaps, names_kept}
+use Rattle.c_types.specs.Maps.{AreMaps, IsEntered, names_kept}
 use Rattle.c_types.specs.Members.{NameAlike, is_name, names_in, names_of_bodies}
 use Rattle.c_types.proofs.LayoutLemmas.{told_of_bodies-later}
-use Rattle.c_types.proofs.MapLemmas.{maps-more, names_kept-later}
+use Rattle.c_types.proofs.MapLemmas.{maps-more, names_kept-grow, names_kept-later}
 use Rattle.c_types.proofs.NameLemmas.{names_of_bodies-later}
 use Rattle.c_types.specs.Table.{TypeTable, Extends, IsBodyOver, is_named, plain_integers, with_name}
 use Rattle.c_types.proofs.Integers.{integers-stand}
@@ -86,6 +86,22 @@ kept-body rows markings bodies layouts others chains members later more aggregat
       layouts_narrow = narrow;
       members_kept = maps;
       members_right = alike;
+      integers_stand = kept.integers_stand;
+    }
+
+-- chains grew
+pub kept-grown : (rows : List Row) (markings : List (Marking × ℕ)) (bodies : List (ℕ × AggregateBody)) (layouts : List (ℕ × AggregateLayout)) (chains later : List Chain) (members : List (ℕ × Standing))
+    → IsKept rows markings bodies layouts chains members → IsEntered (types_of rows) (told_kept layouts) chains later members → IsKept rows markings bodies layouts later members
+kept-grown rows markings bodies layouts chains later members kept right =
+    record {
+      rows_right = kept.rows_right;
+      markings_right = kept.markings_right;
+      bodies_known = kept.bodies_known;
+      layouts_right = kept.layouts_right;
+      layouts_narrow = kept.layouts_narrow;
+      members_kept = right.maps;
+      members_right = λ number asked.
+      ap (lookup (is_name asked)) (names_kept-grow (types_of rows) (told_kept layouts) chains later members kept.members_kept right.grow number) ∙ kept.members_right number asked;
       integers_stand = kept.integers_stand;
     }
 

@@ -64,7 +64,7 @@ impl MemberMaps {
 
     /// Makes room for one more.
     pub fn reserve(&mut self) -> Result<(), AllocError>
-        ensures chains { self.new.chains ≡ self.old.chains }
+        ensures chains { self.new.chains.items ≡ self.old.chains.items }
         ensures same { self.new.kept.entries ≡ self.old.kept.entries }
         ensures room { OnOk result (0 < spare self.new.kept) }
     {
@@ -74,7 +74,7 @@ impl MemberMaps {
     /// Keeps where one more aggregate stands, for which there is room.
     pub fn keep(&mut self, aggregate: u32, standing: Standing)
         requires { 0 < spare self.old.kept }
-        ensures chains { self.new.chains ≡ self.old.chains }
+        ensures chains { self.new.chains.items ≡ self.old.chains.items }
         ensures kept { self.new.kept.entries ≡ insert_entry nat_eq self.old.kept.entries aggregate standing }
     {
         self.kept.insert(aggregate, standing).unwrap();

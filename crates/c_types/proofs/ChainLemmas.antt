@@ -1,9 +1,9 @@
 -- The names of a chain: where they are found, and what one more entry and one more link change.
-use Rattle.std.proofs.Common.{◌≡◌, ℕ, zero, suc, ◌<◌, ◌≤◌, ◌+◌, ◌-◌, ◌^◌, Bool, true, false, cond, nat_eq, nat_le, List, [], ◌∷◌, ◌++◌, Option, Some, None, if◌then◌else◌, is_some, drop, length, map, option_map, slice_get, take, refl, sym, ap, ◌∙◌, subst, append_assoc, append-nil, length-append, arith}
+use Rattle.std.proofs.Common.{◌≡◌, ℕ, zero, suc, ◌<◌, ◌≤◌, ◌+◌, ◌-◌, ◌^◌, Bool, true, false, cond, nat_le, List, [], ◌∷◌, ◌++◌, Option, Some, None, if◌then◌else◌, is_some, drop, length, option_map, slice_get, take, refl, sym, ap, ◌∙◌, subst, append_assoc, append-nil, length-append, arith}
 use Rattle.std.proofs.lemmas.Bool.{eqb-true, false≢true, le-leb, leb-false, leb-true, lt-leb, true≢false}
 use Rattle.std.proofs.lemmas.Bool.Decides.{Decides-eqb}
 use Rattle.std.proofs.Math.Dec.{leb-zero}
-use Rattle.std.proofs.lemmas.List.{drop-append-le, map-append, take-append-le}
+use Rattle.std.proofs.lemmas.List.{drop-append-le}
 use Rattle.std.proofs.lemmas.Option.{none-some, same_Some, slice_get_within}
 use Rattle.std.specs.Map.{lookup}
 use Rattle.sparse_model.specs.declared.ids.NameId.{NameId}
@@ -12,8 +12,8 @@ use Rattle.meaning_layout.specs.Sizes.{Told}
 use Rattle.c_types.specs.declared.chains.Layered.{Layered}
 use Rattle.c_types.specs.declared.members.Anonymous.{Anonymous}
 use Rattle.c_types.specs.declared.members.FoundMember.{FoundMember}
-use Rattle.c_types.specs.Chains.{AreKnownEntries, AreToldLinks, Chain, ChainGrows, Each, IsIndexed, IsToldLink, all_names, is_from, names_below, newest, newest_or, or_later, own_found, own_name, raised, seen_before, shown, with_entry}
-use Rattle.c_types.specs.Members.{AreKnownNames, entries_around, found_around, is_name}
+use Rattle.c_types.specs.Chains.{AreKnownEntries, Chain, Each, IsIndexed, all_names, is_from, names_below, newest, newest_or, or_later, own_found, own_name, raised, seen_before, shown, with_entry}
+use Rattle.c_types.specs.Members.{entries_around, found_around, is_name}
 use Rattle.c_types.specs.Table.{IsLonger}
 use Rattle.c_types.proofs.Finding.{one_test}
 use Rattle.c_types.proofs.NameLemmas.{lookup-append, or_none}
@@ -162,7 +162,7 @@ module _ (lasts others : List (NameId × ℕ)) (links : List Anonymous) (es : Li
   indexed-push level hides few is =
       record {
         last = λ asked.
-        is asked ∙ (λ i. cond (is_name-sym asked entry.name i) (Some (length es)) (are.last asked i)) ∙ sym (newest-push es entry asked);
+            is asked ∙ (λ i. cond (is_name-sym asked entry.name i) (Some (length es)) (are.last asked i)) ∙ sym (newest-push es entry asked);
         hidden = λ index one found. hidden index one found (nat_le (length es) index) refl;
         levels = each-push (λ (one : Layered). one.level ≤ length links) es entry are.levels (omega (arith, level));
         few_links = are.few_links;

@@ -1,5 +1,5 @@
 -- What is kept of aggregates where chains grow, where one more aggregate is told, and where there are more types.
-use Rattle.std.proofs.Common.{◌≡◌, ℕ, zero, suc, ◌<◌, ◌≤◌, ◌+◌, Bool, true, false, cond, nat_eq, List, [], ◌∷◌, ◌++◌, Option, Some, None, IfSome, IsSome, is_some, drop, length, map, option_map, slice_get, take, refl, sym, ap, ◌∙◌, subst, All, IfOk, Result, Ok, Err, slice_set, get_or, append_assoc, append-nil, length-append, arith}
+use Rattle.std.proofs.Common.{◌≡◌, ℕ, zero, suc, ◌<◌, ◌≤◌, ◌+◌, Bool, true, false, cond, nat_eq, List, [], ◌∷◌, ◌++◌, Option, Some, None, IfSome, IsSome, is_some, drop, length, map, option_map, slice_get, take, refl, sym, ap, ◌∙◌, subst, IfOk, Result, Ok, Err, slice_set, get_or, append_assoc, append-nil, length-append, arith}
 use Rattle.std.proofs.lemmas.Bool.{eqb-true, false≢true}
 use Rattle.std.proofs.lemmas.Bool.Decides.{Decides-eqb}
 use Rattle.std.proofs.lemmas.List.{map-append, take-append-le}
@@ -10,28 +10,27 @@ use Rattle.std.specs.Map.{lookup}
 use Rattle.indexmap.specs.IndexMap.{insert_entry}
 use Rattle.sparse_model.specs.declared.ids.NameId.{NameId}
 use Rattle.meaning_types.specs.Types.{TypeTree, Typed, VoidTree, IntegerTree, RestrictedTree, PointerTree, ArrayTree, FunctionTree, AggregateTree}
-use Rattle.meaning_layout.specs.Members.{DeclaredMember, Names, anonymous_names, bits_behind, first_bit_in, names_by, names_of_member, names_of_members, own_member, unnamed_names}
+use Rattle.meaning_layout.specs.Members.{DeclaredMember, Names, anonymous_names, bits_behind, first_bit_in, names_before, names_by, names_of_member, names_of_members, own_member, tell_names, unnamed_names}
 use Rattle.meaning_layout.specs.Members as meaning
 use Rattle.meaning_layout.specs.Sizes.{Told}
 use Rattle.meaning_layout.specs.Telling.{or_incomplete}
+use Rattle.c_types.specs.declared.bodies.AggregateBody.{AggregateBody}
 use Rattle.c_types.specs.declared.bodies.Member.{Member}
 use Rattle.c_types.specs.declared.chains.Layered.{Layered}
+use Rattle.c_types.specs.declared.layouts.AggregateLayout.{AggregateLayout}
+use Rattle.c_types.specs.declared.maps.Heavy.{Heavy}
 use Rattle.c_types.specs.declared.maps.Standing.{Standing}
 use Rattle.c_types.specs.declared.members.Anonymous.{Anonymous}
 use Rattle.c_types.specs.declared.members.FoundMember.{FoundMember}
-use Rattle.c_types.specs.Chains.{AreKnownEntries, AreToldLinks, Chain, ChainGrows, Each, IsToldLink, all_names, names_below, newest, or_later, own_name, raised, seen_before, shown}
-use Rattle.c_types.specs.declared.maps.Heavy.{Heavy}
-use Rattle.c_types.specs.Maps.{AreMaps, AreNamed, ChainsGrow, IsEntered, IsHeavy, IsOutermost, IsStanding, IsTold, names_if, names_in_chain, names_kept, names_standing}
+use Rattle.c_types.specs.Chains.{AreKnownEntries, AreToldLinks, Chain, ChainGrows, Each, IsToldLink, all_names, names_below, newest, own_name, raised, seen_before}
+use Rattle.c_types.specs.Layouts.{layout_kept, told_kept, told_of_bodies}
+use Rattle.c_types.specs.Maps.{AreMaps, AreNamed, ChainsGrow, IsEntered, IsHeavy, IsStanding, IsTold, names_if, names_in_chain, names_kept, names_standing}
 use Rattle.c_types.specs.Members.{AreKnownNames, NameAlike, anonymous_type, entries_around, found_around, found_seen, is_aggregate, is_name, member_declared, names_of_bodies, names_seen}
 use Rattle.c_types.specs.Rows.{type_numbered}
 use Rattle.c_types.specs.Table.{IsLonger}
-use Rattle.c_types.proofs.ChainLemmas.{below-append, drop-from, each-push, get-append, get-last, lookup-newest, own-all}
+use Rattle.c_types.proofs.ChainLemmas.{below-append, each-push, get-append, get-last, lookup-newest, own-all}
 use Rattle.c_types.proofs.LayoutLemmas.{lookup-other, lookup-same, told_of_bodies-none}
-use Rattle.c_types.specs.declared.bodies.AggregateBody.{AggregateBody}
-use Rattle.c_types.specs.declared.layouts.AggregateLayout.{AggregateLayout}
-use Rattle.c_types.specs.Layouts.{layout_kept, told_kept, told_of_bodies}
-use Rattle.meaning_layout.specs.Members.{names_before, tell_names}
-use Rattle.c_types.proofs.NameLemmas.{alike-members, around, names_of_bodies-push, found-known, known-append, known-around, lookup-append, seen-around, seen-later}
+use Rattle.c_types.proofs.NameLemmas.{alike-members, around, names_of_bodies-push, found-known, known-append, seen-around, seen-later}
 
 -- Growing
 
@@ -53,8 +52,7 @@ longer-length xs ys more = omega (arith, ap length more.1, length-append xs more
 module _ (chains more : List Chain) (grow : ChainsGrow chains more) (standing : Standing) (stands : IsStanding chains standing) where
   pub standing-stays : IsStanding more standing
   standing-stays =
-      let grown = grow standing.chain stands.0 stands.1 in
-      (
+      let grown = grow standing.chain stands.0 stands.1 in (
         grown.0,
         grown.1,
         omega (arith, stands.2, longer-length stands.0.links grown.0.links grown.2.links),
@@ -367,7 +365,7 @@ module _ (types : List TypeTree) (told : Told) (chains : List Chain) (kept : Lis
         record {
           stands = (chain, at, omega arith, omega arith);
           named = λ asked.
-          ap (λ names. lookup (is_name asked) (names_seen types names)) (outermost-names told (chains ++ chain ∷ []) standing chain at (sym (ap length bare)) refl) ∙ named asked;
+              ap (λ names. lookup (is_name asked) (names_seen types names)) (outermost-names told (chains ++ chain ∷ []) standing chain at (sym (ap length bare)) refl) ∙ named asked;
         }
 
 -- what follows from both results
@@ -490,9 +488,9 @@ module _ (types : List TypeTree) (told : Told) (chains : List Chain) (kept : Lis
         record {
           stands = (after, stands, omega (arith, levels), omega (arith, counts));
           named = λ asked.
-          ap (λ names. lookup (is_name asked) (names_seen types names)) (outermost-names told all standing after stands levels counts)
-          ∙ lookup-map_values (found_seen types) (is_name asked) (all_names told after) ∙ ap (option_map (found_seen types)) (named asked)
-          ∙ sym (lookup-map_values (found_seen types) (is_name asked) (before ++ inner ++ behind)) ∙ ap (lookup (is_name asked)) (all-seen first last);
+              ap (λ names. lookup (is_name asked) (names_seen types names)) (outermost-names told all standing after stands levels counts)
+              ∙ lookup-map_values (found_seen types) (is_name asked) (all_names told after) ∙ ap (option_map (found_seen types)) (named asked)
+              ∙ sym (lookup-map_values (found_seen types) (is_name asked) (before ++ inner ++ behind)) ∙ ap (lookup (is_name asked)) (all-seen first last);
         }
 
 -- Telling

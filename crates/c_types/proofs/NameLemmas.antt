@@ -1,19 +1,18 @@
 -- Names that are entered one after the other, and what they name.
-use Rattle.std.proofs.Common.{◌≡◌, ℕ, suc, ◌<◌, ◌≤◌, ◌+◌, Bool, true, false, cond, nat_eq, List, [], ◌∷◌, ◌++◌, All, Option, Some, None, IfSome, if◌then◌else◌, is_some, length, map, option_map, refl, sym, ap, ◌∙◌, subst, append_assoc, append-nil, arith}
-use Rattle.std.proofs.lemmas.Bool.{eqb-true, false≢true}
+use Rattle.std.proofs.Common.{◌≡◌, ℕ, suc, ◌<◌, Bool, true, false, cond, List, [], ◌∷◌, ◌++◌, All, Option, Some, None, is_some, length, map, option_map, refl, sym, ap, ◌∙◌, subst}
+use Rattle.std.proofs.lemmas.Bool.{false≢true}
 use Rattle.std.proofs.lemmas.List.{map-append}
 use Rattle.std.proofs.lemmas.List.Elements.{All-head, All-tail}
 use Rattle.std.proofs.lemmas.Map.Made.{lookup-map_values}
 use Rattle.std.proofs.lemmas.Option.{none-some, same_Some}
 use Rattle.std.specs.List.{AllByRecursion}
 use Rattle.std.specs.Map.{lookup}
-use Rattle.indexmap.specs.IndexMap.{insert_entry}
 use Rattle.sparse_model.specs.declared.ids.NameId.{NameId}
 use Rattle.sparse_model.specs.declared.space.Space.{Space}
 use Rattle.sparse_model.specs.declared.space.Space.TheVariants as spaces
 use Rattle.meaning_types.specs.Types.{TypeTree, Typed, VoidTree, IntegerTree, RestrictedTree, PointerTree, ArrayTree, FunctionTree, AggregateTree}
 use Rattle.meaning_types.specs.Marks.{later_space}
-use Rattle.std.specs.Prelude.{OnOk, Result, Ok, Err, drop, slice_get, zero}
+use Rattle.std.specs.Prelude.{OnOk, Result, Ok, Err}
 use Rattle.meaning_layout.specs.Members.{DeclaredBody, DeclaredMember, Names, anonymous_member, anonymous_names, names_before, names_by, names_in_order, names_of_member, names_of_members, no_names, own_member, tell_names, unnamed_names}
 use Rattle.meaning_layout.specs.Members as meaning
 use Rattle.meaning_layout.specs.Sizes.{Told}
@@ -26,10 +25,9 @@ use Rattle.c_types.specs.declared.members.FoundMember.{FoundMember}
 use Rattle.c_types.specs.Chains.{or_later}
 use Rattle.c_types.specs.Layouts.{body_seen, body_told, told_of_bodies}
 use Rattle.c_types.specs.Members.{AreKnownNames, NameAlike, body_declared, entries_around, found_around, found_seen, inner_space, is_name, member_declared, names_of_bodies, names_seen}
-use Rattle.c_types.specs.Rows.{type_numbered}
 use Rattle.c_types.specs.Table.{IsBodyOver, space_of}
 use Rattle.c_types.proofs.Forms.{numbered-kept}
-use Rattle.c_types.proofs.LayoutLemmas.{lookup-other, lookup-same, members-later, told_of_bodies-none}
+use Rattle.c_types.proofs.LayoutLemmas.{members-later}
 
 -- Lists of names
 

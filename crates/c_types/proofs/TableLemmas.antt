@@ -15,7 +15,7 @@ use Rattle.c_types.specs.Rows.{Row, types_of, AreRows, Grows}
 use Rattle.c_types.specs.Levels.{AreMarkings}
 use Rattle.c_types.specs.declared.layouts.AggregateLayout.{AggregateLayout}
 use Rattle.c_types.specs.declared.maps.Standing.{Standing}
-use Rattle.c_types.specs.Chains.{Chain, Each}
+use Rattle.c_types.specs.Chains.{Chain}
 use Rattle.c_types.specs.Layouts.{AreNarrow, told_in, told_kept, told_of_bodies}
 use Rattle.c_types.specs.Kept.{IsKept}
 use Rattle.c_types.specs.Maps.{AreMaps, IsEntered, names_kept}
@@ -101,7 +101,7 @@ kept-grown rows markings bodies layouts chains later members kept right =
       layouts_narrow = kept.layouts_narrow;
       members_kept = right.maps;
       members_right = λ number asked.
-      ap (lookup (is_name asked)) (names_kept-grow (types_of rows) (told_kept layouts) chains later members kept.members_kept right.grow number) ∙ kept.members_right number asked;
+          ap (lookup (is_name asked)) (names_kept-grow (types_of rows) (told_kept layouts) chains later members kept.members_kept right.grow number) ∙ kept.members_right number asked;
       integers_stand = kept.integers_stand;
     }
 

@@ -1,5 +1,5 @@
 -- The names of aggregates that stand in one another, each in the next, and what each of them sees.
-use Rattle.std.specs.Prelude.{◌≡◌, ℕ, zero, suc, ◌+◌, ◌≤◌, ◌<◌, ◌^◌, Bool, false, nat_le, List, [], ◌∷◌, ◌++◌, Option, Some, None, IsSome, if◌then◌else◌, drop, length, option_map, slice_get, take}
+use Rattle.std.specs.Prelude.{◌≡◌, ℕ, zero, suc, ◌≤◌, ◌<◌, ◌^◌, Bool, false, nat_le, List, [], ◌∷◌, ◌++◌, Option, Some, None, IsSome, if◌then◌else◌, drop, length, option_map, slice_get}
 use Rattle.std.specs.Map.{lookup}
 use Rattle.sparse_model.specs.declared.ids.NameId.{NameId}
 use Rattle.meaning_types.specs.Types.{TypeTree}

@@ -1,6 +1,5 @@
 -- The names of aggregates by their numbers, as they are kept: where each stands among the chains.
 use Rattle.std.specs.Prelude.{◌≡◌, ℕ, ◌≤◌, Bool, List, [], Option, Some, None, IsSome, length, map, nat_eq, slice_get, take}
-use Rattle.std.specs.List.{AllByRecursion}
 use Rattle.std.specs.Map.{lookup}
 use Rattle.sparse_model.specs.declared.ids.NameId.{NameId}
 use Rattle.meaning_types.specs.Types.{TypeTree}

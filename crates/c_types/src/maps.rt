@@ -333,7 +333,8 @@ impl MemberMaps {
     }
 
     /// Enters the names of members with these types, by those that are kept, and says where they stand. More than 2^30 of them are
-    /// want of memory. It takes a step for each member, and for each name of the anonymous ones but the one with the most names.
+    /// want of memory. It takes a step for each member, and for each name of the anonymous ones but the one with the most names: one,
+    /// and one for each anonymous structure around it there.
     pub fn enter(
         &mut self,
         alloc: Global,

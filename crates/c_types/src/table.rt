@@ -276,8 +276,9 @@ impl Types {
         self.maker.rows.tree(alloc, t.0)
     }
 
-    /// Tells the members of an aggregate, which weren't told before, makes its layout, and enters their names. It takes a
-    /// step for each member, and for each name of its anonymous members but those of the one that has the most of them.
+    /// Tells the members of an aggregate, which weren't told before, makes its layout, and enters their names. It takes a step for
+    /// each member, and for each name of its anonymous members but those of the one that has the most of them: these names are
+    /// copied, each with a step more for each anonymous structure around it there.
     pub fn complete(&mut self, aggregate: u32, body: AggregateBody) -> Result<(), AllocError>
         requires untold { body_in self.old aggregate ≡ None }
         requires known { IsBodyOver (types_in self.old) body }

@@ -1,5 +1,5 @@
 -- The new entry is the last one of its name.
-use Rattle.std.proofs.Common.{◌≡◌, Some, cond, length, sym, ap, ◌∙◌, subst, arith}
+use Rattle.std.proofs.Common.{Some, cond, sym, ◌∙◌, subst, arith}
 use Rattle.std.specs.Map.{lookup}
 use Rattle.c_types.specs.Chains.{IsIndexed}
 use Rattle.c_types.specs.Members.{is_name}

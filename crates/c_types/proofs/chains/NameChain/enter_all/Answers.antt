@@ -1,5 +1,5 @@
 -- One name more is entered.
-use Rattle.std.proofs.Common.{◌≡◌, ◌≤◌, [], ◌∷◌, ◌++◌, ap, ◌∙◌, sym, subst, append-nil, arith}
+use Rattle.std.proofs.Common.{[], ◌∙◌, sym, subst, append-nil, arith}
 use Rattle.c_types.specs.Chains.{AreKnownEntries}
 use Rattle.c_types.specs.Members.{AreKnownNames}
 use Rattle.c_types.specs.Table.{IsLonger}
@@ -22,9 +22,9 @@ names-preserved c =
           grows-through c.args.self.now chain new c.names.invariant.grows (record { links = ([], c.enter.ensures.links ∙ sym (append-nil chain.links)); entries = longer });
       first = omega (arith, c.names.invariant.first, longer-length chain.entries new.entries longer);
       known = λ types old names.
-      let before = c.names.invariant.known types old names in
-      let rest = subst (AreKnownNames types) split before.1 in
-      (subst (AreKnownEntries types) (sym entries) (entry-known chain c.args.first name found types before.0 rest.0), rest.1);
+          let before = c.names.invariant.known types old names in
+          let rest = subst (AreKnownNames types) split before.1 in
+          (subst (AreKnownEntries types) (sym entries) (entry-known chain c.args.first name found types before.0 rest.0), rest.1);
       named = λ told asked.
-      entered-step told chain new c.args.first name found c.names.invariant.first asked c.enter.ensures.links entries c.in-Some.others.now c.names.rest.now split ∙ c.names.invariant.named told asked;
+          entered-step told chain new c.args.first name found c.names.invariant.first asked c.enter.ensures.links entries c.in-Some.others.now c.names.rest.now split ∙ c.names.invariant.named told asked;
     }

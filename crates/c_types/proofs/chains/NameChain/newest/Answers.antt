@@ -1,5 +1,5 @@
 -- An entry that is too new leads to the one that it hides.
-use Rattle.std.proofs.Common.{◌≡◌, ◌<◌, ◌≤◌, ℕ, List, None, Some, length, slice_get, refl, sym, ap, ◌∙◌, arith}
+use Rattle.std.proofs.Common.{◌≡◌, Some, length, refl, sym, ap, ◌∙◌, arith}
 use Rattle.std.proofs.lemmas.Option.{slice_get_read}
 use Rattle.c_types.specs.Chains.{newest}
 use Rattle.c_types.proofs.ChainLemmas.{newest-none, newest-some, steps-fall, walked}
@@ -37,8 +37,7 @@ loop-last-preserved c =
     let index = c.in-Some.index in
     let is : newest es c.args.name walks.0 ≡ Some index = ap (λ all. newest all c.args.name walks.0) seen ∙ sym walks.3 ∙ c.in-Some.is in
     let one = newest-some es c.args.name walks.0 index is in
-    let stands = slice_get_read es (length es) index c.index.result.now refl (omega (arith, one.below, walks.2, ap length seen)) c.index.ensures in
-    (
+    let stands = slice_get_read es (length es) index c.index.result.now refl (omega (arith, one.below, walks.2, ap length seen)) c.index.ensures in (
       index,
       omega (arith, c.if-index-count.false),
       omega (arith, one.below, walks.2),

@@ -1,5 +1,5 @@
 -- What is entered into a new chain is what is found there.
-use Rattle.std.proofs.Common.{ap, ◌∙◌, length, map}
+use Rattle.std.proofs.Common.{◌∙◌, map}
 use Rattle.std.specs.Map.{lookup}
 use Rattle.meaning_layout.specs.Members.{names_of_members}
 use Rattle.c_types.specs.Chains.{or_later, own_name}

@@ -2,7 +2,7 @@
 use Rattle.std.proofs.Common.{sym, ap, ◌∙◌, take}
 use Rattle.c_types.specs.Chains.{names_below}
 use Rattle.c_types.specs.Layouts.{told_kept}
-use Rattle.c_types.specs.Maps.{names_in_chain, names_kept}
+use Rattle.c_types.specs.Maps.{names_in_chain}
 use Rattle.c_types.specs.Members.{entries_around, names_seen}
 use Rattle.c_types.specs.Rows.{types_of}
 use Rattle.c_types.proofs.MapLemmas.{below-known, brought, inner-brings, known-behind, seen-behind, standing-read}

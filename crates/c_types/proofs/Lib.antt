@@ -8,6 +8,8 @@ mod LayoutLemmas
 mod MemberLemmas
 mod Finding
 mod NameLemmas
+mod ChainLemmas
+mod MapLemmas
 mod Joins
 mod Singles
 mod Parameters

@@ -14,12 +14,15 @@ use Rattle.c_types.specs.declared.form.Marking.{Marking}
 use Rattle.c_types.specs.Rows.{Row, types_of, AreRows, Grows}
 use Rattle.c_types.specs.Levels.{AreMarkings}
 use Rattle.c_types.specs.declared.layouts.AggregateLayout.{AggregateLayout}
-use Rattle.c_types.specs.declared.members.MemberNames.{MemberNames}
+use Rattle.c_types.specs.declared.maps.Standing.{Standing}
+use Rattle.c_types.specs.Chains.{Chain}
 use Rattle.c_types.specs.Layouts.{AreNarrow, told_in, told_kept, told_of_bodies}
 use Rattle.c_types.specs.Kept.{IsKept}
-use Rattle.c_types.specs.Members.{AreKnownMaps, NameAlike, names_in, names_kept, names_of_bodies}
+use Rattle.c_types.specs.Maps.{AreMaps, IsEntered, names_kept}
+use Rattle.c_types.specs.Members.{NameAlike, is_name, names_in, names_of_bodies}
 use Rattle.c_types.proofs.LayoutLemmas.{told_of_bodies-later}
-use Rattle.c_types.proofs.NameLemmas.{NameAlike-later, maps-more, names_of_bodies-later}
+use Rattle.c_types.proofs.MapLemmas.{maps-more, names_kept-grow, names_kept-later}
+use Rattle.c_types.proofs.NameLemmas.{names_of_bodies-later}
 use Rattle.c_types.specs.Table.{TypeTable, Extends, IsBodyOver, is_named, plain_integers, with_name}
 use Rattle.c_types.proofs.Integers.{integers-stand}
 use Rattle.c_types.proofs.RowLemmas.{types_of-Grows, stands-Grows}
@@ -50,9 +53,9 @@ body-found rows aggregate body (entry ∷ bodies) all found = by (nat_eq aggrega
 
 -- What is kept
 
-pub kept-Grows : (old new : List Row) (markings others : List (Marking × ℕ)) (bodies : List (ℕ × AggregateBody)) (layouts : List (ℕ × AggregateLayout)) (members : List (ℕ × MemberNames))
-    → IsKept old markings bodies layouts members → Grows old new → AreRows new → AreMarkings new others → IsKept new others bodies layouts members
-kept-Grows old new markings others bodies layouts members kept grows are marked =
+pub kept-Grows : (old new : List Row) (markings others : List (Marking × ℕ)) (bodies : List (ℕ × AggregateBody)) (layouts : List (ℕ × AggregateLayout)) (chains : List Chain) (members : List (ℕ × Standing))
+    → IsKept old markings bodies layouts chains members → Grows old new → AreRows new → AreMarkings new others → IsKept new others bodies layouts chains members
+kept-Grows old new markings others bodies layouts chains members kept grows are marked =
     let more = types_of-Grows old new grows in
     let longer : length (types_of old) ≤ length (types_of new) = omega (arith, ap length more.1, length-append (types_of old) more.0) in
     record {
@@ -61,30 +64,48 @@ kept-Grows old new markings others bodies layouts members kept grows are marked 
       bodies_known = bodies-later old new longer bodies kept.bodies_known;
       layouts_right = kept.layouts_right ∙ sym (ap (λ types. told_of_bodies types bodies) more.1 ∙ told_of_bodies-later (types_of old) more.0 bodies kept.bodies_known);
       layouts_narrow = kept.layouts_narrow;
-      members_known = maps-more (types_of old) (types_of new) longer members kept.members_known;
+      members_kept = maps-more (types_of old) (types_of new) (told_kept layouts) chains members longer kept.members_kept;
       members_right =
-          subst (λ types. NameAlike (names_kept types members) (names_of_bodies types bodies)) (sym more.1)
-          (NameAlike-later (types_of old) more.0 members bodies kept.members_known kept.bodies_known kept.members_right);
+          subst (λ types. NameAlike (names_kept types (told_kept layouts) chains members) (names_of_bodies types bodies)) (sym more.1)
+          (λ number asked.
+          ap (lookup (is_name asked)) (names_kept-later (types_of old) more.0 (told_kept layouts) chains members kept.members_kept.known number) ∙ kept.members_right number asked
+          ∙ ap (λ names. lookup (is_name asked) (names number)) (sym (names_of_bodies-later (types_of old) more.0 bodies kept.bodies_known)));
       integers_stand = λ kind. stands-Grows old new grows _ _ (kept.integers_stand kind);
     }
 
-pub kept-body : (rows : List Row) (markings : List (Marking × ℕ)) (bodies : List (ℕ × AggregateBody)) (layouts others : List (ℕ × AggregateLayout)) (members more : List (ℕ × MemberNames)) (aggregate : ℕ) (body : AggregateBody)
-    → IsKept rows markings bodies layouts members → IsBodyOver (types_of rows) body → told_kept others ≡ told_of_bodies (types_of rows) (bodies ++ (aggregate, body) ∷ []) → AreNarrow (told_kept others)
-    → AreKnownMaps (types_of rows) more → NameAlike (names_kept (types_of rows) more) (names_of_bodies (types_of rows) (bodies ++ (aggregate, body) ∷ []))
-    → IsKept rows markings (bodies ++ (aggregate, body) ∷ []) others more
-kept-body rows markings bodies layouts others members more aggregate body kept over right narrow known alike =
+pub kept-body : (rows : List Row) (markings : List (Marking × ℕ)) (bodies : List (ℕ × AggregateBody)) (layouts others : List (ℕ × AggregateLayout)) (chains : List Chain) (members : List (ℕ × Standing)) (later : List Chain) (more : List (ℕ × Standing)) (aggregate : ℕ) (body : AggregateBody)
+    → IsKept rows markings bodies layouts chains members → IsBodyOver (types_of rows) body → told_kept others ≡ told_of_bodies (types_of rows) (bodies ++ (aggregate, body) ∷ []) → AreNarrow (told_kept others)
+    → AreMaps (types_of rows) (told_kept others) later more → NameAlike (names_kept (types_of rows) (told_kept others) later more) (names_of_bodies (types_of rows) (bodies ++ (aggregate, body) ∷ []))
+    → IsKept rows markings (bodies ++ (aggregate, body) ∷ []) others later more
+kept-body rows markings bodies layouts others chains members later more aggregate body kept over right narrow maps alike =
     record {
       rows_right = kept.rows_right;
       markings_right = kept.markings_right;
       bodies_known = bodies-push rows aggregate body over bodies kept.bodies_known;
       layouts_right = right;
       layouts_narrow = narrow;
-      members_known = known;
+      members_kept = maps;
       members_right = alike;
       integers_stand = kept.integers_stand;
     }
 
-pub kept-integers : (rows : List Row) → AreRows rows → types_of rows ≡ plain_integers → IsKept rows [] [] [] []
+-- chains grew
+pub kept-grown : (rows : List Row) (markings : List (Marking × ℕ)) (bodies : List (ℕ × AggregateBody)) (layouts : List (ℕ × AggregateLayout)) (chains later : List Chain) (members : List (ℕ × Standing))
+    → IsKept rows markings bodies layouts chains members → IsEntered (types_of rows) (told_kept layouts) chains later members → IsKept rows markings bodies layouts later members
+kept-grown rows markings bodies layouts chains later members kept right =
+    record {
+      rows_right = kept.rows_right;
+      markings_right = kept.markings_right;
+      bodies_known = kept.bodies_known;
+      layouts_right = kept.layouts_right;
+      layouts_narrow = kept.layouts_narrow;
+      members_kept = right.maps;
+      members_right = λ number asked.
+          ap (lookup (is_name asked)) (names_kept-grow (types_of rows) (told_kept layouts) chains later members kept.members_kept right.grow number) ∙ kept.members_right number asked;
+      integers_stand = kept.integers_stand;
+    }
+
+pub kept-integers : (rows : List Row) → AreRows rows → types_of rows ≡ plain_integers → IsKept rows [] [] [] [] []
 kept-integers rows are types =
     record {
       rows_right = are;
@@ -92,7 +113,13 @@ kept-integers rows are types =
       bodies_known = tt;
       layouts_right = refl;
       layouts_narrow = λ number is_union. tt;
-      members_known = tt;
+      members_kept =
+          record {
+            known = λ place chain at. absurd (none-some chain at);
+            links = λ place chain at. absurd (none-some chain at);
+            standings = λ number standing found. absurd (none-some standing found);
+            all_told = λ number standing found. absurd (none-some standing found);
+          };
       members_right = λ number name. refl;
       integers_stand = integers-stand (types_of rows) types;
     }

@@ -5,6 +5,8 @@ pub mod Levels
 pub mod Table
 pub mod Layouts
 pub mod Members
+pub mod Chains
+pub mod Maps
 pub mod Kept
 pub mod Nodes
 pub mod Operands

@@ -1,5 +1,5 @@
--- The members of aggregates by their names: which they are, and how they are kept.
-use Rattle.std.specs.Prelude.{◌≡◌, ℕ, ◌<◌, Bool, true, false, ◌||◌, List, [], ◌∷◌, ◌++◌, Option, Some, None, if◌then◌else◌, is_some, length, map, nat_eq}
+-- The members of aggregates by their names: which they are, and how they are seen.
+use Rattle.std.specs.Prelude.{◌≡◌, ℕ, ◌<◌, Bool, true, false, ◌||◌, List, Option, length, map, nat_eq}
 use Rattle.std.specs.List.{AllByRecursion}
 use Rattle.std.specs.Map.{lookup}
 use Rattle.sparse_model.specs.declared.ids.NameId.{NameId}
@@ -14,7 +14,6 @@ use Rattle.c_types.specs.declared.bodies.AggregateBody.{AggregateBody}
 use Rattle.c_types.specs.declared.bodies.Member.{Member}
 use Rattle.c_types.specs.declared.members.Anonymous.{Anonymous}
 use Rattle.c_types.specs.declared.members.FoundMember.{FoundMember}
-use Rattle.c_types.specs.declared.members.MemberNames.{MemberNames}
 use Rattle.c_types.specs.Layouts.{body_seen}
 use Rattle.c_types.specs.Rows.{type_numbered}
 use Rattle.c_types.specs.Table.{TypeTable, space_of, types_in}
@@ -59,31 +58,9 @@ found_seen types found =
 abbrev pub names_seen : List TypeTree → List (NameId × FoundMember) → Names NameId
 names_seen types entries = map (λ entry. (entry.0, found_seen types entry.1)) entries
 
--- How names are kept
-
--- each name with what it names, unless it stands before
-module _ {X : Type 0} where
-  abbrev pub with_entry : List (NameId × X) → NameId → X → List (NameId × X)
-  with_entry entries name found = if is_some (lookup (is_name name) entries) then entries else entries ++ (name, found) ∷ []
-
-  abbrev pub with_entries : List (NameId × X) → List (NameId × X) → List (NameId × X)
-  with_entries entries [] = entries
-  with_entries entries (entry ∷ more) = with_entries (with_entry entries entry.0 entry.1) more
-
--- what is kept of an aggregate, if anything
-abbrev pub names_if : List TypeTree → Option MemberNames → Names NameId
-names_if types None = []
-names_if types (Some names) = names_seen types names.found.entries
-
-abbrev pub names_kept : List TypeTree → List (ℕ × MemberNames) → ℕ → Names NameId
-names_kept types kept number = names_if types (lookup (nat_eq number) kept)
-
 -- the types of members are these
 abbrev pub AreKnownNames : List TypeTree → List (NameId × FoundMember) → Type 0
 AreKnownNames types entries = AllByRecursion (λ entry. entry.1.of.0 < length types) entries
-
-abbrev pub AreKnownMaps : List TypeTree → List (ℕ × MemberNames) → Type 0
-AreKnownMaps types kept = AllByRecursion (λ entry. AreKnownNames types entry.1.found.entries) kept
 
 -- a name names the same by what is kept as by the bodies
 abbrev pub NameAlike : (ℕ → Names NameId) → (ℕ → Names NameId) → Type 0

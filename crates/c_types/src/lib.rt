@@ -6,6 +6,7 @@
 #![tactic(auto)]
 
 mod bodies;
+mod chains;
 mod composite;
 mod elements;
 mod form;
@@ -14,6 +15,7 @@ mod laying;
 mod layouts;
 mod levels;
 mod making;
+mod maps;
 mod members;
 mod nodes;
 mod operand;

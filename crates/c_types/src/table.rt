@@ -21,7 +21,8 @@ use crate::form::{MarkWords, Marks, SpaceKey};
 use crate::kinds::{kind_number, promoted_kind, usual_kind};
 use crate::layouts::{LayoutFault, Layouts};
 use crate::making::Maker;
-use crate::members::{FoundMember, MemberMaps};
+use crate::maps::MemberMaps;
+use crate::members::FoundMember;
 use crate::outline::Outline;
 use crate::rows::Rows;
 use crate::shapes::{OuterShape, TypeShape};
@@ -50,7 +51,7 @@ impl Model for Types {
 
     ghost view = { λ types. record { rows = types.maker.rows.rows.entries; bodies = types.bodies.entries; names = types.names.entries } };
 
-    ghost invariant = { λ types. IsKept types.maker.rows.rows.entries types.maker.markings.entries types.bodies.entries types.layouts.kept.entries types.members.kept.entries };
+    ghost invariant = { λ types. IsKept types.maker.rows.rows.entries types.maker.markings.entries types.bodies.entries types.layouts.kept.entries types.members.chains.items types.members.kept.entries };
 }
 
 impl Types {
@@ -275,8 +276,9 @@ impl Types {
         self.maker.rows.tree(alloc, t.0)
     }
 
-    /// Tells the members of an aggregate, which weren't told before, makes its layout, and enters their names. It takes a
-    /// step for each member, and for each one that its anonymous members have.
+    /// Tells the members of an aggregate, which weren't told before, makes its layout, and enters their names. It takes a step for
+    /// each member, and for each name of its anonymous members but those of the one that has the most of them: these names are
+    /// copied, each with a step more for each anonymous structure around it there.
     pub fn complete(&mut self, aggregate: u32, body: AggregateBody) -> Result<(), AllocError>
         requires untold { body_in self.old aggregate ≡ None }
         requires known { IsBodyOver (types_in self.old) body }
@@ -288,17 +290,18 @@ impl Types {
         let layout = self
             .layouts
             .lay_out(self.maker.alloc, &self.maker.rows, &body)?;
-        let names = self.members.names_of(
+        self.layouts.reserve()?;
+        self.members.reserve()?;
+        self.bodies.reserve(1)?;
+        let standing = self.members.enter(
             self.maker.alloc,
             &self.maker.rows,
             &self.layouts,
             body.members.as_slice(),
         )?;
-        self.layouts.reserve()?;
-        self.members.reserve()?;
-        self.bodies.insert(aggregate, body)?;
+        self.bodies.insert(aggregate, body).unwrap();
         self.layouts.keep(aggregate, layout);
-        self.members.keep(aggregate, names);
+        self.members.keep(aggregate, standing);
         Ok(())
     }
 
@@ -344,12 +347,12 @@ impl Types {
     }
 
     /// The member that a name names in an aggregate, once its members were told (C11 6.5.2.3 p3). It takes no memory, and one
-    /// look-up.
+    /// look-up, a step for each anonymous structure around the member, and one for each other member of this name further outside.
     pub fn member(&self, aggregate: u32, name: NameId) -> Option<FoundMember>
         ensures member { option_map (found_seen (types_in self.now)) result ≡ member_in self.now aggregate name }
         ensures known { IfSome result (λ found. IsTypeId self.now found.of) }
     {
-        self.members.find(aggregate, name)
+        self.members.find(&self.layouts, aggregate, name)
     }
 
     /// The first bit of a member that was found, in an aggregate, if that has a layout and such a member. It takes no memory,

@@ -6,7 +6,7 @@ use Rattle.c_types.proofs.table.Types.composite.Goals as goal
 pub invariant_of-self-2 : goal.invariant_of-self-2
 invariant_of-self-2 c =
     kept-Grows c.self.inside.maker.rows.rows.entries c.make_composite.new.self.rows.entries c.self.inside.maker.markings.entries c.self.inside.maker.markings.entries c.self.inside.bodies.entries
-    c.self.inside.layouts.kept.entries c.self.inside.members.kept.entries c.self.invariant c.make_composite.ensures.grows c.make_composite.ensures.rows
+    c.self.inside.layouts.kept.entries c.self.inside.members.chains.items c.self.inside.members.kept.entries c.self.invariant c.make_composite.ensures.grows c.make_composite.ensures.rows
     (AreMarkings-Grows c.self.inside.maker.rows.rows.entries c.make_composite.new.self.rows.entries c.make_composite.ensures.grows c.self.inside.maker.markings.entries c.self.invariant.markings_right)
 
 pub returns-clause-keeps : goal.returns-clause-keeps

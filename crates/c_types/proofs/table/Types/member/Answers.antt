@@ -13,4 +13,4 @@ returns-clause-member c =
 pub returns-clause-known : goal.returns-clause-known
 returns-clause-known c =
     subst (λ table. IfSome c.find.result (λ found. IsTypeId table found.of)) c.self.view_is
-    (c.find.ensures.known (types_of c.self.inside.maker.rows.rows.entries) c.self.invariant.members_known)
+    (c.find.ensures.known (types_of c.self.inside.maker.rows.rows.entries) c.self.invariant.members_kept)

@@ -17,8 +17,6 @@ mod list;
 mod meaning;
 mod piece;
 mod space;
-#[cfg(test)]
-mod tests;
 mod token;
 mod word;
 

@@ -13,8 +13,6 @@ mod integer;
 mod numbers;
 mod quoted;
 mod suffix;
-#[cfg(test)]
-mod tests;
 
 pub use fault::LiteralFault;
 pub use integer::read_integer;

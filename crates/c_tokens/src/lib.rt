@@ -12,13 +12,9 @@ mod fault;
 mod front;
 mod joined;
 mod names;
-#[cfg(test)]
-mod pairs;
 mod punctuators;
 mod quoted;
 mod scanner;
-#[cfg(test)]
-mod tests;
 mod token;
 mod words;
 

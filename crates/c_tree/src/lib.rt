@@ -7,8 +7,6 @@
 
 mod fault;
 mod node;
-#[cfg(test)]
-mod tests;
 mod unit;
 
 pub use fault::AddFault;

@@ -12,8 +12,6 @@ mod pass;
 mod settings;
 mod standing;
 mod surrounding;
-#[cfg(test)]
-mod tests;
 
 pub use operation::{Operation, operation_of};
 pub use pass::surroundings_of;

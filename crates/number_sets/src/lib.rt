@@ -9,8 +9,6 @@ mod addition;
 mod branch;
 mod pair;
 mod sets;
-#[cfg(test)]
-mod tests;
 mod trie;
 
 pub use sets::{NumberSets, SetId};

@@ -6,7 +6,5 @@
 #![tactic(auto)]
 
 mod region;
-#[cfg(test)]
-mod tests;
 
 pub use region::{Handle, Mark, Region};

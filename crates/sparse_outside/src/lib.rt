@@ -16,8 +16,6 @@ mod memory;
 mod memory_sink;
 mod real;
 mod sink;
-#[cfg(test)]
-mod tests;
 mod trace;
 mod words;
 

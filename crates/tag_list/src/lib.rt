@@ -8,8 +8,6 @@ mod chain;
 mod iter;
 mod list;
 mod tagged;
-#[cfg(test)]
-mod tests;
 
 pub use iter::TagIter;
 pub use list::TagList;

@@ -7,8 +7,6 @@
 
 mod links;
 mod order;
-#[cfg(test)]
-mod tests;
 
 pub use links::are_linked;
 pub use order::is_written;

@@ -1,5 +1,7 @@
 // Loads over memory and over the system, puts to sinks that fill up, and words.
-use super::*;
+use sparse_outside::{
+    Files, HonestFiles, Load, MemoryFiles, MemorySink, Put, RealFiles, RealSink, Sink, Words,
+};
 use std::fs;
 use std::process::Abort;
 use std::rt::Files as SystemFiles;

@@ -1,5 +1,5 @@
 // Regions as their callers meet them: they are filled, joined, written, released and dropped.
-use crate::{Mark, Region};
+use region_alloc::{Mark, Region};
 use std::alloc::{AllocError, Global};
 use std::cell::Cell;
 use std::process::Abort;

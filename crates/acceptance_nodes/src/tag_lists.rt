@@ -1,9 +1,9 @@
 // Lists as their callers meet them: they are joined of lists that fit in their link and of others, walked from both
 // ends, changed and shortened.
-use crate::TagList;
 use std::alloc::{AllocError, Global};
 use std::process::Abort;
 use std::test::Fail;
+use tag_list::TagList;
 
 // The handles count down from the greatest one, and the tags go round.
 const MOST_HANDLE: u32 = 1_073_741_823;

@@ -2,7 +2,7 @@
 ghost use Rattle.std.specs.Prelude.{◌≡◌, ◌<◌, ◌≤◌, All, IfOk};
 ghost use Rattle.meaning_tree.specs.Nodes.{end_of};
 
-use crate::{AddFault, Handle, Node, Unit};
+use c_tree::{AddFault, Handle, Node, Unit};
 use sparse_model::{NameId, NodeKind, Role};
 use std::alloc::{AllocError, Global};
 use std::process::Abort;

@@ -1,5 +1,5 @@
 // Short literals, and what each of them has to be read as.
-use super::{LiteralFault, read_char, read_integer, read_string};
+use c_literals::{LiteralFault, read_char, read_integer, read_string};
 use sparse_model::{IntConst, IntKind};
 use std::process::Abort;
 use std::test::Fail;

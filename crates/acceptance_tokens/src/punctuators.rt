@@ -1,5 +1,5 @@
 // Punctuators side by side, as `lex` and a second, plain scanner find them.
-use super::{Names, lex};
+use c_tokens::{Names, lex};
 use sparse_model::TokenKind;
 use std::alloc::Global;
 use std::process::Abort;

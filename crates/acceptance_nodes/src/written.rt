@@ -3,13 +3,13 @@
 ghost use Rattle.std.specs.Prelude.{◌≡◌, ◌<◌, ◌≤◌, All, IfOk};
 ghost use Rattle.meaning_tree.specs.Nodes.{end_of};
 
-use crate::{are_linked, is_written};
 use c_tree::{AddFault, Handle, Node, Unit};
 use sparse_model::{NameId, NodeKind, Role};
 use std::alloc::{AllocError, Global};
 use std::process::Abort;
 use std::test::Fail;
 use tag_list::TagList;
+use written_units::{are_linked, is_written};
 
 // Only memory can be wanting in so small a unit.
 fn add(

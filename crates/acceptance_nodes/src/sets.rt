@@ -1,5 +1,5 @@
 // Sets as their callers meet them: they grow, and are joined and compared.
-use crate::{NumberSets, SetId};
+use number_sets::{NumberSets, SetId};
 use std::alloc::AllocError;
 use std::process::Abort;
 use std::test::Fail;

@@ -2,7 +2,7 @@
 ghost use Rattle.std.specs.Prelude.{◌^◌, ◌<◌, All, length};
 ghost use Rattle.c_tokens.specs.Seen.{IsKnown};
 
-use super::{LexFault, Names, Token, lex, one_token, punctuator};
+use c_tokens::{LexFault, Names, Token, lex, one_token, punctuator};
 use sparse_model::{Place, TokenKind};
 use std::alloc::Global;
 use std::fmt::Write;

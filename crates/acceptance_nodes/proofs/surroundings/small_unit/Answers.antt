@@ -6,7 +6,7 @@ use Rattle.sparse_model.specs.declared.ids.NameId.{NameId}
 use Rattle.meaning_tree.specs.Nodes.{TreeNode, NodeList, with_node}
 use Rattle.meaning_tree.specs.Laid.{IsLaid}
 use Rattle.meaning_tree.specs.Runs.{IsRun, run, no_runs, last_run}
-use Rattle.node_surroundings.proofs.tests.small_unit.Goals as goal
+use Rattle.acceptance_nodes.proofs.surroundings.small_unit.Goals as goal
 
 abbrev node : NodeKind → List (ℕ × ℕ) → TreeNode NameId
 node kind children = record { kind = kind; token = 0; name = record { 0 = 0 }; number = 0; children = children }

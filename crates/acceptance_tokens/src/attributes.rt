@@ -1,5 +1,5 @@
 // One list with an attribute of each kind, an item, and a context statement, with what each of them means.
-use super::{Attribute, Attrs, context_change, read_attrs, read_item};
+use c_attrs::{Attribute, Attrs, context_change, read_attrs, read_item};
 use c_tokens::{Names, lex};
 use sparse_model::{ContextEntry, Space};
 use std::test::Fail;

@@ -3,9 +3,9 @@ ghost use Rattle.std.specs.Prelude.{◌≡◌, ◌<◌, ◌≤◌, ◌^◌, [], 
 ghost use Rattle.meaning_tree.specs.Laid.{IsLaid};
 ghost use Rattle.meaning_tree.specs.Nodes.{end_of, with_node};
 
-use crate::{Around, Surrounding, Want, surroundings_of};
 use c_tree::{Handle, Node, Unit};
 use meaning_tree::runs_are_laid;
+use node_surroundings::{Around, Surrounding, Want, surroundings_of};
 use sparse_model::{NameId, NodeKind, Role};
 use std::alloc::{AllocError, Global};
 use std::test::Fail;

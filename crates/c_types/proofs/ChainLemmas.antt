@@ -10,6 +10,7 @@ use Rattle.sparse_model.specs.declared.ids.NameId.{NameId}
 use Rattle.meaning_types.specs.Types.{TypeTree}
 use Rattle.meaning_layout.specs.Sizes.{Told}
 use Rattle.c_types.specs.declared.chains.Layered.{Layered}
+use Rattle.c_types.specs.declared.chains.Link.{Link}
 use Rattle.c_types.specs.declared.members.Anonymous.{Anonymous}
 use Rattle.c_types.specs.declared.members.FoundMember.{FoundMember}
 use Rattle.c_types.specs.Chains.{AreKnownEntries, Chain, Each, IsIndexed, all_names, is_from, names_below, newest, newest_or, or_later, own_found, own_name, raised, seen_before, shown, with_entry}
@@ -35,11 +36,15 @@ module _ {X : Type 0} where
   get-within (x ∷ xs) zero within = (x, refl)
   get-within (x ∷ xs) (suc index) within = get-within xs index (omega (arith, within))
 
+  -- an element of a list with one more is one of the list, or that one
+  pub push-cases : {P : Type 0} (xs : List X) (x : X) (index : ℕ) (y : X) → slice_get (xs ++ x ∷ []) index ≡ Some y → (index < length xs → slice_get xs index ≡ Some y → P) → (index ≡ length xs → x ≡ y → P) → P
+  push-cases [] x zero y found old new = new refl (same_Some _ _ found)
+  push-cases [] x (suc index) y found old new = absurd (none-some y found)
+  push-cases (z ∷ xs) x zero y found old new = old (omega arith) found
+  push-cases (z ∷ xs) x (suc index) y found old new = push-cases xs x index y found (λ less. old (omega (arith, less))) (λ at. new (omega (arith, at)))
+
   pub each-push : (P : X → Type 0) (xs : List X) (x : X) → Each P xs → P x → Each P (xs ++ x ∷ [])
-  each-push P [] x each is zero y found = subst P (same_Some _ _ found) is
-  each-push P [] x each is (suc index) y found = absurd (none-some y found)
-  each-push P (z ∷ xs) x each is zero y found = each zero y found
-  each-push P (z ∷ xs) x each is (suc index) y found = each-push P xs x (λ i. each (suc i)) is index y found
+  each-push P xs x each is index y found = push-cases xs x index y found (λ less. each index y) (λ at same. subst P same is)
 
 -- one name, told by its number
 pub same_name : (asked name : NameId) → is_name asked name ≡ true → asked ≡ name
@@ -155,7 +160,7 @@ is_name-sym asked name =
     (λ e. subst (λ n. is_name n asked ≡ true) (same_name asked name e) (is_name-refl asked))
 
 -- one more entry, which hides the last one of its name
-module _ (lasts others : List (NameId × ℕ)) (links : List Anonymous) (es : List Layered) (are : IsIndexed lasts links es) (entry : Layered) where
+module _ (lasts others : List (NameId × ℕ)) (links : List Link) (es : List Layered) (are : IsIndexed lasts links es) (entry : Layered) where
   pub indexed-push : entry.level ≡ length links → entry.hides ≡ newest es entry.name (length es) → length es < 2 ^ 30
       → ((asked : NameId) → lookup (is_name asked) others ≡ cond (is_name entry.name asked) (Some (length es)) (lookup (is_name asked) lasts))
       → IsIndexed others links (es ++ entry ∷ [])
@@ -163,29 +168,30 @@ module _ (lasts others : List (NameId × ℕ)) (links : List Anonymous) (es : Li
       record {
         last = λ asked.
             is asked ∙ (λ i. cond (is_name-sym asked entry.name i) (Some (length es)) (are.last asked i)) ∙ sym (newest-push es entry asked);
-        hidden = λ index one found. hidden index one found (nat_le (length es) index) refl;
+        hidden = λ index one found. push-cases es entry index one found (old index one) (new index one);
         levels = each-push (λ (one : Layered). one.level ≤ length links) es entry are.levels (omega (arith, level));
+        jumps = are.jumps;
         few_links = are.few_links;
         few_entries = omega (arith, few, length-append es (entry ∷ []));
       }
     where
-      hidden : (index : ℕ) (one : Layered) → slice_get (es ++ entry ∷ []) index ≡ Some one → (test : Bool) → nat_le (length es) index ≡ test → one.hides ≡ newest (es ++ entry ∷ []) one.name index
-      hidden index one found false e =
-          let less = leb-false (length es) index e in
-          are.hidden index one (sym (get-append es (entry ∷ []) index less) ∙ found) ∙ sym (newest-append es (entry ∷ []) one.name index (omega (arith, less)))
-      hidden index one found true e =
-          let at : index ≡ length es = omega (arith, leb-true (length es) index e, slice_get_within (es ++ entry ∷ []) index one found, length-append es (entry ∷ [])) in
-          let same : entry ≡ one = same_Some _ _ (sym (get-last es entry) ∙ ap (slice_get (es ++ entry ∷ [])) (sym at) ∙ found) in
+      old : (index : ℕ) (one : Layered) → index < length es → slice_get es index ≡ Some one → one.hides ≡ newest (es ++ entry ∷ []) one.name index
+      old index one less found = are.hidden index one found ∙ sym (newest-append es (entry ∷ []) one.name index (omega (arith, less)))
+
+      new : (index : ℕ) (one : Layered) → index ≡ length es → entry ≡ one → one.hides ≡ newest (es ++ entry ∷ []) one.name index
+      new index one at same =
           subst (λ (e : Layered). e.hides ≡ newest (es ++ entry ∷ []) e.name index) same
           (hides ∙ sym (ap (newest (es ++ entry ∷ []) entry.name) at ∙ newest-append es (entry ∷ []) entry.name (length es) (omega arith)))
 
 -- one more link
-pub indexed-link : (lasts : List (NameId × ℕ)) (links : List Anonymous) (es : List Layered) → IsIndexed lasts links es → (link : Anonymous) → length links < 2 ^ 30 → IsIndexed lasts (links ++ link ∷ []) es
-indexed-link lasts links es are link few =
+pub indexed-link : (lasts : List (NameId × ℕ)) (links : List Link) (es : List Layered) → IsIndexed lasts links es → (link : Link) → link.jump.level ≤ length links → length links < 2 ^ 30
+    → IsIndexed lasts (links ++ link ∷ []) es
+indexed-link lasts links es are link below few =
     record {
       last = are.last;
       hidden = are.hidden;
       levels = λ index entry found. omega (arith, are.levels index entry found, length-append links (link ∷ []));
+      jumps = λ index one found. push-cases links link index one found (λ less. are.jumps index one) (λ at same. subst (λ (l : Link). l.jump.level ≤ index) same (omega (arith, at, below)));
       few_links = omega (arith, few, length-append links (link ∷ []));
       few_entries = are.few_entries;
     }
@@ -193,7 +199,7 @@ indexed-link lasts links es are link few =
 -- What is seen
 
 module _ (told : Told) where
-  pub below-append : (links : List Anonymous) (es more : List Layered) (count : ℕ) → count ≤ length es → names_below told links (es ++ more) count ≡ names_below told links es count
+  pub below-append : (links : List Link) (es more : List Layered) (count : ℕ) → count ≤ length es → names_below told links (es ++ more) count ≡ names_below told links es count
   below-append links es more zero le = refl
   below-append links es more (suc count) le =
       let same = get-append es more count (omega (arith, le)) in
@@ -201,7 +207,7 @@ module _ (told : Told) where
       λ i. seen_before told links (same i) (rest i)
 
   -- a name that is looked up is the newest one's
-  pub lookup-newest : (links : List Anonymous) (es : List Layered) (name : NameId) (count : ℕ)
+  pub lookup-newest : (links : List Link) (es : List Layered) (name : NameId) (count : ℕ)
       → lookup (is_name name) (names_below told links es count) ≡ shown told (record { links = links; entries = es }) (newest es name count)
   lookup-newest links es name zero = refl
   lookup-newest links es name (suc count) = by (slice_get es count) refl (lookup-newest links es name count)
@@ -223,22 +229,22 @@ module _ (told : Told) where
 
   -- One more link raises all
 
-  raised-push : (links : List Anonymous) (link : Anonymous) (found : FoundMember) → raised told (links ++ link ∷ []) found ≡ found_around told link (raised told links found)
-  raised-push [] link found = refl
-  raised-push (one ∷ links) link found = raised-push links link (found_around told one found)
+  pub raised-append : (links more : List Link) (found : FoundMember) → raised told (links ++ more) found ≡ raised told more (raised told links found)
+  raised-append [] more found = refl
+  raised-append (link ∷ links) more found = raised-append links more (found_around told link.anonymous found)
 
-  pub below-push : (links : List Anonymous) (link : Anonymous) (es : List Layered) → Each (λ entry. entry.level ≤ length links) es → (count : ℕ)
-      → names_below told (links ++ link ∷ []) es count ≡ entries_around told link (names_below told links es count)
+  pub below-push : (links : List Link) (link : Link) (es : List Layered) → Each (λ entry. entry.level ≤ length links) es → (count : ℕ)
+      → names_below told (links ++ link ∷ []) es count ≡ entries_around told link.anonymous (names_below told links es count)
   below-push links link es levels zero = refl
   below-push links link es levels (suc count) = by (slice_get es count) refl (below-push links link es levels count)
     where
       by : (found : Option Layered) → slice_get es count ≡ found
-          → names_below told (links ++ link ∷ []) es count ≡ entries_around told link (names_below told links es count)
+          → names_below told (links ++ link ∷ []) es count ≡ entries_around told link.anonymous (names_below told links es count)
           → seen_before told (links ++ link ∷ []) found (names_below told (links ++ link ∷ []) es count)
-          ≡ entries_around told link (seen_before told links found (names_below told links es count))
+          ≡ entries_around told link.anonymous (seen_before told links found (names_below told links es count))
       by None e rest = rest
       by (Some entry) e rest =
-          let one = ap (λ ls. raised told ls entry.found) (drop-append-le entry.level links (link ∷ []) (levels count entry e)) ∙ raised-push (drop entry.level links) link entry.found in
+          let one = ap (λ ls. raised told ls entry.found) (drop-append-le entry.level links (link ∷ []) (levels count entry e)) ∙ raised-append (drop entry.level links) (link ∷ []) entry.found in
           λ i. (entry.name, one i) ∷ rest i
 
   -- Entries from a first one on
@@ -322,7 +328,7 @@ module _ (told : Told) where
   or-assoc (Some x) two three = refl
 
   -- entries behind the first ones come before those
-  module _ (links : List Anonymous) (es more : List Layered) (asked : NameId) where
+  module _ (links : List Link) (es more : List Layered) (asked : NameId) where
     abbrev inner : Chain
     inner = record { links = links; entries = es }
 
@@ -361,7 +367,7 @@ module _ (told : Told) where
         ∙ sym (ap (or_later (own_name told outer (length es) asked)) (own-all inner (newest es asked (length es))))
 
   -- no entry of the first ones is behind them
-  own-empty : (links : List Anonymous) (es : List Layered) (asked : NameId) → own_name told (record { links = links; entries = es }) (length es) asked ≡ None
+  own-empty : (links : List Link) (es : List Layered) (asked : NameId) → own_name told (record { links = links; entries = es }) (length es) asked ≡ None
   own-empty links es asked = by (newest es asked (length es)) refl
     where
       by : (at : Option ℕ) → newest es asked (length es) ≡ at → own_found told (record { links = links; entries = es }) (length es) at ≡ None
@@ -370,13 +376,13 @@ module _ (told : Told) where
           own-by (record { links = links; entries = es }) (length es) (Some index) false (lt-leb (length es) index (newest-some es asked (length es) index e).below)
 
   -- names before those of the inner aggregate, and behind them
-  pub surrounded : (links : List Anonymous) (link : Anonymous) (es : List Layered) → Each (λ entry. entry.level ≤ length links) es
+  pub surrounded : (links : List Link) (link : Link) (es : List Layered) → Each (λ entry. entry.level ≤ length links) es
       → (one two : Chain) → one.links ≡ links ++ link ∷ [] → IsLonger es one.entries → two.links ≡ one.links → (before behind : List (NameId × FoundMember)) (asked : NameId)
       → own_name told one (length es) asked ≡ or_later (own_name told (record { links = links ++ link ∷ []; entries = es }) (length es) asked) (lookup (is_name asked) before)
       → own_name told two 0 asked ≡ or_later (own_name told one 0 asked) (lookup (is_name asked) behind)
-      → lookup (is_name asked) (all_names told two) ≡ lookup (is_name asked) (before ++ entries_around told link (all_names told (record { links = links; entries = es })) ++ behind)
+      → lookup (is_name asked) (all_names told two) ≡ lookup (is_name asked) (before ++ entries_around told link.anonymous (all_names told (record { links = links; entries = es })) ++ behind)
   surrounded links link es levels one two linked longer same before behind asked first second =
-      let around = entries_around told link (all_names told (record { links = links; entries = es })) in
+      let around = entries_around told link.anonymous (all_names told (record { links = links; entries = es })) in
       let raised_all : own_name told (record { links = links ++ link ∷ []; entries = es }) 0 asked ≡ lookup (is_name asked) around =
       own-all (record { links = links ++ link ∷ []; entries = es }) (newest es asked (length es)) ∙ sym (lookup-newest (links ++ link ∷ []) es asked (length es)) ∙ ap (lookup (is_name asked)) (below-push links link es levels (length es))
       in
@@ -439,56 +445,26 @@ pub steps-fall : (es : List Layered) (name : NameId) (last hides : Option ℕ) (
 steps-fall es name last hides index is hidden = omega (arith, ap steps is, ap steps hidden, newest-steps es name index)
 
 -- an entry hides the newest one of the name that is asked
-pub walked : (lasts : List (NameId × ℕ)) (links : List Anonymous) (es : List Layered) → IsIndexed lasts links es → (name : NameId) (most index : ℕ) (entry : Layered) → newest es name most ≡ Some index
+pub walked : (lasts : List (NameId × ℕ)) (links : List Link) (es : List Layered) → IsIndexed lasts links es → (name : NameId) (most index : ℕ) (entry : Layered) → newest es name most ≡ Some index
     → slice_get es index ≡ Some entry → entry.hides ≡ newest es name index
 walked lasts links es are name most index entry is stands =
     let found = newest-some es name most index is in
     let same : found.entry ≡ entry = same_Some _ _ (sym found.stands ∙ stands) in
     are.hidden index entry stands ∙ ap (λ n. newest es n index) (sym (same_name name entry.name (subst (λ (e : Layered). is_name name e.name ≡ true) same found.named)))
 
-pub drop-from : {X : Type 0} (xs : List X) (index : ℕ) (x : X) → slice_get xs index ≡ Some x → drop index xs ≡ x ∷ drop (suc index) xs
-drop-from [] index x is = absurd (none-some x is)
-drop-from (y ∷ xs) zero x is = ap (λ first. first ∷ xs) (same_Some _ _ is)
-drop-from (y ∷ xs) (suc index) x is = drop-from xs index x is
-
-pub get-take : {X : Type 0} (xs : List X) (count index : ℕ) → index < count → slice_get (take count xs) index ≡ slice_get xs index
-get-take xs zero index less = absurd (omega (arith, less))
-get-take [] (suc count) index less = refl
-get-take (x ∷ xs) (suc count) zero less = refl
-get-take (x ∷ xs) (suc count) (suc index) less = get-take xs count index (omega (arith, less))
-
-drop-take : {X : Type 0} (xs : List X) (count index : ℕ) → count ≤ index → drop index (take count xs) ≡ []
-drop-take xs zero zero le = refl
-drop-take xs zero (suc index) le = refl
-drop-take xs (suc count) zero le = absurd (omega (arith, le))
-drop-take [] (suc count) (suc index) le = refl
-drop-take (x ∷ xs) (suc count) (suc index) le = drop-take xs count index (omega (arith, le))
-
--- a link more is passed
-module _ (told : Told) (links : List Anonymous) (level at : ℕ) (found : FoundMember) where
-  pub raised-step : (link : Anonymous) → slice_get links at ≡ Some link → at < level
-      → raised told (drop (at + 1) (take level links)) (found_around told link found) ≡ raised told (drop at (take level links)) found
-  raised-step link stands less =
-      let next : at + 1 ≡ suc at = omega arith in
-      ap (λ n. raised told (drop n (take level links)) (found_around told link found)) next
-      ∙ sym (ap (λ rest. raised told rest found) (drop-from (take level links) at link (get-take links level at less ∙ stands)))
-
-  pub raised-end : level ≤ at → raised told (drop at (take level links)) found ≡ found
-  raised-end le = ap (λ rest. raised told rest found) (drop-take links level at le)
-
 -- a name more is copied
-pub copy-step : (told : Told) (link : Anonymous) (links : List Anonymous) (es : List Layered) (names new : List (NameId × FoundMember)) (most index : ℕ) (layered : Layered) (found : FoundMember) → most ≡ suc index
-    → slice_get es index ≡ Some layered → found ≡ raised told (drop layered.level links) layered.found → new ≡ names ++ (layered.name, found_around told link found) ∷ []
-    → new ++ entries_around told link (names_below told links es index) ≡ names ++ entries_around told link (names_below told links es most)
-copy-step told link links es names new most index layered found next stands is grown =
-    let rest = entries_around told link (names_below told links es index) in
-    ap (λ front. front ++ rest) grown ∙ append_assoc names ((layered.name, found_around told link found) ∷ []) rest
-    ∙ ap (λ f. names ++ (layered.name, found_around told link f) ∷ rest) is
-    ∙ sym (ap (λ one. names ++ entries_around told link (seen_before told links one (names_below told links es index))) stands)
-    ∙ sym (ap (λ n. names ++ entries_around told link (names_below told links es n)) next)
+pub copy-step : (told : Told) (anonymous : Anonymous) (links : List Link) (es : List Layered) (names new : List (NameId × FoundMember)) (most index : ℕ) (layered : Layered) (found : FoundMember) → most ≡ suc index
+    → slice_get es index ≡ Some layered → found ≡ raised told (drop layered.level links) layered.found → new ≡ names ++ (layered.name, found_around told anonymous found) ∷ []
+    → new ++ entries_around told anonymous (names_below told links es index) ≡ names ++ entries_around told anonymous (names_below told links es most)
+copy-step told anonymous links es names new most index layered found next stands is grown =
+    let rest = entries_around told anonymous (names_below told links es index) in
+    ap (λ front. front ++ rest) grown ∙ append_assoc names ((layered.name, found_around told anonymous found) ∷ []) rest
+    ∙ ap (λ f. names ++ (layered.name, found_around told anonymous f) ∷ rest) is
+    ∙ sym (ap (λ one. names ++ entries_around told anonymous (seen_before told links one (names_below told links es index))) stands)
+    ∙ sym (ap (λ n. names ++ entries_around told anonymous (names_below told links es n)) next)
 
 -- what is looked up
-module _ (told : Told) (links : List Anonymous) (es : List Layered) (name : NameId) (most : ℕ) where
+module _ (told : Told) (links : List Link) (es : List Layered) (name : NameId) (most : ℕ) where
   pub find-some : (index : ℕ) (layered : Layered) → newest es name most ≡ Some index → slice_get es index ≡ Some layered → Some (raised told (drop layered.level links) layered.found) ≡ lookup (is_name name) (names_below told links es most)
   find-some index layered is stands =
       sym (lookup-newest told links es name most ∙ ap (shown told (record { links = links; entries = es })) is

@@ -7,8 +7,10 @@ mod ElementLemmas
 mod LayoutLemmas
 mod MemberLemmas
 mod Finding
+mod PlaceLemmas
 mod NameLemmas
 mod ChainLemmas
+mod JumpLemmas
 mod MapLemmas
 mod Joins
 mod Singles

@@ -17,18 +17,20 @@ use Rattle.meaning_layout.specs.Telling.{or_incomplete}
 use Rattle.c_types.specs.declared.bodies.AggregateBody.{AggregateBody}
 use Rattle.c_types.specs.declared.bodies.Member.{Member}
 use Rattle.c_types.specs.declared.chains.Layered.{Layered}
+use Rattle.c_types.specs.declared.chains.Link.{Link}
 use Rattle.c_types.specs.declared.layouts.AggregateLayout.{AggregateLayout}
 use Rattle.c_types.specs.declared.maps.Heavy.{Heavy}
 use Rattle.c_types.specs.declared.maps.Standing.{Standing}
 use Rattle.c_types.specs.declared.members.Anonymous.{Anonymous}
 use Rattle.c_types.specs.declared.members.FoundMember.{FoundMember}
-use Rattle.c_types.specs.Chains.{AreKnownEntries, AreToldLinks, Chain, ChainGrows, Each, IsToldLink, all_names, names_below, newest, own_name, raised, seen_before}
+use Rattle.c_types.specs.Chains.{AreJumps, AreKnownEntries, AreToldLinks, Chain, ChainGrows, Each, IsToldMember, all_names, names_below, newest, own_name, raised, seen_before}
 use Rattle.c_types.specs.Layouts.{layout_kept, told_kept, told_of_bodies}
 use Rattle.c_types.specs.Maps.{AreMaps, AreNamed, ChainsGrow, IsEntered, IsHeavy, IsStanding, IsTold, names_if, names_in_chain, names_kept, names_standing}
 use Rattle.c_types.specs.Members.{AreKnownNames, NameAlike, anonymous_type, entries_around, found_around, found_seen, is_aggregate, is_name, member_declared, names_of_bodies, names_seen}
 use Rattle.c_types.specs.Rows.{type_numbered}
 use Rattle.c_types.specs.Table.{IsLonger}
 use Rattle.c_types.proofs.ChainLemmas.{below-append, each-push, get-append, get-last, lookup-newest, own-all}
+use Rattle.c_types.proofs.JumpLemmas.{jumps-later, links-later, raised-later_from, told-take}
 use Rattle.c_types.proofs.LayoutLemmas.{lookup-other, lookup-same, told_of_bodies-none}
 use Rattle.c_types.proofs.NameLemmas.{alike-members, around, names_of_bodies-push, found-known, known-append, seen-around, seen-later}
 
@@ -72,28 +74,8 @@ module _ (chains more : List Chain) (grow : ChainsGrow chains more) (standing : 
 
 -- More is told
 
-each-take : {X : Type 0} (P : X → Type 0) (count : ℕ) (xs : List X) → Each P xs → Each P (take count xs)
-each-take P zero xs each index x found = absurd (none-some x found)
-each-take P (suc count) [] each index x found = absurd (none-some x found)
-each-take P (suc count) (y ∷ xs) each zero x found = each zero x found
-each-take P (suc count) (y ∷ xs) each (suc index) x found = each-take P count xs (λ i. each (suc i)) index x found
-
-each-drop : {X : Type 0} (P : X → Type 0) (count : ℕ) (xs : List X) → Each P xs → Each P (drop count xs)
-each-drop P zero xs each = each
-each-drop P (suc count) [] each = each
-each-drop P (suc count) (y ∷ xs) each = each-drop P count xs (λ i. each (suc i))
-
 module _ (told later : Told) (stay : (number : ℕ) (is_union : Bool) → IsSome (told number is_union) → later number is_union ≡ told number is_union) where
-  raised-later : (links : List Anonymous) → AreToldLinks told links → (found : FoundMember) → raised later links found ≡ raised told links found
-  raised-later [] each found = refl
-  raised-later (link ∷ links) each found =
-      let same = stay link.number link.is_union (each 0 link refl) in
-      let around : found_around later link found ≡ found_around told link found =
-      λ i. record (found_around told link found) { bits = bits_behind (first_bit_in found.place (or_incomplete (same i))) found.bits }
-      in
-      ap (raised later links) around ∙ raised-later links (λ i. each (suc i)) (found_around told link found)
-
-  below-later : (links : List Anonymous) → AreToldLinks told links → (es : List Layered) (count : ℕ) → names_below later links es count ≡ names_below told links es count
+  below-later : (links : List Link) → AreToldLinks told links → (es : List Layered) (count : ℕ) → names_below later links es count ≡ names_below told links es count
   below-later links each es zero = refl
   below-later links each es (suc count) = by (slice_get es count) (below-later links each es count)
     where
@@ -101,7 +83,7 @@ module _ (told later : Told) (stay : (number : ℕ) (is_union : Bool) → IsSome
           → seen_before later links found (names_below later links es count) ≡ seen_before told links found (names_below told links es count)
       by None rest = rest
       by (Some entry) rest =
-          let one = raised-later (drop entry.level links) (each-drop (IsToldLink told) entry.level links each) entry.found in
+          let one = raised-later_from told later stay entry.level links each entry.found in
           λ i. (entry.name, one i) ∷ rest i
 
   pub standing-later : (chains : List Chain) → Each (λ (chain : Chain). AreToldLinks told chain.links) chains → (standing : Standing)
@@ -111,15 +93,15 @@ module _ (told later : Told) (stay : (number : ℕ) (is_union : Bool) → IsSome
       by : (found : Option Chain) → slice_get chains standing.chain ≡ found → names_in_chain later found standing ≡ names_in_chain told found standing
       by None e = refl
       by (Some chain) e =
-          below-later (take standing.level chain.links) (each-take (IsToldLink told) standing.level chain.links (each standing.chain chain e)) chain.entries standing.count
+          below-later (take standing.level chain.links) (told-take told later stay standing.level chain.links (each standing.chain chain e)) chain.entries standing.count
 
 -- Types
 
-raised-of : (told : Told) (links : List Anonymous) (found : FoundMember) → (raised told links found).of ≡ found.of
+raised-of : (told : Told) (links : List Link) (found : FoundMember) → (raised told links found).of ≡ found.of
 raised-of told [] found = refl
-raised-of told (link ∷ links) found = raised-of told links (found_around told link found)
+raised-of told (link ∷ links) found = raised-of told links (found_around told link.anonymous found)
 
-pub below-known : (types : List TypeTree) (told : Told) (links : List Anonymous) (es : List Layered) → AreKnownEntries types es → (count : ℕ) → AreKnownNames types (names_below told links es count)
+pub below-known : (types : List TypeTree) (told : Told) (links : List Link) (es : List Layered) → AreKnownEntries types es → (count : ℕ) → AreKnownNames types (names_below told links es count)
 below-known types told links es known zero = tt
 below-known types told links es known (suc count) = by (slice_get es count) refl (below-known types told links es known count)
   where
@@ -140,6 +122,7 @@ maps-more types others told chains kept more maps =
     record {
       known = λ place chain at index entry found. omega (arith, more, maps.known place chain at index entry found);
       links = maps.links;
+      jumps = maps.jumps;
       standings = maps.standings;
       all_told = maps.all_told;
     }
@@ -162,11 +145,13 @@ module _ (types : List TypeTree) (told : Told) (chains more : List Chain) (kept 
       by None e = refl
       by (Some standing) e = ap (names_seen types) (names-stay chains more grow standing (maps.standings number standing e) told)
 
-  pub maps-grow : Each (λ (chain : Chain). AreKnownEntries types chain.entries) more → Each (λ (chain : Chain). AreToldLinks told chain.links) more → AreMaps types told more kept
-  maps-grow known links =
+  pub maps-grow : Each (λ (chain : Chain). AreKnownEntries types chain.entries) more → Each (λ (chain : Chain). AreToldLinks told chain.links) more → Each (λ (chain : Chain). AreJumps told chain.links) more
+      → AreMaps types told more kept
+  maps-grow known links jumps =
       record {
         known = known;
         links = links;
+        jumps = jumps;
         standings = λ number standing found. standing-stays chains more grow standing (maps.standings number standing found);
         all_told = maps.all_told;
       }
@@ -185,7 +170,8 @@ module _ (types : List TypeTree) (told later : Told) (stay : (number : ℕ) (is_
   maps-push stands is =
       record {
         known = maps.known;
-        links = λ place chain at index link found. subst IsSome (sym (stay link.number link.is_union (maps.links place chain at index link found))) (maps.links place chain at index link found);
+        links = λ place chain at. links-later told later stay chain.links (maps.links place chain at);
+        jumps = λ place chain at. jumps-later told later stay chain.links (maps.links place chain at) (maps.jumps place chain at);
         standings = λ number one found. at_standing number one found (nat_eq number aggregate) refl;
         all_told = λ number one found. at_told number one found (nat_eq number aggregate) refl;
       }
@@ -273,7 +259,7 @@ module _ (types : List TypeTree) (told : Told) (chains : List Chain) (kept : Lis
       by (Typed (ArrayTree element count) qualifiers flags) e = refl
       by (Typed (FunctionTree result parameters variadic) qualifiers flags) e = refl
 
-  module _ (unnamed : member.name ≡ None) (bare : member.width ≡ None) (anonymous : Anonymous) (typed : of ≡ anonymous_type anonymous) (at : anonymous.place ≡ place) where
+  module _ (unnamed : member.name ≡ None) (bare : member.width ≡ None) (anonymous : Anonymous) (typed : of ≡ anonymous_type anonymous) (at : anonymous.place ≡ place) (begins : anonymous.bits ≡ Some 0) where
     as-kept : brought ≡ map (λ entry. (entry.0, around types told anonymous entry.1)) (names_kept types told chains kept anonymous.number)
     as-kept =
         as-anonymous unnamed bare ∙ ap (anonymous_names told (names_kept types told chains kept) place) typed
@@ -284,7 +270,7 @@ module _ (types : List TypeTree) (told : Told) (chains : List Chain) (kept : Lis
 
     pub inner-brings : (standing : Standing) → Some standing ≡ lookup (nat_eq anonymous.number) kept → names_seen types (entries_around told anonymous (names_standing told chains standing)) ≡ brought
     inner-brings standing found =
-        seen-around types told anonymous (names_standing told chains standing)
+        seen-around types told anonymous begins (names_standing told chains standing)
         ∙ ap (λ one. map (λ entry. (entry.0, around types told anonymous entry.1)) (names_if types told chains one)) found ∙ sym as-kept
 
   pub own-brings : (name : NameId) (found : FoundMember) → Some name ≡ member.name → found_seen types found ≡ own_member place (member_declared types member) → names_seen types ((name, found) ∷ []) ≡ brought
@@ -339,8 +325,11 @@ fresh-names types told chain names seen_names asked named seen =
     (lookup-newest told chain.links chain.entries asked (length chain.entries) ∙ sym (own-all told chain (newest chain.entries asked (length chain.entries))) ∙ named)
     ∙ sym (lookup-map_values (found_seen types) (is_name asked) names) ∙ ap (lookup (is_name asked)) seen
 
-no-links : (told : Told) (links : List Anonymous) → links ≡ [] → AreToldLinks told links
+no-links : (told : Told) (links : List Link) → links ≡ [] → AreToldLinks told links
 no-links told links bare = subst (AreToldLinks told) (sym bare) (λ index link found. absurd (none-some link found))
+
+no-jumps : (told : Told) (links : List Link) → links ≡ [] → AreJumps told links
+no-jumps told links bare = subst (AreJumps told) (sym bare) (λ index link found. absurd (none-some link found))
 
 module _ (types : List TypeTree) (told : Told) (chains : List Chain) (kept : List (ℕ × Standing)) (maps : AreMaps types told chains kept) where
   pub none-entered : IsEntered types told chains chains kept
@@ -353,7 +342,8 @@ module _ (types : List TypeTree) (told : Told) (chains : List Chain) (kept : Lis
           grow = grow-push chains chain;
           maps =
               maps-grow types told chains (chains ++ chain ∷ []) kept maps (grow-push chains chain) (each-push (λ (one : Chain). AreKnownEntries types one.entries) chains chain maps.known known)
-              (each-push (λ (one : Chain). AreToldLinks told one.links) chains chain maps.links (no-links told chain.links bare));
+              (each-push (λ (one : Chain). AreToldLinks told one.links) chains chain maps.links (no-links told chain.links bare))
+              (each-push (λ (one : Chain). AreJumps told one.links) chains chain maps.jumps (no-jumps told chain.links bare));
         }
 
     pub fresh-named : (members : List Member)
@@ -431,17 +421,18 @@ module _ (types : List TypeTree) (told : Told) (chains : List Chain) (kept : Lis
   abbrev all : List Chain
   all = slice_set chains heavy.standing.chain after
 
-  pub heavy-told : IsToldLink told heavy.anonymous
+  pub heavy-told : IsToldMember told heavy.anonymous
   heavy-told = maps.all_told heavy.anonymous.number heavy.standing is.stands heavy.anonymous.is_union
 
-  pub extended-entered : ChainGrows chain after → AreKnownEntries types after.entries → AreToldLinks told after.links → IsEntered types told chains all kept
-  extended-entered grows known links =
+  pub extended-entered : ChainGrows chain after → AreKnownEntries types after.entries → AreToldLinks told after.links → AreJumps told after.links → IsEntered types told chains all kept
+  extended-entered grows known links jumps =
       let grow = grow-set chains heavy.standing.chain chain after at grows in
       record {
         grow = grow;
         maps =
             maps-grow types told chains all kept maps grow (each-set (λ (one : Chain). AreKnownEntries types one.entries) chains heavy.standing.chain after maps.known known)
-            (each-set (λ (one : Chain). AreToldLinks told one.links) chains heavy.standing.chain after maps.links links);
+            (each-set (λ (one : Chain). AreToldLinks told one.links) chains heavy.standing.chain after maps.links links)
+            (each-set (λ (one : Chain). AreJumps told one.links) chains heavy.standing.chain after maps.jumps jumps);
       }
 
   same-chain : is.outermost.0 ≡ chain
@@ -469,7 +460,7 @@ module _ (types : List TypeTree) (told : Told) (chains : List Chain) (kept : Lis
         let number : place ≡ 0 + place = omega arith in
         let own : names_seen types inner ≡ names_of_member told kept_names place (member_declared types member) =
         ap (λ names. names_seen types (entries_around told heavy.anonymous names)) (sym inner-names)
-        ∙ inner-brings types told chains kept place member is.unnamed is.bare heavy.anonymous is.typed is.at heavy.standing (sym is.stands)
+        ∙ inner-brings types told chains kept place member is.unnamed is.bare heavy.anonymous is.typed is.at is.begins heavy.standing (sym is.stands)
         in
         map-append seen (before ++ inner) behind ∙ ap (λ front. front ++ names_seen types behind) (map-append seen before inner)
         ∙ (λ i. first i ++ own i ++ last i)

@@ -13,7 +13,7 @@ use Rattle.sparse_model.specs.declared.space.Space.TheVariants as spaces
 use Rattle.meaning_types.specs.Types.{TypeTree, Typed, VoidTree, IntegerTree, RestrictedTree, PointerTree, ArrayTree, FunctionTree, AggregateTree}
 use Rattle.meaning_types.specs.Marks.{later_space}
 use Rattle.std.specs.Prelude.{OnOk, Result, Ok, Err}
-use Rattle.meaning_layout.specs.Members.{DeclaredBody, DeclaredMember, Names, anonymous_member, anonymous_names, names_before, names_by, names_in_order, names_of_member, names_of_members, no_names, own_member, tell_names, unnamed_names}
+use Rattle.meaning_layout.specs.Members.{DeclaredBody, DeclaredMember, Names, anonymous_member, anonymous_names, bits_behind, first_bit_in, names_before, names_by, names_in_order, names_of_member, names_of_members, no_names, own_member, tell_names, unnamed_names}
 use Rattle.meaning_layout.specs.Members as meaning
 use Rattle.meaning_layout.specs.Sizes.{Told}
 use Rattle.meaning_layout.specs.Telling.{nothing_told, or_incomplete, told_in_order}
@@ -28,6 +28,7 @@ use Rattle.c_types.specs.Members.{AreKnownNames, NameAlike, body_declared, entri
 use Rattle.c_types.specs.Table.{IsBodyOver, space_of}
 use Rattle.c_types.proofs.Forms.{numbered-kept}
 use Rattle.c_types.proofs.LayoutLemmas.{members-later}
+use Rattle.c_types.proofs.PlaceLemmas.{bits-begin}
 
 -- Lists of names
 
@@ -59,12 +60,18 @@ module _ (types : List TypeTree) where
         anonymous_member anonymous.place (or_incomplete (told anonymous.number anonymous.is_union)) (record { is_const = anonymous.is_const; is_volatile = anonymous.is_volatile })
         (record { noderef = anonymous.noderef; space = space_of anonymous.space })
 
-    found-around : (found : FoundMember) → found_seen types (found_around told anonymous found) ≡ around (found_seen types found)
-    found-around found = λ i. record (around (found_seen types found)) { flags = record { noderef = (found_seen types (found_around told anonymous found)).flags.noderef; space = space-seen found.space i } }
+    found-around : anonymous.bits ≡ Some 0 → (found : FoundMember) → found_seen types (found_around told anonymous found) ≡ around (found_seen types found)
+    found-around begins found =
+        let first = first_bit_in found.place (or_incomplete (told anonymous.number anonymous.is_union)) in
+        let bits = ap (λ own. bits_behind own (bits_behind first found.bits)) begins ∙ bits-begin first found.bits in
+        λ i. record (around (found_seen types found)) {
+          bits = bits i;
+          flags = record { noderef = (found_seen types (found_around told anonymous found)).flags.noderef; space = space-seen found.space i };
+        }
 
-    pub seen-around : (es : List (NameId × FoundMember)) → names_seen types (entries_around told anonymous es) ≡ map (λ entry. (entry.0, around entry.1)) (names_seen types es)
-    seen-around [] = refl
-    seen-around (entry ∷ es) = λ i. (entry.0, found-around entry.1 i) ∷ seen-around es i
+    pub seen-around : anonymous.bits ≡ Some 0 → (es : List (NameId × FoundMember)) → names_seen types (entries_around told anonymous es) ≡ map (λ entry. (entry.0, around entry.1)) (names_seen types es)
+    seen-around begins [] = refl
+    seen-around begins (entry ∷ es) = λ i. (entry.0, found-around begins entry.1 i) ∷ seen-around begins es i
 
 -- Their types
 

@@ -117,6 +117,7 @@ kept-integers rows are types =
           record {
             known = λ place chain at. absurd (none-some chain at);
             links = λ place chain at. absurd (none-some chain at);
+            jumps = λ place chain at. absurd (none-some chain at);
             standings = λ number standing found. absurd (none-some standing found);
             all_told = λ number standing found. absurd (none-some standing found);
           };

@@ -1,10 +1,12 @@
 -- The names of aggregates that stand in one another, each in the next, and what each of them sees.
-use Rattle.std.specs.Prelude.{◌≡◌, ℕ, zero, suc, ◌≤◌, ◌<◌, ◌^◌, Bool, false, nat_le, List, [], ◌∷◌, ◌++◌, Option, Some, None, IsSome, if◌then◌else◌, drop, length, option_map, slice_get}
+use Rattle.std.specs.Prelude.{◌≡◌, ℕ, zero, suc, ◌≤◌, ◌<◌, ◌^◌, Bool, false, nat_le, List, [], ◌∷◌, ◌++◌, Option, Some, None, IsSome, if◌then◌else◌, drop, length, option_map, slice_get, take}
 use Rattle.std.specs.Map.{lookup}
 use Rattle.sparse_model.specs.declared.ids.NameId.{NameId}
 use Rattle.meaning_types.specs.Types.{TypeTree}
 use Rattle.meaning_layout.specs.Sizes.{Told}
+use Rattle.c_types.specs.declared.chains.Jump.{Jump}
 use Rattle.c_types.specs.declared.chains.Layered.{Layered}
+use Rattle.c_types.specs.declared.chains.Link.{Link}
 use Rattle.c_types.specs.declared.members.Anonymous.{Anonymous}
 use Rattle.c_types.specs.declared.members.FoundMember.{FoundMember}
 use Rattle.c_types.specs.Members.{found_around, is_name}
@@ -13,23 +15,33 @@ use Rattle.c_types.specs.Table.{IsLonger}
 -- how each aggregate stands in the next, from the innermost one on, and the names that they bring, in the order in which
 -- they were entered
 pub record Chain : Type 0 where
-  pub links : List Anonymous
+  pub links : List Link
   pub entries : List Layered
 
 -- a member of an aggregate, as one of the aggregate around so many anonymous ones
-abbrev pub raised : Told → List Anonymous → FoundMember → FoundMember
+abbrev pub raised : Told → List Link → FoundMember → FoundMember
 raised told [] found = found
-raised told (link ∷ links) found = raised told links (found_around told link found)
+raised told (link ∷ links) found = raised told links (found_around told link.anonymous found)
+
+-- Jumps
+
+-- up to the aggregate at this level, a jump does with a member what the links do that it jumps over
+abbrev pub IsJump : Told → List Link → (level : ℕ) → Jump → Type 0
+IsJump told links level jump = (found : FoundMember) → found_around told jump.anonymous found ≡ raised told (drop jump.level (take level links)) found
+
+-- the jump of each link leads to the aggregate in which that link stands
+abbrev pub AreJumps : Told → List Link → Type 0
+AreJumps told links = (index : ℕ) (link : Link) → slice_get links index ≡ Some link → IsJump told links (suc index) link.jump
 
 -- What is seen
 
 -- a name in the aggregate that stands around so many links, before others
-abbrev pub seen_before : Told → List Anonymous → Option Layered → List (NameId × FoundMember) → List (NameId × FoundMember)
+abbrev pub seen_before : Told → List Link → Option Layered → List (NameId × FoundMember) → List (NameId × FoundMember)
 seen_before told links None names = names
 seen_before told links (Some entry) names = (entry.name, raised told (drop entry.level links) entry.found) ∷ names
 
 -- the names of that aggregate, if so many first entries are its names, from the last entry on: the last one of a name counts
-abbrev pub names_below : Told → List Anonymous → List Layered → (count : ℕ) → List (NameId × FoundMember)
+abbrev pub names_below : Told → List Link → List Layered → (count : ℕ) → List (NameId × FoundMember)
 names_below told links entries zero = []
 names_below told links entries (suc count) = seen_before told links (slice_get entries count) (names_below told links entries count)
 
@@ -52,11 +64,12 @@ newest entries name (suc count) = newest_or name count (slice_get entries count)
 abbrev pub Each : {X : Type 0} → (X → Type 0) → List X → Type 0
 Each {X} P xs = (index : ℕ) (x : X) → slice_get xs index ≡ Some x → P x
 
--- the last entry of each name is kept, and each entry tells the last one of its name before it
-pub record IsIndexed (lasts : List (NameId × ℕ)) (links : List Anonymous) (entries : List Layered) : Type 0 where
+-- the last entry of each name is kept, each entry tells the last one of its name before it, and jumps come from below
+pub record IsIndexed (lasts : List (NameId × ℕ)) (links : List Link) (entries : List Layered) : Type 0 where
   pub last : (name : NameId) → lookup (is_name name) lasts ≡ newest entries name (length entries)
   pub hidden : (index : ℕ) (entry : Layered) → slice_get entries index ≡ Some entry → entry.hides ≡ newest entries entry.name index
   pub levels : Each (λ entry. entry.level ≤ length links) entries
+  pub jumps : (index : ℕ) (link : Link) → slice_get links index ≡ Some link → link.jump.level ≤ index
   pub few_links : length links ≤ 2 ^ 30
   pub few_entries : length entries ≤ 2 ^ 30
 
@@ -104,8 +117,13 @@ abbrev pub AreKnownEntries : List TypeTree → List Layered → Type 0
 AreKnownEntries types entries = Each (λ (entry : Layered). entry.found.of.0 < length types) entries
 
 -- the anonymous aggregate was told
-abbrev pub IsToldLink : Told → Anonymous → Type 0
-IsToldLink told link = IsSome (told link.number link.is_union)
+abbrev pub IsToldMember : Told → Anonymous → Type 0
+IsToldMember told anonymous = IsSome (told anonymous.number anonymous.is_union)
 
-abbrev pub AreToldLinks : Told → List Anonymous → Type 0
+-- so were those from which a link and its jump come
+pub record IsToldLink (told : Told) (link : Link) : Type 0 where
+  pub own : IsToldMember told link.anonymous
+  pub jump : IsToldMember told link.jump.anonymous
+
+abbrev pub AreToldLinks : Told → List Link → Type 0
 AreToldLinks told links = Each (IsToldLink told) links

@@ -9,7 +9,7 @@ use Rattle.c_types.specs.declared.bodies.Member.{Member}
 use Rattle.c_types.specs.declared.maps.Heavy.{Heavy}
 use Rattle.c_types.specs.declared.maps.Standing.{Standing}
 use Rattle.c_types.specs.declared.members.FoundMember.{FoundMember}
-use Rattle.c_types.specs.Chains.{AreKnownEntries, AreToldLinks, Chain, ChainGrows, Each, names_below}
+use Rattle.c_types.specs.Chains.{AreJumps, AreKnownEntries, AreToldLinks, Chain, ChainGrows, Each, names_below}
 use Rattle.c_types.specs.Members.{anonymous_type, is_name, member_declared, names_seen}
 use Rattle.c_types.specs.Rows.{type_numbered}
 
@@ -42,11 +42,12 @@ IsOutermost chains standing =
 abbrev pub IsTold : Told → ℕ → Type 0
 IsTold told number = (is_union : Bool) → IsSome (told number is_union)
 
--- what is kept is right: members have types of the table, anonymous aggregates were told, and each aggregate that is kept was told
--- and stands within its chain
+-- what is kept is right: members have types of the table, anonymous aggregates were told, jumps do what links do, and each aggregate
+-- that is kept was told and stands within its chain
 pub record AreMaps (types : List TypeTree) (told : Told) (chains : List Chain) (kept : List (ℕ × Standing)) : Type 0 where
   pub known : Each (λ (chain : Chain). AreKnownEntries types chain.entries) chains
   pub links : Each (λ (chain : Chain). AreToldLinks told chain.links) chains
+  pub jumps : Each (λ (chain : Chain). AreJumps told chain.links) chains
   pub standings : (number : ℕ) (standing : Standing) → lookup (nat_eq number) kept ≡ Some standing → IsStanding chains standing
   pub all_told : (number : ℕ) (standing : Standing) → lookup (nat_eq number) kept ≡ Some standing → IsTold told number
 
@@ -61,6 +62,7 @@ pub record IsHeavy (types : List TypeTree) (chains : List Chain) (kept : List (�
   pub bare : member.width ≡ None
   pub typed : type_numbered types member.of.0 ≡ anonymous_type heavy.anonymous
   pub at : heavy.anonymous.place ≡ place
+  pub begins : heavy.anonymous.bits ≡ Some 0
   pub stands : lookup (nat_eq heavy.anonymous.number) kept ≡ Some heavy.standing
   pub outermost : IsOutermost chains heavy.standing
 

@@ -85,18 +85,36 @@ inner_space outer spaces.None = outer
 inner_space outer (spaces.Number number) = spaces.Number number
 inner_space outer (spaces.Named name) = spaces.Named name
 
+-- where one of its members begins in the aggregate around, which lies so in the own member at this place
+abbrev pub bits_around : Told → Anonymous → (place : ℕ) → (bits : Option ℕ) → Option ℕ
+bits_around told anonymous place bits = bits_behind anonymous.bits (bits_behind (first_bit_in place (or_incomplete (told anonymous.number anonymous.is_union))) bits)
+
 -- a member of it as one of the aggregate around
 abbrev pub found_around : Told → Anonymous → FoundMember → FoundMember
 found_around told anonymous found =
     record {
       place = anonymous.place;
-      bits = bits_behind (first_bit_in found.place (or_incomplete (told anonymous.number anonymous.is_union))) found.bits;
+      bits = bits_around told anonymous found.place found.bits;
       of = found.of;
       width = found.width;
       is_const = anonymous.is_const || found.is_const;
       is_volatile = anonymous.is_volatile || found.is_volatile;
       noderef = anonymous.noderef || found.noderef;
       space = inner_space anonymous.space found.space;
+    }
+
+-- an anonymous member of it, likewise
+abbrev pub anonymous_around : Told → (outer inner : Anonymous) → Anonymous
+anonymous_around told outer inner =
+    record {
+      number = inner.number;
+      is_union = inner.is_union;
+      place = outer.place;
+      bits = bits_around told outer inner.place inner.bits;
+      is_const = outer.is_const || inner.is_const;
+      is_volatile = outer.is_volatile || inner.is_volatile;
+      noderef = outer.noderef || inner.noderef;
+      space = inner_space outer.space inner.space;
     }
 
 abbrev pub entries_around : Told → Anonymous → List (NameId × FoundMember) → List (NameId × FoundMember)

@@ -321,6 +321,7 @@ impl MemberMaps {
         let behind = self.names_of(alloc, rows, layouts, place + 1, behind)?;
         let chain = heavy.standing.chain;
         let size = self.chains[chain as usize].extend(
+            layouts,
             heavy.anonymous,
             before.as_slice(),
             behind.as_slice(),
@@ -334,7 +335,7 @@ impl MemberMaps {
 
     /// Enters the names of members with these types, by those that are kept, and says where they stand. More than 2^30 of them are
     /// want of memory. It takes a step for each member, and for each name of the anonymous ones but the one with the most names: one,
-    /// and one for each anonymous structure around it there.
+    /// and the logarithm of how many anonymous structures stand around it there.
     pub fn enter(
         &mut self,
         alloc: Global,

@@ -4,7 +4,7 @@ ghost use Rattle.std.specs.Prelude.{◌≡◌, ◌<◌, IfNone, IfSome, Some, fa
 ghost use Rattle.meaning_layout.specs.Members.{bits_behind, first_bit_in, own_member};
 ghost use Rattle.meaning_layout.specs.Telling.{or_incomplete};
 ghost use Rattle.c_types.specs.Layouts.{told_kept};
-ghost use Rattle.c_types.specs.Members.{anonymous_type, found_around, found_seen, inner_space, is_aggregate, member_declared};
+ghost use Rattle.c_types.specs.Members.{anonymous_around, anonymous_type, bits_around, found_around, found_seen, inner_space, is_aggregate, member_declared};
 ghost use Rattle.c_types.specs.Rows.{AreRows, type_numbered, types_of};
 
 use crate::bodies::Member;
@@ -30,13 +30,16 @@ pub struct FoundMember {
     pub space: Space,
 }
 
-/// An anonymous structure or union as a member.
+/// An anonymous structure or union as a member of an aggregate around it: of the next one, or of one further out.
 #[derive(Clone, Copy)]
 pub struct Anonymous {
-    /// Which of the members it is.
-    pub place: u32,
     pub number: u32,
     pub is_union: bool,
+    /// Which of that aggregate's own members it is, or stands in.
+    pub place: u32,
+    /// How many bits lie before it in that one; none where one of those between has no layout.
+    pub bits: Option<u64>,
+    /// What it and those between add to the types of its members.
     pub is_const: bool,
     pub is_volatile: bool,
     pub noderef: bool,
@@ -92,13 +95,39 @@ impl FoundMember {
     {
         FoundMember {
             place: anonymous.place,
-            bits: self.bits_in(layouts, anonymous.number, anonymous.is_union),
+            bits: anonymous.bits_around(layouts, self.place, self.bits),
             of: self.of,
             width: self.width,
             is_const: anonymous.is_const || self.is_const,
             is_volatile: anonymous.is_volatile || self.is_volatile,
             noderef: anonymous.noderef || self.noderef,
             space: inner_space(anonymous.space, self.space),
+        }
+    }
+}
+
+impl Anonymous {
+    // How many bits lie before one of its members in the aggregate around, with so many before it in the own member at this place.
+    fn bits_around(&self, layouts: &Layouts, place: u32, bits: Option<u64>) -> Option<u64>
+        ensures { result ≡ bits_around (told_kept layouts.now.kept.entries) self.now place bits }
+    {
+        let own = layouts.bit_of(self.number, self.is_union, place);
+        bits_behind(self.bits, bits_behind(own, bits))
+    }
+
+    /// It as a member of an aggregate further out, in which the one around it stands so.
+    pub fn around(self, layouts: &Layouts, outer: Anonymous) -> Anonymous
+        ensures { result ≡ anonymous_around (told_kept layouts.now.kept.entries) outer self }
+    {
+        Anonymous {
+            number: self.number,
+            is_union: self.is_union,
+            place: outer.place,
+            bits: outer.bits_around(layouts, self.place, self.bits),
+            is_const: outer.is_const || self.is_const,
+            is_volatile: outer.is_volatile || self.is_volatile,
+            noderef: outer.noderef || self.noderef,
+            space: inner_space(outer.space, self.space),
         }
     }
 }
@@ -127,15 +156,16 @@ impl Rows {
     pub fn anonymous(&self, place: u32, number: u32) -> Option<Anonymous>
         requires rows { AreRows self.now.rows.entries }
         requires known { number < length (types_of self.now.rows.entries) }
-        ensures some { IfSome result (λ made. (type_numbered (types_of self.now.rows.entries) number ≡ anonymous_type made) × (made.place ≡ place)) }
+        ensures some { IfSome result (λ made. (type_numbered (types_of self.now.rows.entries) number ≡ anonymous_type made) × (made.place ≡ place) × (made.bits ≡ Some 0)) }
         ensures none { IfNone result (is_aggregate (type_numbered (types_of self.now.rows.entries) number) ≡ false) }
     {
         let (aggregate, is_union) = self.outline(number).aggregate()?;
         let shape = self.outer_shape(number);
         Some(Anonymous {
-            place,
             number: aggregate,
             is_union,
+            place,
+            bits: Some(0),
             is_const: shape.is_const,
             is_volatile: shape.is_volatile,
             noderef: shape.noderef,

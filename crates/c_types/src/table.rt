@@ -278,7 +278,7 @@ impl Types {
 
     /// Tells the members of an aggregate, which weren't told before, makes its layout, and enters their names. It takes a step for
     /// each member, and for each name of its anonymous members but those of the one that has the most of them: these names are
-    /// copied, each with a step more for each anonymous structure around it there.
+    /// copied, each in as many steps more as the logarithm of how many anonymous structures stand around it there.
     pub fn complete(&mut self, aggregate: u32, body: AggregateBody) -> Result<(), AllocError>
         requires untold { body_in self.old aggregate ≡ None }
         requires known { IsBodyOver (types_in self.old) body }
@@ -347,7 +347,8 @@ impl Types {
     }
 
     /// The member that a name names in an aggregate, once its members were told (C11 6.5.2.3 p3). It takes no memory, and one
-    /// look-up, a step for each anonymous structure around the member, and one for each other member of this name further outside.
+    /// look-up, as many steps as the logarithm of how many anonymous structures stand around the member, and one for each other
+    /// member of this name further outside.
     pub fn member(&self, aggregate: u32, name: NameId) -> Option<FoundMember>
         ensures member { option_map (found_seen (types_in self.now)) result ≡ member_in self.now aggregate name }
         ensures known { IfSome result (λ found. IsTypeId self.now found.of) }

@@ -1,13 +1,16 @@
--- What is found so far is raised by the links that are left.
-use Rattle.std.proofs.Common.{◌≡◌, ◌-◌, drop, take}
-use Rattle.c_types.specs.Chains.{raised}
+-- The jump so far leads to the level that is asked, and comes from none below the entry's.
+use Rattle.std.proofs.Common.{◌≤◌}
+use Rattle.c_types.specs.Chains.{IsJump}
 use Rattle.c_types.specs.Layouts.{told_kept}
 use Rattle.c_types.proofs.chains.NameChain.raised.Given as goal
 
-abbrev pub invariant-loop-at : goal.invariant-loop-at
-invariant-loop-at l =
-    raised (told_kept l.layouts.kept.entries) (drop l.at (take l.level l.self.links)) l.found
-    ≡ raised (told_kept l.layouts.kept.entries) (drop l.fn.entry.level (take l.level l.self.links)) l.fn.entry.found
+abbrev pub invariant-loop-jump : goal.invariant-loop-jump
+invariant-loop-jump l =
+    record {
+      stays : l.entry.level ≤ l.jump.level;
+      within : l.jump.level ≤ l.level;
+      right : IsJump (told_kept l.layouts.kept.entries) l.self.links l.level l.jump;
+    }
 
-abbrev pub decreases-loop-at : goal.decreases-loop-at
-decreases-loop-at l = l.level - l.at
+abbrev pub decreases-loop-jump : goal.decreases-loop-jump
+decreases-loop-jump l = l.jump.level

@@ -25,7 +25,7 @@ returns-in-Some-get-clause-names c =
     (brought types told chains kept c.args.place c.args.member) is
     (sym (ap (λ one. names_seen types (entries_around told anonymous (names_in_chain told one standing))) read.0)
     ∙ inner-brings types told chains kept c.args.place c.args.member c.requires.unnamed (bare-width c.args.member.width (sym c.is_some.ensures ∙ c.if-is_some.false)) anonymous c.in-Some.ensures.some.0
-    c.in-Some.ensures.some.1 standing c.in-Some-get.ensures.value))
+    c.in-Some.ensures.some.1 c.in-Some.ensures.some.2 standing c.in-Some-get.ensures.value))
 
 pub returns-in-Some-get-clause-known : goal.returns-in-Some-get-clause-known
 returns-in-Some-get-clause-known c =

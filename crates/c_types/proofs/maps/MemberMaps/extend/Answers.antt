@@ -30,7 +30,7 @@ returns-in_err-size-clause-right c =
     (c.extend.ensures.known types (c.requires.maps.known heavy.standing.chain chain at) (subst (AreKnownNames types) (sym c.as_slice.ensures.value) c.in_ok-before.ensures.known)
     (subst (AreKnownNames types) (sym c.as_slice-2.ensures.value) c.in_ok-behind.ensures.known))
     (c.extend.ensures.told told (c.requires.maps.links heavy.standing.chain chain at)
-    (heavy-told types told chains kept c.requires.maps members heavy member within is chain c.extend.new.self at))
+    (heavy-told types told chains kept c.requires.maps members heavy member within is chain c.extend.new.self at)) (c.extend.ensures.jumps (c.requires.maps.jumps heavy.standing.chain chain at))
 
 pub returns-clause-right : goal.returns-clause-right
 returns-clause-right c =
@@ -51,7 +51,7 @@ returns-clause-right c =
     (c.extend.ensures.known types (c.requires.maps.known heavy.standing.chain chain at) (subst (AreKnownNames types) (sym c.as_slice.ensures.value) c.in_ok-before.ensures.known)
     (subst (AreKnownNames types) (sym c.as_slice-2.ensures.value) c.in_ok-behind.ensures.known))
     (c.extend.ensures.told told (c.requires.maps.links heavy.standing.chain chain at)
-    (heavy-told types told chains kept c.requires.maps members heavy member within is chain c.extend.new.self at))
+    (heavy-told types told chains kept c.requires.maps members heavy member within is chain c.extend.new.self at)) (c.extend.ensures.jumps (c.requires.maps.jumps heavy.standing.chain chain at))
 
 pub returns-clause-named : goal.returns-clause-named
 returns-clause-named c =

@@ -9,7 +9,7 @@ use Rattle.c_types.specs.declared.members.Anonymous.{Anonymous}
 use Rattle.c_types.specs.declared.members.FoundMember.{FoundMember}
 use Rattle.c_types.specs.Chains.{AreJumps, AreToldLinks, Each, IsJump, IsToldLink, IsToldMember, raised}
 use Rattle.c_types.specs.Members.{anonymous_around, found_around}
-use Rattle.c_types.proofs.ChainLemmas.{each-push, push-cases, raised-append}
+use Rattle.c_types.proofs.ChainLemmas.{push-cases, raised-append}
 use Rattle.c_types.proofs.PlaceLemmas.{around-later, found-twice}
 
 -- Parts of lists
@@ -38,13 +38,13 @@ module _ {X : Type 0} where
   none-between (suc low) (suc high) [] le = refl
   none-between (suc low) (suc high) (x ∷ xs) le = none-between low high xs (omega (arith, le))
 
-  each-take : (P : X → Type 0) (count : ℕ) (xs : List X) → Each P xs → Each P (take count xs)
+  pub each-take : (P : X → Type 0) (count : ℕ) (xs : List X) → Each P xs → Each P (take count xs)
   each-take P zero xs each index x found = absurd (none-some x found)
   each-take P (suc count) [] each index x found = absurd (none-some x found)
   each-take P (suc count) (y ∷ xs) each zero x found = each zero x found
   each-take P (suc count) (y ∷ xs) each (suc index) x found = each-take P count xs (λ i. each (suc i)) index x found
 
-  each-drop : (P : X → Type 0) (count : ℕ) (xs : List X) → Each P xs → Each P (drop count xs)
+  pub each-drop : (P : X → Type 0) (count : ℕ) (xs : List X) → Each P xs → Each P (drop count xs)
   each-drop P zero xs each = each
   each-drop P (suc count) [] each = each
   each-drop P (suc count) (y ∷ xs) each = each-drop P count xs (λ i. each (suc i))
@@ -115,13 +115,7 @@ module _ (told later : Told) (stay : (number : ℕ) (is_union : Bool) → IsSome
   raised-later (link ∷ links) each found =
       ap (raised later links) (around-later told later stay link.anonymous (each 0 link refl).own found) ∙ raised-later links (λ i. each (suc i)) (found_around told link.anonymous found)
 
-  pub raised-later_from : (level : ℕ) (links : List Link) → AreToldLinks told links → (found : FoundMember) → raised later (drop level links) found ≡ raised told (drop level links) found
-  raised-later_from level links each = raised-later (drop level links) (each-drop (IsToldLink told) level links each)
-
-  pub told-take : (count : ℕ) (links : List Link) → AreToldLinks told links → AreToldLinks told (take count links)
-  told-take = each-take (IsToldLink told)
-
   pub jumps-later : (links : List Link) → AreToldLinks told links → AreJumps told links → AreJumps later links
   jumps-later links each are index link stands found =
       around-later told later stay link.jump.anonymous (each index link stands).jump found ∙ are index link stands found
-      ∙ sym (raised-later_from link.jump.level (take (suc index) links) (told-take (suc index) links each) found)
+      ∙ sym (raised-later (drop link.jump.level (take (suc index) links)) (each-drop (IsToldLink told) link.jump.level (take (suc index) links) (each-take (IsToldLink told) (suc index) links each)) found)

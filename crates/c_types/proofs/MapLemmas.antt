@@ -9,11 +9,10 @@ use Rattle.std.specs.Prelude.{OnOk, OnErr}
 use Rattle.std.specs.Map.{lookup}
 use Rattle.indexmap.specs.IndexMap.{insert_entry}
 use Rattle.sparse_model.specs.declared.ids.NameId.{NameId}
-use Rattle.meaning_types.specs.Types.{TypeTree, Typed, VoidTree, IntegerTree, RestrictedTree, PointerTree, ArrayTree, FunctionTree, AggregateTree}
-use Rattle.meaning_layout.specs.Members.{DeclaredMember, Names, anonymous_names, bits_behind, first_bit_in, names_before, names_by, names_of_member, names_of_members, own_member, tell_names, unnamed_names}
+use Rattle.meaning_types.specs.Types.{TypeTree}
+use Rattle.meaning_layout.specs.Members.{DeclaredMember, Names, anonymous_names, names_before, names_by, names_of_member, names_of_members, tell_names, unnamed_names}
 use Rattle.meaning_layout.specs.Members as meaning
 use Rattle.meaning_layout.specs.Sizes.{Told}
-use Rattle.meaning_layout.specs.Telling.{or_incomplete}
 use Rattle.c_types.specs.declared.bodies.AggregateBody.{AggregateBody}
 use Rattle.c_types.specs.declared.bodies.Member.{Member}
 use Rattle.c_types.specs.declared.chains.Layered.{Layered}
@@ -23,14 +22,14 @@ use Rattle.c_types.specs.declared.maps.Heavy.{Heavy}
 use Rattle.c_types.specs.declared.maps.Standing.{Standing}
 use Rattle.c_types.specs.declared.members.Anonymous.{Anonymous}
 use Rattle.c_types.specs.declared.members.FoundMember.{FoundMember}
-use Rattle.c_types.specs.Chains.{AreJumps, AreKnownEntries, AreToldLinks, Chain, ChainGrows, Each, IsToldMember, all_names, names_below, newest, own_name, raised, seen_before}
+use Rattle.c_types.specs.Chains.{AreJumps, AreKnownEntries, AreToldLinks, Chain, ChainGrows, Each, IsToldLink, IsToldMember, all_names, names_below, newest, own_name, raised, seen_before}
 use Rattle.c_types.specs.Layouts.{layout_kept, told_kept, told_of_bodies}
 use Rattle.c_types.specs.Maps.{AreMaps, AreNamed, ChainsGrow, IsEntered, IsHeavy, IsStanding, IsTold, names_if, names_in_chain, names_kept, names_standing}
-use Rattle.c_types.specs.Members.{AreKnownNames, NameAlike, anonymous_type, entries_around, found_around, found_seen, is_aggregate, is_name, member_declared, names_of_bodies, names_seen}
+use Rattle.c_types.specs.Members.{AreKnownNames, NameAlike, anonymous_type, entries_around, found_around, found_seen, is_name, member_declared, names_of_bodies, names_seen}
 use Rattle.c_types.specs.Rows.{type_numbered}
 use Rattle.c_types.specs.Table.{IsLonger}
 use Rattle.c_types.proofs.ChainLemmas.{below-append, each-push, get-append, get-last, lookup-newest, own-all}
-use Rattle.c_types.proofs.JumpLemmas.{jumps-later, links-later, raised-later_from, told-take}
+use Rattle.c_types.proofs.JumpLemmas.{each-drop, each-take, jumps-later, links-later, raised-later}
 use Rattle.c_types.proofs.LayoutLemmas.{lookup-other, lookup-same, told_of_bodies-none}
 use Rattle.c_types.proofs.NameLemmas.{alike-members, around, names_of_bodies-push, found-known, known-append, seen-around, seen-later}
 
@@ -83,7 +82,7 @@ module _ (told later : Told) (stay : (number : ℕ) (is_union : Bool) → IsSome
           → seen_before later links found (names_below later links es count) ≡ seen_before told links found (names_below told links es count)
       by None rest = rest
       by (Some entry) rest =
-          let one = raised-later_from told later stay entry.level links each entry.found in
+          let one = raised-later told later stay (drop entry.level links) (each-drop (IsToldLink told) entry.level links each) entry.found in
           λ i. (entry.name, one i) ∷ rest i
 
   pub standing-later : (chains : List Chain) → Each (λ (chain : Chain). AreToldLinks told chain.links) chains → (standing : Standing)
@@ -93,7 +92,7 @@ module _ (told later : Told) (stay : (number : ℕ) (is_union : Bool) → IsSome
       by : (found : Option Chain) → slice_get chains standing.chain ≡ found → names_in_chain later found standing ≡ names_in_chain told found standing
       by None e = refl
       by (Some chain) e =
-          below-later (take standing.level chain.links) (told-take told later stay standing.level chain.links (each standing.chain chain e)) chain.entries standing.count
+          below-later (take standing.level chain.links) (each-take (IsToldLink told) standing.level chain.links (each standing.chain chain e)) chain.entries standing.count
 
 -- Types
 
@@ -220,9 +219,6 @@ module _ (types : List TypeTree) (told : Told) (chains : List Chain) (kept : Lis
       ∙ sym (ap (λ one. lookup (is_name asked) (names_seen types (names_in_chain told one standing))) stands)
       ∙ ap (λ one. lookup (is_name asked) (names_if types told chains one)) at
 
-  pub kept-none : None ≡ lookup (nat_eq number) kept → None ≡ lookup (is_name asked) (names_kept types told chains kept number)
-  kept-none none = ap (λ one. lookup (is_name asked) (names_if types told chains one)) none
-
 pub lookup-known : (types : List TypeTree) (asked : NameId) (es : List (NameId × FoundMember)) → AreKnownNames types es → (found : Option FoundMember) → found ≡ lookup (is_name asked) es
     → IfSome found (λ one. one.of.0 < length types)
 lookup-known types asked es known None is = tt
@@ -243,47 +239,21 @@ module _ (types : List TypeTree) (told : Told) (chains : List Chain) (kept : Lis
   as-anonymous : member.name ≡ None → member.width ≡ None → brought ≡ anonymous_names told (names_kept types told chains kept) place of
   as-anonymous unnamed bare = as-unnamed unnamed ∙ ap (λ (width : Option ℕ). unnamed_names told (names_kept types told chains kept) place width of) bare
 
-  -- a bit-field, another type and an aggregate that isn't kept bring none
-  pub field-brings : member.name ≡ None → (width : ℕ) → member.width ≡ Some width → brought ≡ []
-  field-brings unnamed width is = as-unnamed unnamed ∙ ap (λ (w : Option ℕ). unnamed_names told (names_kept types told chains kept) place w of) is
-
-  pub other-brings : member.name ≡ None → member.width ≡ None → is_aggregate of ≡ false → brought ≡ []
-  other-brings unnamed bare is = as-anonymous unnamed bare ∙ by of is
-    where
-      by : (type_ : TypeTree) → is_aggregate type_ ≡ false → anonymous_names told (names_kept types told chains kept) place type_ ≡ []
-      by (Typed (AggregateTree number is_union) qualifiers flags) e = absurd (cc e)
-      by (Typed VoidTree qualifiers flags) e = refl
-      by (Typed (IntegerTree kind) qualifiers flags) e = refl
-      by (Typed (RestrictedTree kind identity) qualifiers flags) e = refl
-      by (Typed (PointerTree target) qualifiers flags) e = refl
-      by (Typed (ArrayTree element count) qualifiers flags) e = refl
-      by (Typed (FunctionTree result parameters variadic) qualifiers flags) e = refl
-
   module _ (unnamed : member.name ≡ None) (bare : member.width ≡ None) (anonymous : Anonymous) (typed : of ≡ anonymous_type anonymous) (at : anonymous.place ≡ place) (begins : anonymous.bits ≡ Some 0) where
     as-kept : brought ≡ map (λ entry. (entry.0, around types told anonymous entry.1)) (names_kept types told chains kept anonymous.number)
     as-kept =
         as-anonymous unnamed bare ∙ ap (anonymous_names told (names_kept types told chains kept) place) typed
         ∙ sym (ap (λ (p : ℕ). anonymous_names told (names_kept types told chains kept) p (anonymous_type anonymous)) at)
 
-    pub unkept-brings : None ≡ lookup (nat_eq anonymous.number) kept → brought ≡ []
-    unkept-brings none = as-kept ∙ sym (ap (λ one. map (λ entry. (entry.0, around types told anonymous entry.1)) (names_if types told chains one)) none)
-
     pub inner-brings : (standing : Standing) → Some standing ≡ lookup (nat_eq anonymous.number) kept → names_seen types (entries_around told anonymous (names_standing told chains standing)) ≡ brought
     inner-brings standing found =
         seen-around types told anonymous begins (names_standing told chains standing)
         ∙ ap (λ one. map (λ entry. (entry.0, around types told anonymous entry.1)) (names_if types told chains one)) found ∙ sym as-kept
 
-  pub own-brings : (name : NameId) (found : FoundMember) → Some name ≡ member.name → found_seen types found ≡ own_member place (member_declared types member) → names_seen types ((name, found) ∷ []) ≡ brought
-  own-brings name found named seen =
-      ap (λ (one : meaning.FoundMember). (name, one) ∷ []) seen ∙ ap (λ (n : Option NameId). names_by told (names_kept types told chains kept) place n (member_declared types member)) named
-
 -- names that come behind others
 pub seen-behind : (types : List TypeTree) (es more new : List (NameId × FoundMember)) (seen_names : Names NameId) → new ≡ es ++ more → names_seen types more ≡ seen_names → names_seen types new ≡ names_seen types es ++ seen_names
 seen-behind types es more new seen_names is seen =
     ap (names_seen types) is ∙ map-append (λ (entry : NameId × FoundMember). (entry.0, found_seen types entry.1)) es more ∙ ap (λ rest. names_seen types es ++ rest) seen
-
-pub seen-nothing : (types : List TypeTree) (es : List (NameId × FoundMember)) (seen_names : Names NameId) → seen_names ≡ [] → names_seen types es ≡ names_seen types es ++ seen_names
-seen-nothing types es seen_names none = sym (ap (λ rest. names_seen types es ++ rest) none ∙ append-nil (names_seen types es))
 
 pub known-behind : (types : List TypeTree) (es more new : List (NameId × FoundMember)) → new ≡ es ++ more → AreKnownNames types more → AreKnownNames types es → AreKnownNames types new
 known-behind types es more new is known before = subst (AreKnownNames types) (sym is) (known-append types es more before known)

@@ -1,5 +1,5 @@
 -- How a member is seen from further out: over one anonymous aggregate and over several that are put together.
-use Rattle.std.proofs.Common.{◌≡◌, ℕ, ◌<◌, ◌≤◌, ◌+◌, ◌||◌, Bool, true, false, cond, nat_le, Option, Some, None, IsSome, refl, sym, ap, ◌∙◌, arith}
+use Rattle.std.proofs.Common.{◌≡◌, ℕ, ◌<◌, ◌+◌, ◌||◌, Bool, true, false, cond, nat_le, Option, Some, None, IsSome, refl, sym, ap, ◌∙◌, arith}
 use Rattle.std.proofs.lemmas.Bool.{leb-false, lt-leb}
 use Rattle.sparse_model.specs.declared.space.Space.{Space}
 use Rattle.sparse_model.specs.declared.space.Space.TheVariants as spaces

@@ -2,17 +2,15 @@
 //
 // The members of an aggregate arrive, whose anonymous ones were told before; its names stand behind those of the anonymous member
 // that has the most of them, and the names of the others are copied. So a name is copied only into more names than it stood among.
-ghost use Rattle.std.specs.Prelude.{◌≡◌, ◌<◌, ◌≤◌, ◌+◌, ◌++◌, ◌^◌, ◌⊎◌, ◌∷◌, [], All, IfOk, IfSome, List, None, OnErr, OnOk, Some, length, map, nat_eq, option_map, slice_get, true, ℕ};
+ghost use Rattle.std.specs.Prelude.{◌≡◌, ◌<◌, ◌≤◌, ◌+◌, ◌++◌, ◌^◌, ◌⊎◌, ◌∷◌, [], IfOk, IfSome, List, None, OnErr, OnOk, length, nat_eq, option_map, true};
 ghost use Rattle.meaning_types.specs.Types.{TypeTree};
 ghost use Rattle.std.specs.Map.{lookup};
 ghost use Rattle.indexmap.specs.IndexMap.{insert_entry, spare};
-ghost use Rattle.meaning_layout.specs.Members.{names_of_member, names_of_members};
 ghost use Rattle.sparse_model.specs.declared.ids.NameId.{NameId};
-ghost use Rattle.c_types.specs.declared.bodies.Member.{Member};
 ghost use Rattle.c_types.specs.Layouts.{told_kept};
 ghost use Rattle.c_types.specs.Chains.{AreKnownEntries, all_names};
-ghost use Rattle.c_types.specs.Maps.{AreMaps, AreNamed, IsEntered, IsHeavy, IsOutermost, IsStanding, names_kept};
-ghost use Rattle.c_types.specs.Members.{AreKnownNames, found_seen, is_name, member_declared, names_seen};
+ghost use Rattle.c_types.specs.Maps.{AreKnownMembers, AreMaps, AreMapsOver, AreNamedOver, AreStandings, IsEnteredOver, IsHeavy, IsHeavyAmong, IsKnownMember, IsOutermost, IsStanding, names_kept, names_of_all, names_of_one};
+ghost use Rattle.c_types.specs.Members.{AreKnownNames, found_seen, is_name, names_seen};
 ghost use Rattle.c_types.specs.Rows.{AreRows, types_of};
 
 use crate::bodies::Member;
@@ -107,12 +105,12 @@ impl MemberMaps {
         names: &mut Vec<(NameId, FoundMember)>,
     ) -> Result<(), AllocError>
         requires rows { AreRows rows.now.rows.entries }
-        requires known { member.of.0 < length (types_of rows.now.rows.entries) }
+        requires known { IsKnownMember rows.now member }
         requires unnamed { member.name ≡ None }
-        requires maps { AreMaps (types_of rows.now.rows.entries) (told_kept layouts.now.kept.entries) self.now.chains.items self.now.kept.entries }
+        requires maps { AreMapsOver rows.now layouts.now self.now }
         ensures names { OnOk result (names_seen (types_of rows.now.rows.entries) names.new.items
             ≡ names_seen (types_of rows.now.rows.entries) names.old.items
-            ++ names_of_member (told_kept layouts.now.kept.entries) (names_kept (types_of rows.now.rows.entries) (told_kept layouts.now.kept.entries) self.now.chains.items self.now.kept.entries) place (member_declared (types_of rows.now.rows.entries) member)) }
+            ++ names_of_one rows.now layouts.now self.now place member) }
         ensures known { OnOk result (AreKnownNames (types_of rows.now.rows.entries) names.old.items → AreKnownNames (types_of rows.now.rows.entries) names.new.items) }
     {
         if member.width.is_some() {
@@ -143,11 +141,11 @@ impl MemberMaps {
         names: &mut Vec<(NameId, FoundMember)>,
     ) -> Result<(), AllocError>
         requires rows { AreRows rows.now.rows.entries }
-        requires known { member.of.0 < length (types_of rows.now.rows.entries) }
-        requires maps { AreMaps (types_of rows.now.rows.entries) (told_kept layouts.now.kept.entries) self.now.chains.items self.now.kept.entries }
+        requires known { IsKnownMember rows.now member }
+        requires maps { AreMapsOver rows.now layouts.now self.now }
         ensures names { OnOk result (names_seen (types_of rows.now.rows.entries) names.new.items
             ≡ names_seen (types_of rows.now.rows.entries) names.old.items
-            ++ names_of_member (told_kept layouts.now.kept.entries) (names_kept (types_of rows.now.rows.entries) (told_kept layouts.now.kept.entries) self.now.chains.items self.now.kept.entries) place (member_declared (types_of rows.now.rows.entries) member)) }
+            ++ names_of_one rows.now layouts.now self.now place member) }
         ensures known { OnOk result (AreKnownNames (types_of rows.now.rows.entries) names.old.items → AreKnownNames (types_of rows.now.rows.entries) names.new.items) }
     {
         match member.name {
@@ -169,11 +167,11 @@ impl MemberMaps {
         members: &[Member],
     ) -> Result<Vec<(NameId, FoundMember)>, AllocError>
         requires rows { AreRows rows.now.rows.entries }
-        requires known { All (λ member. member.of.0 < length (types_of rows.now.rows.entries)) members.now }
-        requires maps { AreMaps (types_of rows.now.rows.entries) (told_kept layouts.now.kept.entries) self.now.chains.items self.now.kept.entries }
+        requires known { AreKnownMembers rows.now members.now }
+        requires maps { AreMapsOver rows.now layouts.now self.now }
         requires few { first + length members.now ≤ 2 ^ 30 }
         ensures names { IfOk result (λ names. names_seen (types_of rows.now.rows.entries) names.items
-            ≡ names_of_members (told_kept layouts.now.kept.entries) (names_kept (types_of rows.now.rows.entries) (told_kept layouts.now.kept.entries) self.now.chains.items self.now.kept.entries) first (map (member_declared (types_of rows.now.rows.entries)) members.now)) }
+            ≡ names_of_all rows.now layouts.now self.now first members.now) }
         ensures known { IfOk result (λ names. AreKnownNames (types_of rows.now.rows.entries) names.items) }
     {
         let mut names = Vec::new(alloc);
@@ -190,8 +188,8 @@ impl MemberMaps {
     // A member whose chain can go on: an anonymous aggregate that is the outermost one of its chain.
     fn heavy(&self, rows: &Rows, place: u32, member: Member) -> Option<Heavy>
         requires rows { AreRows rows.now.rows.entries }
-        requires known { member.of.0 < length (types_of rows.now.rows.entries) }
-        requires standings { (number : ℕ) (standing : Standing) → lookup (nat_eq number) self.now.kept.entries ≡ Some standing → IsStanding self.now.chains.items standing }
+        requires known { IsKnownMember rows.now member }
+        requires standings { AreStandings self.now.chains.items self.now.kept.entries }
         ensures { IfSome result (IsHeavy (types_of rows.now.rows.entries) self.now.chains.items self.now.kept.entries place member) }
     {
         if member.name.is_some() || member.width.is_some() {
@@ -221,10 +219,10 @@ impl MemberMaps {
     // The member with the most names whose chain can go on.
     fn heaviest(&self, rows: &Rows, members: &[Member]) -> Option<Heavy>
         requires rows { AreRows rows.now.rows.entries }
-        requires known { All (λ member. member.of.0 < length (types_of rows.now.rows.entries)) members.now }
-        requires standings { (number : ℕ) (standing : Standing) → lookup (nat_eq number) self.now.kept.entries ≡ Some standing → IsStanding self.now.chains.items standing }
+        requires known { AreKnownMembers rows.now members.now }
+        requires standings { AreStandings self.now.chains.items self.now.kept.entries }
         requires few { length members.now ≤ 2 ^ 30 }
-        ensures { IfSome result (λ heavy. (member : Member) × (slice_get members.now heavy.anonymous.place ≡ Some member) × IsHeavy (types_of rows.now.rows.entries) self.now.chains.items self.now.kept.entries heavy.anonymous.place member heavy) }
+        ensures { IfSome result (λ heavy. IsHeavyAmong rows.now self.now members.now heavy) }
     {
         let mut heaviest = None;
         for place in 0..members.len() {
@@ -242,13 +240,13 @@ impl MemberMaps {
         members: &[Member],
     ) -> Result<NameChain, AllocError>
         requires rows { AreRows rows.now.rows.entries }
-        requires known { All (λ member. member.of.0 < length (types_of rows.now.rows.entries)) members.now }
+        requires known { AreKnownMembers rows.now members.now }
         requires few { length members.now ≤ 2 ^ 30 }
-        requires maps { AreMaps (types_of rows.now.rows.entries) (told_kept layouts.now.kept.entries) self.now.chains.items self.now.kept.entries }
+        requires maps { AreMapsOver rows.now layouts.now self.now }
         ensures bare { IfOk result (λ chain. chain.links ≡ []) }
         ensures known { IfOk result (λ chain. AreKnownEntries (types_of rows.now.rows.entries) chain.entries) }
         ensures named { IfOk result (λ chain. (asked : NameId) → lookup (is_name asked) (names_seen (types_of rows.now.rows.entries) (all_names (told_kept layouts.now.kept.entries) chain))
-            ≡ lookup (is_name asked) (names_of_members (told_kept layouts.now.kept.entries) (names_kept (types_of rows.now.rows.entries) (told_kept layouts.now.kept.entries) self.now.chains.items self.now.kept.entries) 0 (map (member_declared (types_of rows.now.rows.entries)) members.now))) }
+            ≡ lookup (is_name asked) (names_of_all rows.now layouts.now self.now 0 members.now)) }
     {
         let names = self.names_of(alloc, rows, layouts, 0, members)?;
         let mut chain = NameChain::new(alloc);
@@ -285,12 +283,12 @@ impl MemberMaps {
         members: &[Member],
     ) -> Result<Standing, AllocError>
         requires rows { AreRows rows.now.rows.entries }
-        requires known { All (λ member. member.of.0 < length (types_of rows.now.rows.entries)) members.now }
+        requires known { AreKnownMembers rows.now members.now }
         requires few { length members.now ≤ 2 ^ 30 }
-        requires maps { AreMaps (types_of rows.now.rows.entries) (told_kept layouts.now.kept.entries) self.old.chains.items self.old.kept.entries }
+        requires maps { AreMapsOver rows.now layouts.now self.old }
         ensures kept { self.new.kept ≡ self.old.kept }
-        ensures right { IsEntered (types_of rows.now.rows.entries) (told_kept layouts.now.kept.entries) self.old.chains.items self.new.chains.items self.old.kept.entries }
-        ensures named { IfOk result (AreNamed (types_of rows.now.rows.entries) (told_kept layouts.now.kept.entries) self.old.chains.items self.new.chains.items self.old.kept.entries members.now) }
+        ensures right { IsEnteredOver rows.now layouts.now self.old self.new }
+        ensures named { IfOk result (AreNamedOver rows.now layouts.now self.old self.new members.now) }
     {
         let chain = self.chain_of(alloc, rows, layouts, members)?;
         self.add(chain)
@@ -306,13 +304,13 @@ impl MemberMaps {
         heavy: Heavy,
     ) -> Result<Standing, AllocError>
         requires rows { AreRows rows.now.rows.entries }
-        requires known { All (λ member. member.of.0 < length (types_of rows.now.rows.entries)) members.now }
+        requires known { AreKnownMembers rows.now members.now }
         requires few { length members.now ≤ 2 ^ 30 }
-        requires maps { AreMaps (types_of rows.now.rows.entries) (told_kept layouts.now.kept.entries) self.old.chains.items self.old.kept.entries }
-        requires heavy { (member : Member) × (slice_get members.now heavy.anonymous.place ≡ Some member) × IsHeavy (types_of rows.now.rows.entries) self.old.chains.items self.old.kept.entries heavy.anonymous.place member heavy }
+        requires maps { AreMapsOver rows.now layouts.now self.old }
+        requires heavy { IsHeavyAmong rows.now self.old members.now heavy }
         ensures kept { self.new.kept ≡ self.old.kept }
-        ensures right { IsEntered (types_of rows.now.rows.entries) (told_kept layouts.now.kept.entries) self.old.chains.items self.new.chains.items self.old.kept.entries }
-        ensures named { IfOk result (AreNamed (types_of rows.now.rows.entries) (told_kept layouts.now.kept.entries) self.old.chains.items self.new.chains.items self.old.kept.entries members.now) }
+        ensures right { IsEnteredOver rows.now layouts.now self.old self.new }
+        ensures named { IfOk result (AreNamedOver rows.now layouts.now self.old self.new members.now) }
     {
         let place = heavy.anonymous.place;
         let (before, _) = members.split_at(place as usize);
@@ -344,11 +342,11 @@ impl MemberMaps {
         members: &[Member],
     ) -> Result<Standing, AllocError>
         requires rows { AreRows rows.now.rows.entries }
-        requires known { All (λ member. member.of.0 < length (types_of rows.now.rows.entries)) members.now }
-        requires maps { AreMaps (types_of rows.now.rows.entries) (told_kept layouts.now.kept.entries) self.old.chains.items self.old.kept.entries }
+        requires known { AreKnownMembers rows.now members.now }
+        requires maps { AreMapsOver rows.now layouts.now self.old }
         ensures kept { self.new.kept ≡ self.old.kept }
-        ensures right { IsEntered (types_of rows.now.rows.entries) (told_kept layouts.now.kept.entries) self.old.chains.items self.new.chains.items self.old.kept.entries }
-        ensures named { IfOk result (AreNamed (types_of rows.now.rows.entries) (told_kept layouts.now.kept.entries) self.old.chains.items self.new.chains.items self.old.kept.entries members.now) }
+        ensures right { IsEnteredOver rows.now layouts.now self.old self.new }
+        ensures named { IfOk result (AreNamedOver rows.now layouts.now self.old self.new members.now) }
     {
         if members.len() > MAX_MEMBERS {
             return Err(AllocError);

@@ -7,7 +7,7 @@ use Rattle.c_types.specs.declared.chains.Jump.{Jump}
 use Rattle.c_types.specs.declared.chains.Link.{Link}
 use Rattle.c_types.specs.declared.members.Anonymous.{Anonymous}
 use Rattle.c_types.specs.declared.members.FoundMember.{FoundMember}
-use Rattle.c_types.specs.Chains.{AreJumps, AreToldLinks, Each, IsJump, IsToldLink, IsToldMember, raised}
+use Rattle.c_types.specs.Chains.{AreJumpsOver, AreToldLinks, Each, IsJumpOver, IsToldLink, IsToldMember, raised}
 use Rattle.c_types.specs.Members.{anonymous_around, found_around}
 use Rattle.c_types.proofs.ChainLemmas.{push-cases, raised-append}
 use Rattle.c_types.proofs.PlaceLemmas.{around-later, found-twice}
@@ -57,18 +57,18 @@ module _ (told : Told) (links : List Link) where
   raised-none low high found le = ap (λ rest. raised told rest found) (none-between low high links le)
 
   -- a link alone
-  pub jump-alone : (index : ℕ) (link : Link) → slice_get links index ≡ Some link → IsJump told links (suc index) (record { level = index; anonymous = link.anonymous })
+  pub jump-alone : (index : ℕ) (link : Link) → slice_get links index ≡ Some link → IsJumpOver told links (suc index) (record { level = index; anonymous = link.anonymous })
   jump-alone index link stands found = sym (ap (λ rest. raised told rest found) (one-between links index link stands))
 
   -- the jump of the link below a level
-  pub jump-below : (level : ℕ) (link : Link) → 0 < level → slice_get links (level - 1) ≡ Some link → AreJumps told links → IsJump told links level link.jump
+  pub jump-below : (level : ℕ) (link : Link) → 0 < level → slice_get links (level - 1) ≡ Some link → AreJumpsOver told links → IsJumpOver told links level link.jump
   jump-below level link some stands are =
       let next : suc (level - 1) ≡ level = omega (arith, some) in
-      subst (λ n. IsJump told links n link.jump) next (are (level - 1) link stands)
+      subst (λ n. IsJumpOver told links n link.jump) next (are (level - 1) link stands)
 
   -- two jumps, one of which begins where the other ends
-  pub jump-over : (level : ℕ) (inner outer : Jump) → inner.level ≤ outer.level → outer.level ≤ level → IsJump told links outer.level inner → IsJump told links level outer
-      → IsJump told links level (record { level = inner.level; anonymous = anonymous_around told outer.anonymous inner.anonymous })
+  pub jump-over : (level : ℕ) (inner outer : Jump) → inner.level ≤ outer.level → outer.level ≤ level → IsJumpOver told links outer.level inner → IsJumpOver told links level outer
+      → IsJumpOver told links level (record { level = inner.level; anonymous = anonymous_around told outer.anonymous inner.anonymous })
   jump-over level inner outer lower higher inside outside found =
       let below = drop inner.level (take outer.level links) in
       let above = drop outer.level (take level links) in
@@ -76,23 +76,23 @@ module _ (told : Told) (links : List Link) where
       ∙ sym (ap (λ rest. raised told rest found) (between inner.level outer.level level links lower higher) ∙ raised-append told below above found)
 
   -- a jump to the outermost aggregate, and a link
-  pub jump-next : (jump : Jump) (anonymous : Anonymous) → IsJump told links (length links) jump → (found : FoundMember)
+  pub jump-next : (jump : Jump) (anonymous : Anonymous) → IsJumpOver told links (length links) jump → (found : FoundMember)
       → found_around told (anonymous_around told anonymous jump.anonymous) found ≡ found_around told anonymous (raised told (drop jump.level links) found)
   jump-next jump anonymous is found =
       found-twice told anonymous jump.anonymous found
       ∙ ap (found_around told anonymous) (is found ∙ ap (λ rest. raised told (drop jump.level rest) found) (take_all (length links) links (omega arith)))
 
-  jump-stays : (more : List Link) (level : ℕ) (jump : Jump) → level ≤ length links → IsJump told links level jump → IsJump told (links ++ more) level jump
+  jump-stays : (more : List Link) (level : ℕ) (jump : Jump) → level ≤ length links → IsJumpOver told links level jump → IsJumpOver told (links ++ more) level jump
   jump-stays more level jump within is found = is found ∙ sym (ap (λ rest. raised told (drop jump.level rest) found) (take-append-le level links more within))
 
   -- one more link
-  pub jumps-push : (link : Link) → AreJumps told links → link.jump.level ≤ length links
-      → ((found : FoundMember) → found_around told link.jump.anonymous found ≡ found_around told link.anonymous (raised told (drop link.jump.level links) found)) → AreJumps told (links ++ link ∷ [])
+  pub jumps-push : (link : Link) → AreJumpsOver told links → link.jump.level ≤ length links
+      → ((found : FoundMember) → found_around told link.jump.anonymous found ≡ found_around told link.anonymous (raised told (drop link.jump.level links) found)) → AreJumpsOver told (links ++ link ∷ [])
   jumps-push link are within is index one stands =
       push-cases links link index one stands (λ less old. jump-stays (link ∷ []) (suc index) one.jump (omega (arith, less)) (are index one old))
-      (λ at same. subst (λ (each : Link). IsJump told (links ++ link ∷ []) (suc index) each.jump) same (newest at))
+      (λ at same. subst (λ (each : Link). IsJumpOver told (links ++ link ∷ []) (suc index) each.jump) same (newest at))
     where
-      newest : index ≡ length links → IsJump told (links ++ link ∷ []) (suc index) link.jump
+      newest : index ≡ length links → IsJumpOver told (links ++ link ∷ []) (suc index) link.jump
       newest at found =
           is found ∙ sym (raised-append told (drop link.jump.level links) (link ∷ []) found)
           ∙ sym
@@ -115,7 +115,7 @@ module _ (told later : Told) (stay : (number : ℕ) (is_union : Bool) → IsSome
   raised-later (link ∷ links) each found =
       ap (raised later links) (around-later told later stay link.anonymous (each 0 link refl).own found) ∙ raised-later links (λ i. each (suc i)) (found_around told link.anonymous found)
 
-  pub jumps-later : (links : List Link) → AreToldLinks told links → AreJumps told links → AreJumps later links
+  pub jumps-later : (links : List Link) → AreToldLinks told links → AreJumpsOver told links → AreJumpsOver later links
   jumps-later links each are index link stands found =
       around-later told later stay link.jump.anonymous (each index link stands).jump found ∙ are index link stands found
       ∙ sym (raised-later (drop link.jump.level (take (suc index) links)) (each-drop (IsToldLink told) link.jump.level (take (suc index) links) (each-take (IsToldLink told) (suc index) links each)) found)

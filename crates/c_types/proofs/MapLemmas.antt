@@ -22,7 +22,7 @@ use Rattle.c_types.specs.declared.maps.Heavy.{Heavy}
 use Rattle.c_types.specs.declared.maps.Standing.{Standing}
 use Rattle.c_types.specs.declared.members.Anonymous.{Anonymous}
 use Rattle.c_types.specs.declared.members.FoundMember.{FoundMember}
-use Rattle.c_types.specs.Chains.{AreJumps, AreKnownEntries, AreToldLinks, Chain, ChainGrows, Each, IsToldLink, IsToldMember, all_names, names_below, newest, own_name, raised, seen_before}
+use Rattle.c_types.specs.Chains.{AreJumpsOver, AreKnownEntries, AreToldLinks, Chain, ChainGrows, Each, IsToldLink, IsToldMember, all_names, names_below, newest, own_name, raised, seen_before}
 use Rattle.c_types.specs.Layouts.{layout_kept, told_kept, told_of_bodies}
 use Rattle.c_types.specs.Maps.{AreMaps, AreNamed, ChainsGrow, IsEntered, IsHeavy, IsStanding, IsTold, names_if, names_in_chain, names_kept, names_standing}
 use Rattle.c_types.specs.Members.{AreKnownNames, NameAlike, anonymous_type, entries_around, found_around, found_seen, is_name, member_declared, names_of_bodies, names_seen}
@@ -144,7 +144,7 @@ module _ (types : List TypeTree) (told : Told) (chains more : List Chain) (kept 
       by None e = refl
       by (Some standing) e = ap (names_seen types) (names-stay chains more grow standing (maps.standings number standing e) told)
 
-  pub maps-grow : Each (λ (chain : Chain). AreKnownEntries types chain.entries) more → Each (λ (chain : Chain). AreToldLinks told chain.links) more → Each (λ (chain : Chain). AreJumps told chain.links) more
+  pub maps-grow : Each (λ (chain : Chain). AreKnownEntries types chain.entries) more → Each (λ (chain : Chain). AreToldLinks told chain.links) more → Each (λ (chain : Chain). AreJumpsOver told chain.links) more
       → AreMaps types told more kept
   maps-grow known links jumps =
       record {
@@ -298,8 +298,8 @@ fresh-names types told chain names seen_names asked named seen =
 no-links : (told : Told) (links : List Link) → links ≡ [] → AreToldLinks told links
 no-links told links bare = subst (AreToldLinks told) (sym bare) (λ index link found. absurd (none-some link found))
 
-no-jumps : (told : Told) (links : List Link) → links ≡ [] → AreJumps told links
-no-jumps told links bare = subst (AreJumps told) (sym bare) (λ index link found. absurd (none-some link found))
+no-jumps : (told : Told) (links : List Link) → links ≡ [] → AreJumpsOver told links
+no-jumps told links bare = subst (AreJumpsOver told) (sym bare) (λ index link found. absurd (none-some link found))
 
 module _ (types : List TypeTree) (told : Told) (chains : List Chain) (kept : List (ℕ × Standing)) (maps : AreMaps types told chains kept) where
   pub none-entered : IsEntered types told chains chains kept
@@ -313,7 +313,7 @@ module _ (types : List TypeTree) (told : Told) (chains : List Chain) (kept : Lis
           maps =
               maps-grow types told chains (chains ++ chain ∷ []) kept maps (grow-push chains chain) (each-push (λ (one : Chain). AreKnownEntries types one.entries) chains chain maps.known known)
               (each-push (λ (one : Chain). AreToldLinks told one.links) chains chain maps.links (no-links told chain.links bare))
-              (each-push (λ (one : Chain). AreJumps told one.links) chains chain maps.jumps (no-jumps told chain.links bare));
+              (each-push (λ (one : Chain). AreJumpsOver told one.links) chains chain maps.jumps (no-jumps told chain.links bare));
         }
 
     pub fresh-named : (members : List Member)
@@ -394,7 +394,7 @@ module _ (types : List TypeTree) (told : Told) (chains : List Chain) (kept : Lis
   pub heavy-told : IsToldMember told heavy.anonymous
   heavy-told = maps.all_told heavy.anonymous.number heavy.standing is.stands heavy.anonymous.is_union
 
-  pub extended-entered : ChainGrows chain after → AreKnownEntries types after.entries → AreToldLinks told after.links → AreJumps told after.links → IsEntered types told chains all kept
+  pub extended-entered : ChainGrows chain after → AreKnownEntries types after.entries → AreToldLinks told after.links → AreJumpsOver told after.links → IsEntered types told chains all kept
   extended-entered grows known links jumps =
       let grow = grow-set chains heavy.standing.chain chain after at grows in
       record {
@@ -402,7 +402,7 @@ module _ (types : List TypeTree) (told : Told) (chains : List Chain) (kept : Lis
         maps =
             maps-grow types told chains all kept maps grow (each-set (λ (one : Chain). AreKnownEntries types one.entries) chains heavy.standing.chain after maps.known known)
             (each-set (λ (one : Chain). AreToldLinks told one.links) chains heavy.standing.chain after maps.links links)
-            (each-set (λ (one : Chain). AreJumps told one.links) chains heavy.standing.chain after maps.jumps jumps);
+            (each-set (λ (one : Chain). AreJumpsOver told one.links) chains heavy.standing.chain after maps.jumps jumps);
       }
 
   same-chain : is.outermost.0 ≡ chain

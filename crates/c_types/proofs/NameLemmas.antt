@@ -13,7 +13,7 @@ use Rattle.sparse_model.specs.declared.space.Space.TheVariants as spaces
 use Rattle.meaning_types.specs.Types.{TypeTree, Typed, VoidTree, IntegerTree, RestrictedTree, PointerTree, ArrayTree, FunctionTree, AggregateTree}
 use Rattle.meaning_types.specs.Marks.{later_space}
 use Rattle.std.specs.Prelude.{OnOk, Result, Ok, Err}
-use Rattle.meaning_layout.specs.Members.{DeclaredBody, DeclaredMember, Names, anonymous_member, anonymous_names, bits_behind, first_bit_in, names_before, names_by, names_in_order, names_of_member, names_of_members, no_names, own_member, tell_names, unnamed_names}
+use Rattle.meaning_layout.specs.Members.{DeclaredMember, Names, anonymous_member, anonymous_names, bits_behind, first_bit_in, names_by, names_in_order, names_of_member, names_of_members, no_names, tell_names, unnamed_names}
 use Rattle.meaning_layout.specs.Members as meaning
 use Rattle.meaning_layout.specs.Sizes.{Told}
 use Rattle.meaning_layout.specs.Telling.{nothing_told, or_incomplete, told_in_order}

@@ -26,12 +26,12 @@ raised told (link ∷ links) found = raised told links (found_around told link.a
 -- Jumps
 
 -- up to the aggregate at this level, a jump does with a member what the links do that it jumps over
-abbrev pub IsJump : Told → List Link → (level : ℕ) → Jump → Type 0
-IsJump told links level jump = (found : FoundMember) → found_around told jump.anonymous found ≡ raised told (drop jump.level (take level links)) found
+abbrev pub IsJumpOver : Told → List Link → (level : ℕ) → Jump → Type 0
+IsJumpOver told links level jump = (found : FoundMember) → found_around told jump.anonymous found ≡ raised told (drop jump.level (take level links)) found
 
 -- the jump of each link leads to the aggregate in which that link stands
-abbrev pub AreJumps : Told → List Link → Type 0
-AreJumps told links = (index : ℕ) (link : Link) → slice_get links index ≡ Some link → IsJump told links (suc index) link.jump
+abbrev pub AreJumpsOver : Told → List Link → Type 0
+AreJumpsOver told links = (index : ℕ) (link : Link) → slice_get links index ≡ Some link → IsJumpOver told links (suc index) link.jump
 
 -- What is seen
 

@@ -12,7 +12,7 @@ use Rattle.c_types.specs.declared.maps.MemberMaps.{MemberMaps}
 use Rattle.c_types.specs.declared.maps.Standing.{Standing}
 use Rattle.c_types.specs.declared.members.FoundMember.{FoundMember}
 use Rattle.c_types.specs.declared.rows.Rows.{Rows}
-use Rattle.c_types.specs.Chains.{AreJumps, AreKnownEntries, AreToldLinks, Chain, ChainGrows, Each, names_below}
+use Rattle.c_types.specs.Chains.{AreJumpsOver, AreKnownEntries, AreToldLinks, Chain, ChainGrows, Each, names_below}
 use Rattle.c_types.specs.Layouts.{told_kept}
 use Rattle.c_types.specs.Members.{anonymous_type, is_name, member_declared, names_seen}
 use Rattle.c_types.specs.Rows.{type_numbered, types_of}
@@ -55,7 +55,7 @@ IsTold told number = (is_union : Bool) → IsSome (told number is_union)
 pub record AreMaps (types : List TypeTree) (told : Told) (chains : List Chain) (kept : List (ℕ × Standing)) : Type 0 where
   pub known : Each (λ (chain : Chain). AreKnownEntries types chain.entries) chains
   pub links : Each (λ (chain : Chain). AreToldLinks told chain.links) chains
-  pub jumps : Each (λ (chain : Chain). AreJumps told chain.links) chains
+  pub jumps : Each (λ (chain : Chain). AreJumpsOver told chain.links) chains
   pub standings : AreStandings chains kept
   pub all_told : (number : ℕ) (standing : Standing) → lookup (nat_eq number) kept ≡ Some standing → IsTold told number
 

@@ -8,7 +8,7 @@ ghost use Rattle.std.specs.Prelude.{◌≡◌, ◌+◌, ◌<◌, ◌≤◌, ◌+
 ghost use Rattle.std.specs.Map.{lookup};
 ghost use Rattle.meaning_layout.specs.Sizes.{Told};
 ghost use Rattle.meaning_types.specs.Types.{TypeTree};
-ghost use Rattle.c_types.specs.Chains.{AreJumps, AreKnownEntries, AreToldLinks, ChainGrows, IsJump, IsToldMember, all_names, is_from, names_below, newest, or_later, own_name, raised, with_entry};
+ghost use Rattle.c_types.specs.Chains.{AreJumpsOver, AreKnownEntries, AreToldLinks, ChainGrows, IsJumpOver, IsToldMember, all_names, is_from, names_below, newest, or_later, own_name, raised, with_entry};
 ghost use Rattle.c_types.specs.Layouts.{told_kept};
 ghost use Rattle.c_types.specs.Members.{AreKnownNames, anonymous_around, entries_around, found_around, is_name};
 
@@ -129,7 +129,7 @@ impl NameChain {
         requires { level ≤ length self.now.links }
         ensures falls { IfSome result (λ jump. jump.level < level) }
         ensures told { IfSome result (λ jump. (told : Told) → AreToldLinks told self.now.links → IsToldMember told jump.anonymous) }
-        ensures right { IfSome result (λ jump. (told : Told) → AreJumps told self.now.links → IsJump told self.now.links level jump) }
+        ensures right { IfSome result (λ jump. (told : Told) → AreJumpsOver told self.now.links → IsJumpOver told self.now.links level jump) }
     {
         if level == 0 {
             return None;
@@ -143,7 +143,7 @@ impl NameChain {
         requires above { lowest < level }
         ensures falls { result.level < level }
         ensures stays { lowest ≤ result.level }
-        ensures right { (told : Told) → AreJumps told self.now.links → IsJump told self.now.links level result }
+        ensures right { (told : Told) → AreJumpsOver told self.now.links → IsJumpOver told self.now.links level result }
     {
         let link = self.links[level as usize - 1];
         if link.jump.level >= lowest {
@@ -158,7 +158,7 @@ impl NameChain {
     // What an entry names in the aggregate at a level.
     fn raised(&self, layouts: &Layouts, entry: Layered, level: u32) -> FoundMember
         requires level { level ≤ length self.now.links }
-        requires jumps { AreJumps (told_kept layouts.now.kept.entries) self.now.links }
+        requires jumps { AreJumpsOver (told_kept layouts.now.kept.entries) self.now.links }
         ensures { result ≡ raised (told_kept layouts.now.kept.entries) (drop entry.level (take level self.now.links)) entry.found }
     {
         if entry.level >= level {
@@ -183,7 +183,7 @@ impl NameChain {
     ) -> Option<FoundMember>
         requires level { level ≤ length self.now.links }
         requires count { count ≤ length self.now.entries }
-        requires jumps { AreJumps (told_kept layouts.now.kept.entries) self.now.links }
+        requires jumps { AreJumpsOver (told_kept layouts.now.kept.entries) self.now.links }
         ensures { result ≡ lookup (is_name name) (names_below (told_kept layouts.now.kept.entries) (take level self.now.links) self.now.entries count) }
     {
         match self.newest(name, count) {
@@ -203,7 +203,7 @@ impl NameChain {
     ) -> Result<(), AllocError>
         requires level { level ≤ length self.now.links }
         requires count { count ≤ length self.now.entries }
-        requires jumps { AreJumps (told_kept layouts.now.kept.entries) self.now.links }
+        requires jumps { AreJumpsOver (told_kept layouts.now.kept.entries) self.now.links }
         ensures { OnOk result (names.new.items ≡ names.old.items ++ entries_around (told_kept layouts.now.kept.entries) anonymous (names_below (told_kept layouts.now.kept.entries) (take level self.now.links) self.now.entries count)) }
     {
         let mut index = count;
@@ -265,7 +265,7 @@ impl NameChain {
     fn newest_jumps(&self, layouts: &Layouts) -> Option<Jump>
         ensures level { IfSome result (λ jump. jump.level ≤ length self.now.links) }
         ensures told { IfSome result (λ jump. (told : Told) → AreToldLinks told self.now.links → IsToldMember told jump.anonymous) }
-        ensures right { IfSome result (λ jump. AreJumps (told_kept layouts.now.kept.entries) self.now.links → IsJump (told_kept layouts.now.kept.entries) self.now.links (length self.now.links) jump) }
+        ensures right { IfSome result (λ jump. AreJumpsOver (told_kept layouts.now.kept.entries) self.now.links → IsJumpOver (told_kept layouts.now.kept.entries) self.now.links (length self.now.links) jump) }
     {
         let level = self.level();
         let outer = self.jump_to(level)?;
@@ -281,7 +281,7 @@ impl NameChain {
     fn next_jump(&self, layouts: &Layouts, anonymous: Anonymous) -> Jump
         ensures level { result.level ≤ length self.now.links }
         ensures told { (told : Told) → AreToldLinks told self.now.links → IsToldMember told anonymous → IsToldMember told result.anonymous }
-        ensures right { AreJumps (told_kept layouts.now.kept.entries) self.now.links → (found : FoundMember) → found_around (told_kept layouts.now.kept.entries) result.anonymous found
+        ensures right { AreJumpsOver (told_kept layouts.now.kept.entries) self.now.links → (found : FoundMember) → found_around (told_kept layouts.now.kept.entries) result.anonymous found
             ≡ found_around (told_kept layouts.now.kept.entries) anonymous (raised (told_kept layouts.now.kept.entries) (drop result.level self.now.links) found) }
     {
         match self.newest_jumps(layouts) {
@@ -298,7 +298,7 @@ impl NameChain {
         ensures entries { self.new.entries ≡ self.old.entries }
         ensures links { OnOk result ((jump : Jump) × (self.new.links ≡ self.old.links ++ record { anonymous = anonymous; jump = jump } ∷ [])) }
         ensures told { (told : Told) → AreToldLinks told self.old.links → IsToldMember told anonymous → AreToldLinks told self.new.links }
-        ensures jumps { AreJumps (told_kept layouts.now.kept.entries) self.old.links → AreJumps (told_kept layouts.now.kept.entries) self.new.links }
+        ensures jumps { AreJumpsOver (told_kept layouts.now.kept.entries) self.old.links → AreJumpsOver (told_kept layouts.now.kept.entries) self.new.links }
         ensures err { OnErr result (self.new ≡ self.old) }
     {
         if self.links.len() >= MAX_ENTRIES {
@@ -324,7 +324,7 @@ impl NameChain {
         ensures grows { ChainGrows self.old self.new }
         ensures known { (types : List TypeTree) → AreKnownEntries types self.old.entries → AreKnownNames types before.now → AreKnownNames types behind.now → AreKnownEntries types self.new.entries }
         ensures told { (told : Told) → AreToldLinks told self.old.links → IsToldMember told anonymous → AreToldLinks told self.new.links }
-        ensures jumps { AreJumps (told_kept layouts.now.kept.entries) self.old.links → AreJumps (told_kept layouts.now.kept.entries) self.new.links }
+        ensures jumps { AreJumpsOver (told_kept layouts.now.kept.entries) self.old.links → AreJumpsOver (told_kept layouts.now.kept.entries) self.new.links }
         ensures named { OnOk result ((told : Told) (asked : NameId) → lookup (is_name asked) (all_names told self.new) ≡ lookup (is_name asked) (before.now ++ entries_around told anonymous (all_names told self.old) ++ behind.now)) }
     {
         let first = self.entries.len() as u32;

@@ -1,6 +1,6 @@
 -- A jump or a link more is passed.
 use Rattle.std.proofs.Common.{◌≡◌, drop, sym, ap, ◌∙◌, subst, take, arith}
-use Rattle.c_types.specs.Chains.{IsJump, raised}
+use Rattle.c_types.specs.Chains.{IsJumpOver, raised}
 use Rattle.c_types.specs.Layouts.{told_kept}
 use Rattle.c_types.proofs.JumpLemmas.{jump-over, raised-none}
 use Rattle.c_types.proofs.chains.NameChain.raised.Goals as goal
@@ -19,7 +19,7 @@ loop-jump-preserved c =
       stays = omega (arith, same, c.way_down.ensures.stays);
       within = omega (arith, same, c.way_down.ensures.falls, c.loop-jump.invariant.within);
       right =
-          subst (IsJump told links c.args.level) (sym c.around-jump.ensures)
+          subst (IsJumpOver told links c.args.level) (sym c.around-jump.ensures)
           (jump-over told links c.args.level inner outer (omega (arith, c.way_down.ensures.falls)) c.loop-jump.invariant.within (c.way_down.ensures.right told c.requires.jumps) c.loop-jump.invariant.right);
     }
 

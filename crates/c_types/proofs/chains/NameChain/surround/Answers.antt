@@ -1,7 +1,7 @@
 -- The new link has a jump that is right.
 use Rattle.std.proofs.Common.{◌≡◌, [], ◌∷◌, ◌++◌, length, sym, ap, ◌∙◌, subst, arith}
 use Rattle.c_types.specs.declared.chains.Link.{Link}
-use Rattle.c_types.specs.Chains.{AreJumps, AreToldLinks, IsIndexed, IsToldLink}
+use Rattle.c_types.specs.Chains.{AreJumpsOver, AreToldLinks, IsIndexed, IsToldLink}
 use Rattle.c_types.specs.Layouts.{told_kept}
 use Rattle.c_types.proofs.ChainLemmas.{each-push, indexed-link}
 use Rattle.c_types.proofs.JumpLemmas.{jumps-push}
@@ -33,4 +33,4 @@ returns-clause-jumps c = λ are.
     let links = c.args.self.now.links in
     let link : Link = record { anonymous = c.args.anonymous; jump = c.next_jump-jump.result } in
     let grown : c.push.new.self.items ≡ links ++ link ∷ [] = c.in_ok-push.ensures.items ∙ ap (λ chain. chain.links ++ link ∷ []) c.self.view_is in
-    subst (AreJumps told) (sym grown) (jumps-push told links link are c.next_jump-jump.ensures.level (c.next_jump-jump.ensures.right are))
+    subst (AreJumpsOver told) (sym grown) (jumps-push told links link are c.next_jump-jump.ensures.level (c.next_jump-jump.ensures.right are))

@@ -1,7 +1,7 @@
 -- The jump and the link are those below the level.
 use Rattle.std.proofs.Common.{◌≡◌, ◌-◌, suc, Some, length, slice_get, refl, ap, subst, arith}
 use Rattle.std.proofs.lemmas.Option.{slice_get_read}
-use Rattle.c_types.specs.Chains.{IsJump}
+use Rattle.c_types.specs.Chains.{IsJumpOver}
 use Rattle.c_types.proofs.JumpLemmas.{jump-alone, jump-below}
 use Rattle.c_types.proofs.chains.NameChain.way_down.Goals as goal
 
@@ -24,4 +24,4 @@ returns-clause-right c = λ told are.
     (slice_get_read c.self.inside.links.items (length c.self.inside.links.items) (c.args.level - 1) link refl (omega (arith, c.requires.above, c.requires.within, ap length seen)) c.index-link.ensures)
     in
     let next : suc (c.args.level - 1) ≡ c.args.level = omega (arith, c.requires.above) in
-    subst (λ level. IsJump told c.args.self.now.links level (record { level = c.args.level - 1; anonymous = link.anonymous })) next (jump-alone told c.args.self.now.links (c.args.level - 1) link stands)
+    subst (λ level. IsJumpOver told c.args.self.now.links level (record { level = c.args.level - 1; anonymous = link.anonymous })) next (jump-alone told c.args.self.now.links (c.args.level - 1) link stands)

@@ -400,6 +400,7 @@ JUDGING = (
     Family("judging: members, each used", texts.used_members, (10000, 100000), words=()),
     Family("judging: members of anonymous structures, each used", texts.anonymous_beside_one_another, (10000, 100000), words=()),
     Family("judging: anonymous structures in one another", texts.anonymous_in_one_another, (1300, 13000), words=()),
+    Family("judging: uses of a name within 10,000 anonymous structures", texts.uses_of_an_inner_name, (10000, 100000), words=()),
     of_judging("structures in one another", b"", b"struct { ", b"int y;", b" } x;", b"", (1300, 13000)),
     Family("judging: enumerators", texts.enumerators, (6000, 60000), words=()),
     Family("judging: structures that point to the one before", texts.structures_of_pointers, (10000, 100000), words=()),

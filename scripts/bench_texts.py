@@ -375,6 +375,11 @@ def anonymous_in_one_another(count):
     return b"struct { " + before + behind + b"} x; void f(void) { x.a00000; x.b00000; x.a%05d; x.b%05d; }" % (count - 1, count - 1)
 
 
+def uses_of_an_inner_name(count):
+    """So many uses of the innermost name of 10,000 structures without a tag in one another."""
+    return anonymous_in_one_another(10_000)[:-1] + b"x.a09999; " * count + b"}"
+
+
 def anonymous_beside_one_another(count):
     """A structure of so many structures without a tag, each of whose names is used."""
     members = b"".join(b"struct { int m%06d; }; " % number for number in range(count))
